@@ -1,0 +1,59 @@
+-- From shares to cents: a record's share, a member's exact amount in grains, its charge, the pool's total.
+-- Document 01, "The sums", shares to charge; 003, D 2.1 and D 2.2.
+use Prim.Native.Nat.{ℕ, _+_, _/_}
+use mathlib.Core.Bool.{cond}
+use lib.IntN.{ℤ, pos, negℤ, natAbs, _+ℤ_, _-ℤ_, _*ℤ_}
+use lib.Dec.{eqb}
+use Rattle.whole.specs.Below.{countBelow, totalBelow}
+use Rattle.whole.specs.Signed.{withSignOf}
+use Rattle.rules.specs.declared.Kind.{Kind}
+use Rattle.rules.specs.declared.Kind.the-variants.{Generator, RealTimeLoad, ProfileLoad, Import, Export, Unknown}
+use Rattle.rules.specs.Record.{Hour, Entry, areas, price, memberOf, areaOf, entryOf, isGenerator, isLoad, isImport, isExport}
+use Rattle.rules.specs.Deviation.{generatorDeviation, loadDeviation, importDeviation, exportDeviation, deviation}
+use Rattle.rules.specs.Ufe.{inArea, areaSum, ufe, demand}
+use Rattle.rules.specs.Share.{share}
+
+-- the deviation as it enters an amount: added for generators and imports, taken off for loads and exports
+abbrev pub enteringAs : Kind → ℤ → ℤ
+enteringAs Generator d = d
+enteringAs RealTimeLoad d = negℤ d
+enteringAs ProfileLoad d = negℤ d
+enteringAs Import d = d
+enteringAs Export d = negℤ d
+enteringAs Unknown d = pos 0
+
+unfoldable pub entering : Entry → ℤ
+entering r = enteringAs (r .kind) (deviation r)
+
+-- grains to the nearest cent, halves away from zero
+unfoldable pub nearestCent : ℕ → ℕ
+nearestCent g = (g + 5000000) / 10000000
+
+unfoldable pub cents : ℤ → ℤ
+cents g = withSignOf g (nearestCent (natAbs g))
+
+module _ (h : Hour) where
+  -- shares go to load records only: an area's UFE over its loads
+  unfoldable pub shareOf : ℕ → ℤ
+  shareOf i = cond (isLoad (entryOf h i .kind)) (share (inArea h (areaOf h i) isLoad) (demand h) (h .count) (ufe h (areaOf h i)) i) (pos 0)
+
+  -- a record in its member's amount: the zone price of its area times (its deviation as it enters, plus its share)
+  unfoldable pub grains : ℕ → ℤ
+  grains i = price h (areaOf h i) *ℤ (entering (entryOf h i) +ℤ shareOf i)
+
+  -- a member's exact amount; positive means that the member pays
+  unfoldable pub amount : ℕ → ℤ
+  amount m = totalBelow (λ i. cond (eqb (memberOf h i) m) (grains i) (pos 0)) (h .count)
+
+  unfoldable pub recordsOf : ℕ → ℕ
+  recordsOf m = countBelow (λ i. eqb (memberOf h i) m) (h .count)
+
+  unfoldable pub charge : ℕ → ℤ
+  charge m = cents (amount m)
+
+  -- over the areas, the zone price times (generator, minus load, plus import, minus export deviations, plus UFE)
+  unfoldable pub poolTotal : ℤ
+  poolTotal = totalBelow (λ a. price h a *ℤ (
+      areaSum h a isGenerator generatorDeviation -ℤ areaSum h a isLoad loadDeviation
+      +ℤ areaSum h a isImport importDeviation -ℤ areaSum h a isExport exportDeviation
+      +ℤ ufe h a)) (areas h)

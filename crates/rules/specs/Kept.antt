@@ -1,0 +1,49 @@
+-- What a file that passes rows 1 to 5 keeps, as the bounds that the sums need. Document 01, "Units and ranges".
+use Prim.Native.Nat.{ℕ, _≤_, _<_}
+use mathlib.Core.Path.{_≡_}
+use mathlib.Core.Bool.{false}
+use mathlib.Core.List.{List}
+use Rattle.whole.specs.Signed.{Under, Upto}
+use Rattle.rules.specs.Record.{Hour, Entry, members, zones, areas, zonePrice, zoneOf, tieIn, tieOut, memberOf, areaOf, entryOf}
+use Rattle.rules.specs.Ufe.{demand}
+use Rattle.rules.specs.HourFile.{hourly, lengthBad, hourOf}
+
+-- whatever the kind, no number is above the most that any kind allows
+pub record EntryKept (r : Entry) : Type 0 where
+  pub S-in : Upto (r .S) 100000
+  pub A-in : Upto (r .A) 100000
+  pub J-in : Under (r .J) 100000
+  pub N-in : Upto (r .N) 100000
+  pub O-in : Upto (r .O) 100000
+  pub M-in : Upto (r .M) 100000
+  pub F-in : Upto (r .F) 20000
+  pub H-in : Upto (r .H) 20000
+
+pub record RecordKept (h : Hour) (i : ℕ) : Type 0 where
+  pub kind-least : 1 ≤ h .rec i 0
+  pub kind-most : h .rec i 0 ≤ 5
+  pub member-there : memberOf h i < members h
+  pub area-there : areaOf h i < areas h
+  pub demand-most : demand h i ≤ 100000
+  pub entry-kept : EntryKept (entryOf h i)
+
+pub record AreaKept (h : Hour) (a : ℕ) : Type 0 where
+  pub zone-there : zoneOf h a < zones h
+  pub tie-in : Upto (tieIn h a) 10000000
+  pub tie-out : Upto (tieOut h a) 10000000
+
+pub record HourKept (h : Hour) : Type 0 where
+  pub members-least : 1 ≤ members h
+  pub members-most : members h ≤ 32
+  pub zones-least : 1 ≤ zones h
+  pub zones-most : zones h ≤ 4
+  pub areas-least : 1 ≤ areas h
+  pub areas-most : areas h ≤ 8
+  pub count-most : h .count ≤ 250
+  pub price-in : (z : ℕ) → z < zones h → Under (zonePrice h z) 1000000
+  pub area-kept : (a : ℕ) → a < areas h → AreaKept h a
+  pub record-kept : (i : ℕ) → i < h .count → RecordKept h i
+
+pub record FileKept (s : List ℕ) : Type 0 where
+  pub length-good : lengthBad hourly s ≡ false
+  pub hour-kept : HourKept (hourOf hourly s)

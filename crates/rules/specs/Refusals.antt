@@ -1,0 +1,153 @@
+-- The table of refusals: what breaks each row and at which place, and the rows in their order.
+-- Document 01, "Refusal numbers and their order".
+use Prim.Native.Nat.{ℕ, _*_}
+use mathlib.Core.Bool.{Bool, true, false, not, cond, _&&_, _||_}
+use mathlib.Core.Option.{Option, none, some}
+use mathlib.Core.List.{List, [], _∷_, _++_}
+use lib.IntN.{ℤ, natAbs}
+use lib.ListN.{length}
+use lib.Dec.{ltb, eqb}
+use Rattle.whole.specs.Below.{firstBelow}
+use Rattle.rules.specs.declared.Answer.{Answer}
+use Rattle.rules.specs.declared.Answer.the-variants.{Accepted, BadLength, BadSum, BadBlock, BadHead, BadRecord, BadArea, BadAmount, OutOfRange, TooNarrow, NotAnAmount, TooShort}
+use Rattle.rules.specs.declared.Found.{Found}
+use Rattle.rules.specs.declared.Found.the-variants.{At, Nothing}
+use Rattle.rules.specs.Record.{Hour, members, zones, areas}
+use Rattle.rules.specs.Ufe.{ufe, demands}
+use Rattle.rules.specs.Charge.{amount}
+use Rattle.rules.specs.Text.{amountText}
+use Rattle.rules.specs.HourFile.{Layout, hourly, lengthBad, blocks, blockWord, blockSum, hourOf}
+use Rattle.rules.specs.Ranges.{firstBroken, blockRule, headRule, recordRule}
+
+-- ---- number and place
+
+pub record Verdict : Type 0 where
+  pub number : ℕ
+  pub place : ℕ
+
+-- an accepted call has number 0 and place 0
+abbrev pub accepted : Verdict
+accepted = record { number = 0; place = 0 }
+
+abbrev pub refusedAt : ℕ → ℕ → Verdict
+refusedAt n p = record { number = n; place = p }
+
+-- the document's number and place of each answer
+abbrev pub verdictOf : Answer → Verdict
+verdictOf Accepted = accepted
+verdictOf BadLength = refusedAt 1 0
+verdictOf (BadSum b) = refusedAt 2 b
+verdictOf (BadBlock b) = refusedAt 3 b
+verdictOf (BadHead w) = refusedAt 4 w
+verdictOf (BadRecord i) = refusedAt 5 i
+verdictOf (BadArea a) = refusedAt 6 a
+verdictOf (BadAmount m) = refusedAt 7 m
+verdictOf OutOfRange = refusedAt 8 0
+verdictOf TooNarrow = refusedAt 9 0
+verdictOf NotAnAmount = refusedAt 10 0
+verdictOf TooShort = refusedAt 11 0
+
+abbrev pub numberOf : Answer → ℕ
+numberOf a = verdictOf a .number
+
+abbrev pub placeOf : Answer → ℕ
+placeOf a = verdictOf a .place
+
+-- where a search found something
+abbrev pub foundAt : Found → Option ℕ
+foundAt (At i) = some i
+foundAt Nothing = none
+
+-- ---- a row: its number, and the place at which it is broken, if it is
+
+pub data Row : Type 0 where
+  row : ℕ → Option ℕ → Row
+
+-- the first broken row answers
+unfoldable pub verdict : List Row → Verdict
+verdict [] = accepted
+verdict (row number (some place) ∷ rows) = refusedAt number place
+verdict (row number none ∷ rows) = verdict rows
+
+-- place 0, for a row that has no other
+abbrev pub placeZeroIf : Bool → Option ℕ
+placeZeroIf b = cond b (some 0) none
+
+abbrev pub isBroken : Option ℕ → Bool
+isBroken none = false
+isBroken (some w) = true
+
+-- ---- what breaks each row
+
+module _ (l : Layout) (s : List ℕ) where
+  -- 1: length 0, not a multiple of 512, or over the most blocks
+  unfoldable pub badLength : Option ℕ
+  badLength = placeZeroIf (lengthBad l s)
+
+  -- 2: a block's sum isn't zero; the first such block
+  unfoldable pub badSum : Option ℕ
+  badSum = firstBelow (λ b. not (eqb (blockSum s b) 0)) (blocks s)
+
+  -- 3: words 0 to 6 of a block, or the zeros past its records, break the layout; the first such block
+  unfoldable pub badBlock : Option ℕ
+  badBlock = firstBelow (λ b. isBroken (firstBroken (blockRule l (blocks s) (blockWord s b 2) b) (blockWord s b) 128)) (blocks s)
+
+module _ (h : Hour) where
+  -- 4: the first body breaks layout or range; the first such word
+  unfoldable pub badHead : Option ℕ
+  badHead = firstBroken (headRule (zones h) (areas h)) (h .head) 128
+
+  -- the first word of a record that breaks kind, number, range or zero
+  unfoldable pub badWord : ℕ → Option ℕ
+  badWord i = firstBroken (recordRule (members h) (areas h) (h .rec i 0)) (h .rec i) 12
+
+  -- 5: the first record that has one
+  unfoldable pub badRecord : Option ℕ
+  badRecord = firstBelow (λ i. isBroken (badWord i)) (h .count)
+
+  -- 6: T is 0 and U isn't; the first such area
+  unfoldable pub badArea : Option ℕ
+  badArea = firstBelow (λ a. eqb (demands h a) 0 && not (eqb (natAbs (ufe h a)) 0)) (areas h)
+
+  -- 7: a member's exact amount is over 4×10^18 grains in size; the first such member
+  unfoldable pub badAmount : Option ℕ
+  badAmount = firstBelow (λ m. ltb 4000000000000000000 (natAbs (amount h m))) (members h)
+
+  -- 11: charges or lines shorter than the members, or shares or deviations shorter than the records
+  unfoldable pub tooShort : (charges lines shares deviations : ℕ) → Option ℕ
+  tooShort charges lines shares deviations = placeZeroIf (
+      ltb charges (members h) || ltb lines (members h) || ltb shares (h .count) || ltb deviations (h .count))
+
+-- 8: amount to write out of range
+unfoldable pub outOfRange : ℤ → Option ℕ
+outOfRange z = placeZeroIf (ltb 999999999999 (natAbs z))
+
+-- 9: field shorter than the text
+unfoldable pub tooNarrow : ℕ → ℤ → Option ℕ
+tooNarrow width z = placeZeroIf (ltb width (length (amountText z)))
+
+-- ---- THE ORDER OF THE ROWS
+
+-- 1 to 3: of a file's layout
+unfoldable pub layoutRows : Layout → List ℕ → List Row
+layoutRows l s = row 1 (badLength l s) ∷ row 2 (badSum l s) ∷ row 3 (badBlock l s) ∷ []
+
+-- 4 and 5: of the words of its hour
+unfoldable pub wordRows : Hour → List Row
+wordRows h = row 4 (badHead h) ∷ row 5 (badRecord h) ∷ []
+
+-- 6 and 7: of its sums
+unfoldable pub sumRows : Hour → List Row
+sumRows h = row 6 (badArea h) ∷ row 7 (badAmount h) ∷ []
+
+-- 1 to 5: what a file by itself can break
+unfoldable pub fileRows : List ℕ → List Row
+fileRows s = layoutRows hourly s ++ wordRows (hourOf hourly s)
+
+-- 1 to 7: what settling and the statement both check
+unfoldable pub hourRows : List ℕ → List Row
+hourRows s = fileRows s ++ sumRows (hourOf hourly s)
+
+-- writing checks 8, then 9
+unfoldable pub writeRows : ℕ → ℤ → List Row
+writeRows width z = row 8 (outOfRange z) ∷ row 9 (tooNarrow width z) ∷ []

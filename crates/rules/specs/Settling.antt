@@ -1,0 +1,92 @@
+-- The complete result of each entry point, refused or accepted: settling an hour, writing an amount, reading one.
+-- Document 01, "The sums" (last paragraph), "Text amounts", "Refusal numbers and their order".
+use Prim.Native.Nat.{ℕ}
+use mathlib.Core.Bool.{Bool, cond}
+use mathlib.Core.Option.{Option, none, some}
+use mathlib.Core.List.{List, [], _∷_, _++_}
+use lib.IntN.{ℤ, pos}
+use lib.ListN.{length, replicate}
+use lib.Dec.{ltb, eqb}
+use Rattle.whole.specs.Below.{valuesBelow, replacingFirst}
+use Rattle.rules.specs.declared.Line.{Line}
+use Rattle.rules.specs.Record.{Hour, members, areas, entryOf}
+use Rattle.rules.specs.Deviation.{deviation}
+use Rattle.rules.specs.Ufe.{ufe}
+use Rattle.rules.specs.Charge.{shareOf, amount, recordsOf, charge}
+use Rattle.rules.specs.Text.{amountField, amountIn}
+use Rattle.rules.specs.HourFile.{hourly, hourOf}
+use Rattle.rules.specs.Refusals.{Row, row, Verdict, accepted, refusedAt, verdict, tooShort, hourRows, writeRows}
+
+abbrev pub isAccepted : Verdict → Bool
+isAccepted v = eqb (v .number) 0
+
+-- ---- settling
+
+-- the caller's four buffers
+pub record Buffers : Type 0 where
+  pub charges : List ℤ
+  pub shares : List ℤ
+  pub deviations : List ℤ
+  pub lines : List Line
+
+unfoldable pub bufferRows : Hour → Buffers → List Row
+bufferRows h b = row 11 (tooShort h (length (b .charges)) (length (b .lines)) (length (b .shares)) (length (b .deviations))) ∷ []
+
+-- settling checks 1 to 7, then 11
+unfoldable pub settleRows : List ℕ → Buffers → List Row
+settleRows s b = hourRows s ++ bufferRows (hourOf hourly s) b
+
+-- a member's exact amount and its record count
+unfoldable pub lineOf : Hour → ℕ → Line
+lineOf h m = record { amount = amount h m; records = recordsOf h m }
+
+-- one charge and one line a member, one share and one deviation a record; places past those are unchanged
+unfoldable pub filled : Hour → Buffers → Buffers
+filled h b = record {
+  charges = replacingFirst (charge h) (members h) (b .charges);
+  shares = replacingFirst (shareOf h) (h .count) (b .shares);
+  deviations = replacingFirst (λ i. deviation (entryOf h i)) (h .count) (b .deviations);
+  lines = replacingFirst (lineOf h) (members h) (b .lines);
+}
+
+-- eight UFE figures, 0 for areas past the count
+unfoldable pub ufeFigures : Hour → List ℤ
+ufeFigures h = valuesBelow (λ a. cond (ltb a (areas h)) (ufe h a) (pos 0)) 8
+
+abbrev pub noFigures : List ℤ
+noFigures = replicate 8 (pos 0)
+
+pub record Settlement : Type 0 where
+  pub verdict : Verdict
+  pub ufe : List ℤ
+  pub buffers : Buffers
+
+-- a refusal changes no buffer, and all its UFE figures are 0
+unfoldable pub settle : List ℕ → Buffers → Settlement
+settle s b = let v = verdict (settleRows s b) in let h = hourOf hourly s in
+    cond (isAccepted v)
+    (record { verdict = v; ufe = ufeFigures h; buffers = filled h b })
+    (record { verdict = v; ufe = noFigures; buffers = b })
+
+-- ---- writing an amount into a field, whose length is the width
+
+pub record Written : Type 0 where
+  pub verdict : Verdict
+  pub field : List ℕ
+
+unfoldable pub write : List ℕ → ℤ → Written
+write field z = let v = verdict (writeRows (length field) z) in
+    record { verdict = v; field = cond (isAccepted v) (amountField (length field) z) field }
+
+-- ---- reading an amount; a refused reading gives amount 0
+
+pub record ReadAmount : Type 0 where
+  pub verdict : Verdict
+  pub amount : ℤ
+
+abbrev pub orRefused : Option ℤ → ReadAmount
+orRefused none = record { verdict = refusedAt 10 0; amount = pos 0 }
+orRefused (some z) = record { verdict = accepted; amount = z }
+
+unfoldable pub read : List ℕ → ReadAmount
+read field = orRefused (amountIn field)

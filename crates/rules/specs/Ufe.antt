@@ -1,0 +1,34 @@
+-- Unaccounted for energy of an area, and what its loads demanded. Document 01, "The sums", UFE; 003, D 2.2.
+use Prim.Native.Nat.{ℕ}
+use mathlib.Core.Bool.{Bool, cond, _&&_, _||_}
+use lib.IntN.{ℤ, pos, _+ℤ_, _-ℤ_, _*ℤ_}
+use lib.Dec.{eqb}
+use Rattle.whole.specs.Below.{sumBelow, totalBelow}
+use Rattle.rules.specs.declared.Kind.{Kind}
+use Rattle.rules.specs.Record.{Hour, Entry, tieIn, tieOut, areaOf, entryOf, isGenerator, isImport, isLoad}
+use Rattle.rules.specs.Deviation.{unitsPerKWh}
+
+module _ (h : Hour) (a : ℕ) where
+  -- the records of area a that are of some kinds
+  unfoldable pub inArea : (Kind → Bool) → ℕ → Bool
+  inArea kinds i = eqb (areaOf h i) a && kinds (entryOf h i .kind)
+
+  -- the sum of a figure over them
+  unfoldable pub areaSum : (Kind → Bool) → (Entry → ℤ) → ℤ
+  areaSum kinds figure = totalBelow (λ i. cond (inArea kinds i) (figure (entryOf h i)) (pos 0)) (h .count)
+
+  -- losses: the sum of A×(10,000 - H) over its generators and imports
+  unfoldable pub losses : ℤ
+  losses = areaSum (λ k. isGenerator k || isImport k) (λ r. r .A *ℤ (unitsPerKWh -ℤ r .H))
+
+  -- 10,000×(tie in - tie out + sum of generator A - sum of load A, both kinds) - losses
+  unfoldable pub ufe : ℤ
+  ufe = unitsPerKWh *ℤ (tieIn h a -ℤ tieOut h a +ℤ areaSum isGenerator (λ r. r .A) -ℤ areaSum isLoad (λ r. r .A)) -ℤ losses
+
+-- D: a load's A, as the natural number that the file has
+abbrev pub demand : Hour → ℕ → ℕ
+demand h i = h .rec i 4
+
+-- T: the area's sum of D
+unfoldable pub demands : Hour → ℕ → ℕ
+demands h a = sumBelow (λ i. cond (inArea h a isLoad i) (demand h i) 0) (h .count)

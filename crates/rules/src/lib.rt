@@ -1,0 +1,74 @@
+// The types that several crates share. The definitions of document 01 stand in specs/, the theorems about them in proofs/; nothing here runs.
+ghost use mathlib.Core.Path.{_≡_};
+
+// What a record is about (document 01, "The hour file", record words). A number that names none of the five is Unknown; row 5 refuses it.
+pub enum Kind {
+    Generator,
+    RealTimeLoad,
+    ProfileLoad,
+    Import,
+    Export,
+    Unknown,
+}
+
+// A member's line: its exact amount in grains and its record count.
+pub struct Line {
+    pub amount: i64,
+    pub records: u32,
+}
+
+// The hour's tally: the records seen, and each area's demand and energy.
+pub struct Tally {
+    pub records: u32,
+    pub demand: [u64; 8],
+    pub energy: [i64; 8],
+}
+
+// What a word may be: anything, from the first to the second, below, or in two's complement at most so large.
+pub enum Rule {
+    Any,
+    Between(u32, u32),
+    Below(u32),
+    AtMostInSize(u32),
+}
+
+// What a search finds.
+pub enum Found {
+    At(usize),
+    Nothing,
+}
+
+// The answer of an entry point: a case for each row of the table of refusals, with its place where the row has one.
+pub enum Answer {
+    Accepted,
+    BadLength,
+    BadSum(usize),
+    BadBlock(usize),
+    BadHead(usize),
+    BadRecord(usize),
+    BadArea(usize),
+    BadAmount(usize),
+    OutOfRange,
+    TooNarrow,
+    NotAnAmount,
+    TooShort,
+}
+
+// What settling answers beside the buffers it fills: the UFE of each area, 0 past the areas.
+pub struct Settled {
+    pub answer: Answer,
+    pub ufe: [i64; 8],
+}
+
+// What reading a text amount answers.
+pub struct Reading {
+    pub answer: Answer,
+    pub amount: i64,
+}
+
+// A crate holds a function; this one has nothing to compute.
+pub fn nothing() -> u32
+    ensures { λ r. ⌜ r ≡ 0 ⌝ }
+{
+    0
+}
