@@ -11,3 +11,7 @@ pub mod Refusals
 pub mod Settling
 pub mod Posting
 pub mod Statement
+pub mod Tariff
+pub mod Kept
+pub mod Promises
+pub mod Figures

@@ -1,8 +1,8 @@
 -- The customer's three demands as statements about the definitions, and that no second result fits. Minutes, demands 1 to 3.
-use Prim.Native.Nat.{ℕ, suc, _+_, _*_, _≤_, _<_}
+use Prim.Native.Nat.{ℕ, suc, _+_, _*_, _/_, _%_, _≤_, _<_}
 use mathlib.Core.Path.{_≡_}
 use mathlib.Core.Logic.{_↔_}
-use mathlib.Core.Bool.{Bool, cond, not, _&&_, _||_}
+use mathlib.Core.Bool.{Bool, true, cond, not, _&&_, _||_}
 use mathlib.Core.Option.{Option, none, some}
 use mathlib.Core.List.{List, [], _∷_, _++_}
 use lib.IntN.{ℤ, pos, natAbs, _+ℤ_, _-ℤ_, _*ℤ_}
@@ -23,8 +23,8 @@ use Rattle.rules.specs.Posting.{emptyLine}
 use Rattle.rules.specs.Statement.{blank, lineFeed, memberLine}
 use Rattle.rules.specs.Tariff.{devAs, ufeOfTerritory, IEC}
 
-abbrev pub Accepted : List ℕ → Buffers → Type 0
-Accepted s b = settle s b .verdict ≡ accepted
+abbrev pub Accepts : List ℕ → Buffers → Type 0
+Accepts s b = settle s b .verdict ≡ accepted
 
 -- ---- DEMAND 1: refused exactly when the table says, with its number and place, and nothing changed
 
@@ -47,9 +47,9 @@ pub record IsTextOf (z : ℤ) (s : List ℕ) : Type 0 where
   pub spelled : s ≡ replicate blanks 32 ++ amountText z
 
 pub record Demand1 : Type 0 where
-  pub settle-accepts : (s : List ℕ) (b : Buffers) → Accepted s b ↔ AllWhole (settleRows s b)
+  pub settle-accepts : (s : List ℕ) (b : Buffers) → Accepts s b ↔ AllWhole (settleRows s b)
   pub settle-refuses : (s : List ℕ) (b : Buffers) (n p : ℕ) → (settle s b .verdict ≡ refusedAt (suc n) p) ↔ FirstBrokenRow (settleRows s b) (suc n) p
-  pub settle-changes-nothing : (s : List ℕ) (b : Buffers) → (Accepted s b → ⊥) → (settle s b .buffers ≡ b) × (settle s b .ufe ≡ noFigures)
+  pub settle-changes-nothing : (s : List ℕ) (b : Buffers) → (Accepts s b → ⊥) → (settle s b .buffers ≡ b) × (settle s b .ufe ≡ noFigures)
   pub write-accepts : (f : List ℕ) (z : ℤ) → (write f z .verdict ≡ accepted) ↔ AllWhole (writeRows (length f) z)
   pub write-refuses : (f : List ℕ) (z : ℤ) (n p : ℕ) → (write f z .verdict ≡ refusedAt (suc n) p) ↔ FirstBrokenRow (writeRows (length f) z) (suc n) p
   pub write-changes-nothing : (f : List ℕ) (z : ℤ) → (write f z .verdict ≡ accepted → ⊥) → write f z .field ≡ f
@@ -67,7 +67,85 @@ unfoldable pub rankedSize : (ℕ → Bool) → (ℕ → ℕ) → ℕ → ℕ →
 rankedSize takes D n U i = cond (takes i && not (eqb (allDemand takes D n) 0))
     (wholePart takes D n U i + oneIf (ltb (countBelow (λ j. takes j && ahead (remainder takes D n U) j i) n) (unitsLeft takes D n U))) 0
 
--- what accepted settling left in the buffers, place by place
-pub record Figures (s : List ℕ) (b : Buffers) : Type 0 where
-  abbrev h : Hour
-  h = hourOf hourly s
+-- the share of record i
+unfoldable pub rankedShare : Hour → ℕ → ℤ
+rankedShare h i = let a = areaOf h i in withSignOf (ufe h a) (rankedSize (inArea h a isLoad) (demand h) (h .count) (natAbs (ufe h a)) i)
+
+-- a member's unrounded amount: its IEC in every zone
+unfoldable pub allZones : Hour → ℕ → ℤ
+allZones h m = totalBelow (IEC h (shareOf h) m) (zones h)
+
+-- what an accepted settling of this hour answers and leaves in the buffers, place by place
+pub record ByFormula (h : Hour) (before : Buffers) (ufes : List ℤ) (after : Buffers) : Type 0 where
+  pub ufe-is : (a : ℕ) → a < areas h → getD ufes a (pos 0) ≡ ufeOfTerritory h a
+  pub deviation-is : (i : ℕ) → i < h .count → getD (after .deviations) i (pos 0) ≡ devAs (entryOf h i .kind) (entryOf h i)
+  pub share-is : (i : ℕ) → i < h .count → getD (after .shares) i (pos 0) ≡ rankedShare h i
+  pub charge-is : (m : ℕ) → m < members h → getD (after .charges) m (pos 0) ≡ cents (allZones h m)
+  pub line-is : (m : ℕ) → m < members h → getD (after .lines) m emptyLine ≡ record { amount = allZones h m; records = recordsOf h m }
+  pub past-charges : drop (members h) (after .charges) ≡ drop (members h) (before .charges)
+  pub past-lines : drop (members h) (after .lines) ≡ drop (members h) (before .lines)
+  pub past-shares : drop (h .count) (after .shares) ≡ drop (h .count) (before .shares)
+  pub past-deviations : drop (h .count) (after .deviations) ≡ drop (h .count) (before .deviations)
+
+pub record Demand2 : Type 0 where
+  pub settled : (s : List ℕ) (b : Buffers) → Accepts s b → ByFormula (hourOf hourly s) b (settle s b .ufe) (settle s b .buffers)
+  -- written, then read; read, then written at the same width
+  pub written-read : (f : List ℕ) (z : ℤ) → write f z .verdict ≡ accepted → read (write f z .field) ≡ record { verdict = accepted; amount = z }
+  pub read-written : (s f : List ℕ) (z : ℤ) → read s ≡ record { verdict = accepted; amount = z } → length f ≡ length s → write f z ≡ record { verdict = accepted; field = s }
+  -- the statement shows every charge whole
+  pub printed : (s : List ℕ) → verdict (hourRows s) ≡ accepted → let h = hourOf hourly s in (m : ℕ) → m < members h →
+      (length (amountText (charge h m)) ≤ 14) × (memberLine h m ≡ digitByte (m / 10) ∷ digitByte (m % 10) ∷ blank ++ amountField 14 (charge h m) ++ lineFeed)
+
+-- ---- DEMAND 3: the sums come out whole, without fractions
+
+module _ (h : Hour) where
+  -- an area's T where it isn't 0
+  unfoldable pub nonZeroT : ℕ → ℕ
+  nonZeroT a = cond (eqb (demands h a) 0) 1 (demands h a)
+
+  -- the product of all the areas' T that aren't 0, and of the other areas'
+  unfoldable pub allT : ℕ
+  allT = productBelow nonZeroT (areas h)
+
+  unfoldable pub otherT : ℕ → ℕ
+  otherT a = productBelow (λ b. cond (eqb b a) 1 (nonZeroT b)) (areas h)
+
+  -- a record's exact fraction of its area's UFE, D×U/T, times that product; 0 where T is 0, and for what is no load
+  unfoldable pub exactFraction : ℕ → ℤ
+  exactFraction i = let a = areaOf h i in
+      cond (isLoad (entryOf h i .kind) && not (eqb (demands h a) 0)) (pos (demand h i) *ℤ ufe h a *ℤ pos (otherT a)) (pos 0)
+
+  -- the tariff's unrounded amount of a member in grains, times that product
+  unfoldable pub unrounded : ℕ → ℤ
+  unrounded m = totalBelow (λ i. cond (eqb (memberOf h i) m)
+      (price h (areaOf h i) *ℤ (entering (entryOf h i) *ℤ pos allT +ℤ exactFraction i)) (pos 0)) (h .count)
+
+  -- the sizes of the zone prices at a member's load records
+  unfoldable pub loadPrices : ℕ → ℕ
+  loadPrices m = sumBelow (λ i. cond (isLoad (entryOf h i .kind) && eqb (memberOf h i) m) (natAbs (price h (areaOf h i))) 0) (h .count)
+
+  pub record Fair : Type 0 where
+    -- the shares of each area add up exactly to its UFE
+    pub exact : (a : ℕ) → a < areas h → totalBelow (λ i. cond (eqb (areaOf h i) a) (shareOf h i) (pos 0)) (h .count) ≡ ufe h a
+    -- each less than one unit from its exact fraction: the share times T against D×U
+    pub near : (i : ℕ) → i < h .count → isLoad (entryOf h i .kind) ≡ true → (demands h (areaOf h i) ≡ 0 → ⊥) →
+        natAbs (shareOf h i *ℤ pos (demands h (areaOf h i)) -ℤ pos (demand h i) *ℤ ufe h (areaOf h i)) < demands h (areaOf h i)
+    pub none-to-share : (i : ℕ) → i < h .count → demands h (areaOf h i) ≡ 0 → shareOf h i ≡ pos 0
+    -- half a cent, and one unit at the size of the zone's price for each load record
+    pub charged : (m : ℕ) → m < members h → natAbs (charge h m *ℤ pos (10000000 * allT) -ℤ unrounded m) ≤ (5000000 + loadPrices m) * allT
+    -- half a cent a member
+    pub pooled : natAbs (totalBelow (charge h) (members h) *ℤ pos 10000000 -ℤ poolTotal h) ≤ 5000000 * members h
+
+abbrev pub Demand3 : Type 0
+Demand3 = (s : List ℕ) (b : Buffers) → Accepts s b → Fair (hourOf hourly s)
+
+-- ---- no second result fits
+
+-- what settling answered and left behind is what `settle` says
+pub record Fits (s : List ℕ) (b : Buffers) (answered : Settled) (after : Buffers) : Type 0 where
+  pub verdict-is : verdictOf (answered .answer) ≡ settle s b .verdict
+  pub ufe-is : answered .ufe ≡ settle s b .ufe
+  pub buffers-are : after ≡ settle s b .buffers
+
+abbrev pub OneResult : Type 0
+OneResult = (s : List ℕ) (b : Buffers) (r t : Settled) (x y : Buffers) → Fits s b r x → Fits s b t y → (r ≡ t) × (x ≡ y)

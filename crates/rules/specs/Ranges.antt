@@ -11,14 +11,14 @@ use Rattle.whole.specs.Below.{firstBelow}
 use Rattle.rules.specs.declared.Kind.{Kind}
 use Rattle.rules.specs.declared.Kind.the-variants.{Generator, RealTimeLoad, ProfileLoad, Import, Export, Unknown}
 use Rattle.rules.specs.declared.Rule.{Rule}
-use Rattle.rules.specs.declared.Rule.the-variants.{Any, Between, Below, AtMostInSize}
+use Rattle.rules.specs.declared.Rule.the-variants.{Any, Between, LessThan, AtMostInSize}
 use Rattle.rules.specs.Record.{signed, kindOf}
 use Rattle.rules.specs.HourFile.{Layout}
 
 unfoldable pub keeps : Rule → ℕ → Bool
 keeps Any v = true
 keeps (Between least most) v = leb least v && leb v most
-keeps (Below n) v = ltb v n
+keeps (LessThan n) v = ltb v n
 keeps (AtMostInSize n) v = leb (natAbs (signed v)) n
 
 -- the first of n words that breaks its rule
@@ -56,7 +56,7 @@ countRules = Between 1 32 ∷ Between 1 4 ∷ Between 1 8 ∷ []
 
 -- an area: its zone, tie in, tie out, zero
 unfoldable pub areaRule : (zones w : ℕ) → Rule
-areaRule zones w = getD (Below zones ∷ Between 0 10000000 ∷ Between 0 10000000 ∷ mustBeZero ∷ []) w mustBeZero
+areaRule zones w = getD (LessThan zones ∷ Between 0 10000000 ∷ Between 0 10000000 ∷ mustBeZero ∷ []) w mustBeZero
 
 -- words up to 8: the block's own, for row 3, and the hour number, any; then counts, prices, areas, zeros
 unfoldable pub headRule : (zones areas w : ℕ) → Rule
@@ -93,4 +93,4 @@ rowOf Unknown = []
 
 -- word w of a record of this kind, for so many members and areas
 unfoldable pub recordRule : (members areas kind w : ℕ) → Rule
-recordRule members areas kind w = getD (Between 1 5 ∷ Below members ∷ Below areas ∷ rowOf (kindOf kind)) w mustBeZero
+recordRule members areas kind w = getD (Between 1 5 ∷ LessThan members ∷ LessThan areas ∷ rowOf (kindOf kind)) w mustBeZero

@@ -2,7 +2,7 @@
 -- Document 01, "Refusal numbers and their order".
 use Prim.Native.Nat.{ℕ, _*_}
 use mathlib.Core.Bool.{Bool, true, false, not, cond, _&&_, _||_}
-use mathlib.Core.Option.{Option, none, some}
+use mathlib.Core.Option.{Option, none, some, bind}
 use mathlib.Core.List.{List, [], _∷_, _++_}
 use lib.IntN.{ℤ, natAbs}
 use lib.ListN.{length}
@@ -79,18 +79,17 @@ isBroken (some w) = true
 
 -- ---- what breaks each row
 
-module _ (l : Layout) (s : List ℕ) where
-  -- 1: length 0, not a multiple of 512, or over the most blocks
-  unfoldable pub badLength : Option ℕ
-  badLength = placeZeroIf (lengthBad l s)
+-- 1: length 0, not a multiple of 512, or over the most blocks
+unfoldable pub badLength : Layout → List ℕ → Option ℕ
+badLength l s = placeZeroIf (lengthBad l s)
 
-  -- 2: a block's sum isn't zero; the first such block
-  unfoldable pub badSum : Option ℕ
-  badSum = firstBelow (λ b. not (eqb (blockSum s b) 0)) (blocks s)
+-- 2: a block's sum isn't zero; the first such block
+unfoldable pub badSum : List ℕ → Option ℕ
+badSum s = firstBelow (λ b. not (eqb (blockSum s b) 0)) (blocks s)
 
-  -- 3: words 0 to 6 of a block, or the zeros past its records, break the layout; the first such block
-  unfoldable pub badBlock : Option ℕ
-  badBlock = firstBelow (λ b. isBroken (firstBroken (blockRule l (blocks s) (blockWord s b 2) b) (blockWord s b) 128)) (blocks s)
+-- 3: words 0 to 6 of a block, or the zeros past its records, break the layout; the first such block
+unfoldable pub badBlock : Layout → List ℕ → Option ℕ
+badBlock l s = firstBelow (λ b. isBroken (firstBroken (blockRule l (blocks s) (blockWord s b 2) b) (blockWord s b) 128)) (blocks s)
 
 module _ (h : Hour) where
   -- 4: the first body breaks layout or range; the first such word
@@ -104,6 +103,10 @@ module _ (h : Hour) where
   -- 5: the first record that has one
   unfoldable pub badRecord : Option ℕ
   badRecord = firstBelow (λ i. isBroken (badWord i)) (h .count)
+
+  -- where the search stops: in the first such record, at the first such word
+  unfoldable pub firstFault : Option (ℕ × ℕ)
+  firstFault = bind badRecord (λ i. bind (badWord i) (λ w. some (i, w)))
 
   -- 6: T is 0 and U isn't; the first such area
   unfoldable pub badArea : Option ℕ
@@ -130,7 +133,7 @@ tooNarrow width z = placeZeroIf (ltb width (length (amountText z)))
 
 -- 1 to 3: of a file's layout
 unfoldable pub layoutRows : Layout → List ℕ → List Row
-layoutRows l s = row 1 (badLength l s) ∷ row 2 (badSum l s) ∷ row 3 (badBlock l s) ∷ []
+layoutRows l s = row 1 (badLength l s) ∷ row 2 (badSum s) ∷ row 3 (badBlock l s) ∷ []
 
 -- 4 and 5: of the words of its hour
 unfoldable pub wordRows : Hour → List Row

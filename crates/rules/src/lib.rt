@@ -28,7 +28,7 @@ pub struct Tally {
 pub enum Rule {
     Any,
     Between(u32, u32),
-    Below(u32),
+    LessThan(u32),
     AtMostInSize(u32),
 }
 
