@@ -1,1 +1,2 @@
 -- The laws of `whole`.
+pub mod Tests
