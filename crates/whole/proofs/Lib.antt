@@ -1,2 +1,3 @@
 -- The laws of `whole`.
 pub mod Tests
+pub mod Linear
