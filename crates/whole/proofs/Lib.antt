@@ -1,3 +1,4 @@
 -- The laws of `whole`.
 pub mod Tests
 pub mod Linear
+pub mod Ranges
