@@ -2,3 +2,4 @@
 pub mod Tests
 pub mod Linear
 pub mod Ranges
+pub mod Sums
