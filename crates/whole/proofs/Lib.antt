@@ -3,3 +3,4 @@ pub mod Tests
 pub mod Linear
 pub mod Ranges
 pub mod Sums
+pub mod Totals

@@ -80,14 +80,6 @@ abs-with-sign (negsuc u) (suc n) = refl
 pub u-with-sign : (z : ℤ) (n : ℕ) → Under (withSignOf z n) n
 u-with-sign z n = record { under = le-of-eq (abs-with-sign z n) }
 
-pub own-sign : (z : ℤ) → withSignOf z (natAbs z) ≡ z
-own-sign (pos u) = refl
-own-sign (negsuc u) = refl
-
-pub sign-of-zero : (z : ℤ) → withSignOf z 0 ≡ pos 0
-sign-of-zero (pos u) = refl
-sign-of-zero (negsuc u) = refl
-
 -- ---- 0 ≤ z ≤ k
 size-under : (z : ℤ) (k : ℕ) → Upto z k → Under z k
 size-under = all1 _ (λ z. simp zr (omega arith))
