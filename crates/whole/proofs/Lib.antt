@@ -4,3 +4,4 @@ pub mod Linear
 pub mod Ranges
 pub mod Sums
 pub mod Totals
+pub mod Search
