@@ -5,3 +5,4 @@ pub mod Ranges
 pub mod Sums
 pub mod Totals
 pub mod Search
+pub mod Buffers
