@@ -6,3 +6,4 @@ pub mod Sums
 pub mod Totals
 pub mod Search
 pub mod Buffers
+pub mod Division
