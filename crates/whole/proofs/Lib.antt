@@ -7,3 +7,5 @@ pub mod Totals
 pub mod Search
 pub mod Buffers
 pub mod Division
+pub mod Rank
+pub mod Handing

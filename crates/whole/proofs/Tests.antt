@@ -30,6 +30,15 @@ same-test true b f g = sym (f refl)
 same-test false true f g = g refl
 same-test false false f g = refl
 
+-- the second test, where the first has passed
+pub and-ext : (a b c : Bool) → (a ≡ true → b ≡ c) → (a && b) ≡ (a && c)
+and-ext true b c f = f refl
+and-ext false b c f = refl
+
+pub and-mono : (a b c : Bool) → (b ≡ true → c ≡ true) → (a && b) ≡ true → (a && c) ≡ true
+and-mono true b c f e = f e
+and-mono false b c f e = e
+
 -- what holds of both branches, each under what the test says
 pub cond-ind {ℓ κ} : {A : Type ℓ} (c : Bool) (x y : A) (P : A → Type κ) → (T c → P x) → (T (not c) → P y) → P (cond c x y)
 cond-ind true x y P f g = f tt
