@@ -1,1 +1,11 @@
 -- The laws of `whole`.
+pub mod Tests
+pub mod Linear
+pub mod Ranges
+pub mod Sums
+pub mod Totals
+pub mod Search
+pub mod Buffers
+pub mod Division
+pub mod Rank
+pub mod Handing

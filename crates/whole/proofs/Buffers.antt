@@ -1,0 +1,78 @@
+-- Laws of the list of the values f 0, .., f (n - 1), and of a buffer whose first n places hold them.
+use mathlib.Core.Path.{_≡_, refl, sym, _∙_, ap, ap₂}
+use mathlib.Core.List.{List, [], _∷_, _++_}
+use Prim.Native.Nat.{ℕ, zero, suc, _+_, _-_, _≤_, _<_}
+use native.Mathlib.Nat.{not-suc-le-zero}
+use native.Mathlib.Numerals.{add-one}
+use native.Mathlib.Omega.{arith}
+use lib.ListN.{length, take, drop, getD, set, length-append, length-drop, List·getD-append}
+use lib.Seq.{drop-cons, drop-at, take-at, set-at, getD-at, getD-drop, append-snoc, getD-set-same, getD-set-other}
+use Rattle.whole.specs.Below.{valuesBelow, replacingFirst}
+use Rattle.whole.proofs.Tests.{last-or-below}
+
+module _ {ℓ} {A : Type ℓ} where
+  pub values-ext : (f g : ℕ → A) (n : ℕ) → ((i : ℕ) → i < n → f i ≡ g i) → valuesBelow f n ≡ valuesBelow g n
+  unfolding valuesBelow
+  values-ext f g zero e = refl
+  values-ext f g (suc n) e = ap₂ (λ (l : List A) (a : A). l ++ a ∷ []) (values-ext f g n (λ i l. e i (omega arith))) (e n (omega arith))
+
+  pub replacing-ext : (f g : ℕ → A) (n : ℕ) (old : List A) → ((i : ℕ) → i < n → f i ≡ g i) → replacingFirst f n old ≡ replacingFirst g n old
+  unfolding replacingFirst
+  replacing-ext f g n old e = ap (λ (l : List A). l ++ drop n old) (values-ext f g n e)
+
+  -- a loop that writes f i at i: the places below i + 1 hold f's values if those below i do
+  pub set-more : (l : List A) (i : ℕ) (v d : A) (f : ℕ → A) → i < length l → ((k : ℕ) → k < i → getD l k d ≡ f k) → v ≡ f i → (k : ℕ) → k < i + 1 → getD (set l i v) k d ≡ f k
+  set-more l i v d f h below e k m = last-or-below k i (omega arith)
+      (λ q. rw q (getD-set-same l i v d h ∙ e))
+      (λ j. getD-set-other l i k v d (λ q. omega arith) ∙ below k j)
+
+module _ {ℓ} {A : Type ℓ} (f : ℕ → A) where
+  pub length-values : (n : ℕ) → length (valuesBelow f n) ≡ n
+  unfolding valuesBelow
+  length-values zero = refl
+  length-values (suc n) = length-append (valuesBelow f n) (f n ∷ []) ∙ let e = length-values n in omega arith
+
+  pub getD-values : (n i : ℕ) (d : A) → i < n → getD (valuesBelow f n) i d ≡ f i
+  unfolding valuesBelow
+  getD-values zero i d l = absurd (not-suc-le-zero l)
+  getD-values (suc n) i d l = last-or-below i n l
+      (λ e. rw e (getD-at (valuesBelow f n) (f n) [] d n (length-values n)))
+      (λ m. List·getD-append (valuesBelow f n) (f n ∷ []) d i (let e = length-values n in omega arith) ∙ getD-values n i d m)
+
+  pub replacing-none : (old : List A) → replacingFirst f 0 old ≡ old
+  unfolding replacingFirst valuesBelow
+  replacing-none old = refl
+
+  -- one more place is written, at n + 1 and at the code's n + 1
+  pub replacing-more : (n : ℕ) (old : List A) → n < length old → set (replacingFirst f n old) n (f n) ≡ replacingFirst f (suc n) old
+  unfolding replacingFirst valuesBelow
+  replacing-more n old l =
+      ap (λ (t : List A). set (valuesBelow f n ++ t) n (f n)) (drop-cons old n (f n) l)
+      ∙ set-at (valuesBelow f n) (getD old n (f n)) (drop (suc n) old) (f n) n (length-values n)
+      ∙ sym (append-snoc (valuesBelow f n) (f n) (drop (suc n) old))
+
+  pub replacing-next : (n : ℕ) (old : List A) → n < length old → set (replacingFirst f n old) n (f n) ≡ replacingFirst f (n + 1) old
+  replacing-next n old l = replacing-more n old l ∙ sym (ap (λ (m : ℕ). replacingFirst f m old) (add-one n))
+
+  pub length-replacing : (n : ℕ) (old : List A) → n ≤ length old → length (replacingFirst f n old) ≡ length old
+  unfolding replacingFirst
+  length-replacing n old l = length-append (valuesBelow f n) (drop n old) ∙ let e = length-values n in let d = length-drop n old in omega arith
+
+  -- its first n places are the values, and the others are as they were
+  pub take-replacing : (n : ℕ) (old : List A) → take n (replacingFirst f n old) ≡ valuesBelow f n
+  unfolding replacingFirst
+  take-replacing n old = take-at (valuesBelow f n) (drop n old) n (length-values n)
+
+  pub drop-replacing : (n : ℕ) (old : List A) → drop n (replacingFirst f n old) ≡ drop n old
+  unfolding replacingFirst
+  drop-replacing n old = drop-at (valuesBelow f n) (drop n old) n (length-values n)
+
+  pub getD-replacing : (n : ℕ) (old : List A) (i : ℕ) (d : A) → i < n → getD (replacingFirst f n old) i d ≡ f i
+  unfolding replacingFirst
+  getD-replacing n old i d l =
+      List·getD-append (valuesBelow f n) (drop n old) d i (let e = length-values n in omega arith) ∙ getD-values n i d l
+
+  pub getD-kept : (n : ℕ) (old : List A) (i : ℕ) (d : A) → n ≤ i → getD (replacingFirst f n old) i d ≡ getD old i d
+  getD-kept n old i d l =
+      let k : n + (i - n) ≡ i = omega arith in
+      rw (← k) (sym (getD-drop n (replacingFirst f n old) (i - n) d) ∙ ap (λ (t : List A). getD t (i - n) d) (drop-replacing n old) ∙ getD-drop n old (i - n) d)

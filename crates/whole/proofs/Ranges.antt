@@ -1,0 +1,113 @@
+-- Ranges of signed numbers, built as the numbers are: `(hs u* hf) u- (ha u* hh)` bounds `s *ℤ f -ℤ a *ℤ h`.
+use mathlib.Core.Path.{_≡_, refl}
+use Prim.Native.Nat.{ℕ, zero, suc, _+_, _*_, _<_, _≤_, max}
+use native.Mathlib.Nat.{le-refl, le-trans, le-of-eq, mul-le-mul}
+use native.Mathlib.Omega.{arith}
+use lib.Dec.{T, ltb, leb, ltb→lt, leb→le}
+use lib.IntN.{ℤ, pos, negsuc, negℤ, natAbs, _+ℤ_, _-ℤ_, _*ℤ_}
+use lib.Signed.{_≤ℤ_}
+use mir.Syntax.{w64}
+use mir.Val.{SFits}
+use Rattle.whole.specs.Signed.{Under, Upto, maxℤ, minℤ, withSignOf}
+use Rattle.whole.proofs.Linear.{zr, all1, all2, all3, le↑, mul-nonneg, abs-mul}
+
+-- ---- −k ≤ z ≤ k
+infixl 6 _u+_ _u-_
+infixl 7 _u*_
+sum-under : (a b : ℤ) (m n : ℕ) → Under a m → Under b n → Under (a +ℤ b) (m + n)
+sum-under = all2 _ (λ a b. simp zr (omega arith))
+
+sub-under : (a b : ℤ) (m n : ℕ) → Under a m → Under b n → Under (a -ℤ b) (m + n)
+sub-under = all2 _ (λ a b. simp zr (omega arith))
+
+neg-under : (a : ℤ) (m : ℕ) → Under a m → Under (negℤ a) m
+neg-under = all1 _ (λ a. simp zr (omega arith))
+
+pub _u+_ : {a b : ℤ} {m n : ℕ} → Under a m → Under b n → Under (a +ℤ b) (m + n)
+_u+_ {a} {b} {m} {n} h k = sum-under a b m n h k
+
+pub _u-_ : {a b : ℤ} {m n : ℕ} → Under a m → Under b n → Under (a -ℤ b) (m + n)
+_u-_ {a} {b} {m} {n} h k = sub-under a b m n h k
+
+pub _u*_ : {a b : ℤ} {m n : ℕ} → Under a m → Under b n → Under (a *ℤ b) (m * n)
+_u*_ {a} {b} h k = record { under = le-trans (le-of-eq (abs-mul a b)) (mul-le-mul (h .under) (k .under)) }
+
+pub u-neg : {a : ℤ} {m : ℕ} → Under a m → Under (negℤ a) m
+u-neg {a} {m} h = neg-under a m h
+
+-- a literal, or any number by its own size
+pub u-lit : (z : ℤ) → Under z (natAbs z)
+u-lit z = record { under = le-refl (natAbs z) }
+
+-- a larger bound: at two literals by computation, or by an order
+pub u-more : {z : ℤ} {k : ℕ} (n : ℕ) → Under z k → T (leb k n) → Under z n
+u-more {k = k} n h t = record { under = le-trans (h .under) (leb→le k n t) }
+
+pub u-le : {z : ℤ} {k n : ℕ} → Under z k → k ≤ n → Under z n
+u-le h l = record { under = le-trans (h .under) l }
+
+fitting : (z : ℤ) (k : ℕ) → Under z k → k < 9223372036854775808 → SFits w64 z
+fitting = all1 _ (λ z. simp zr (omega arith))
+
+pub u-fits : {z : ℤ} {k : ℕ} → Under z k → T (ltb k 9223372036854775808) → SFits w64 z
+u-fits {z} {k} h t = fitting z k h (ltb→lt k 9223372036854775808 t)
+
+between : (lo hi z : ℤ) → lo ≤ℤ z → z ≤ℤ hi → Under z (max (natAbs lo) (natAbs hi))
+between = all3 _ (λ lo hi z. simp zr (omega arith))
+
+-- a range given by its two ends
+pub u-between : {lo hi z : ℤ} → lo ≤ℤ z → z ≤ℤ hi → Under z (max (natAbs lo) (natAbs hi))
+u-between {lo} {hi} {z} h k = between lo hi z h k
+
+min-under : (a b : ℤ) (k : ℕ) → Under a k → Under b k → Under (minℤ a b) k
+min-under = all2 _ (λ a b. simp zr (omega arith))
+
+max-under : (a b : ℤ) (k : ℕ) → Under a k → Under b k → Under (maxℤ a b) k
+max-under = all2 _ (λ a b. simp zr (omega arith))
+
+pub u-min : {a b : ℤ} {k : ℕ} → Under a k → Under b k → Under (minℤ a b) k
+u-min {a} {b} {k} h l = min-under a b k h l
+
+pub u-max : {a b : ℤ} {k : ℕ} → Under a k → Under b k → Under (maxℤ a b) k
+u-max {a} {b} {k} h l = max-under a b k h l
+
+-- ---- a size with a number's sign
+pub abs-with-sign : (z : ℤ) (n : ℕ) → natAbs (withSignOf z n) ≡ n
+abs-with-sign (pos u) n = refl
+abs-with-sign (negsuc u) zero = refl
+abs-with-sign (negsuc u) (suc n) = refl
+
+pub u-with-sign : (z : ℤ) (n : ℕ) → Under (withSignOf z n) n
+u-with-sign z n = record { under = le-of-eq (abs-with-sign z n) }
+
+-- ---- 0 ≤ z ≤ k
+size-under : (z : ℤ) (k : ℕ) → Upto z k → Under z k
+size-under = all1 _ (λ z. simp zr (omega arith))
+
+pub u-upto : {z : ℤ} {k : ℕ} → Upto z k → Under z k
+u-upto {z} {k} h = size-under z k h
+
+from-0 : (z : ℤ) (k : ℕ) → pos 0 ≤ℤ z → Under z k → Upto z k
+from-0 = all1 _ (λ a. simp zr (omega arith))
+
+pub upto-under : {z : ℤ} {k : ℕ} → pos 0 ≤ℤ z → Under z k → Upto z k
+upto-under {z} {k} l h = from-0 z k l h
+
+pub upto-pos : (n k : ℕ) → n ≤ k → Upto (pos n) k
+upto-pos n k h = record { low = le↑ (omega arith); high = le↑ (omega arith) }
+
+natural : (z : ℤ) (k : ℕ) → Upto z k → (z ≡ pos (natAbs z)) × (natAbs z ≤ k)
+natural = all1 _ (λ z. simp zr (omega arith))
+
+-- such a number is a natural
+pub upto-nat : {z : ℤ} {k : ℕ} → Upto z k → (z ≡ pos (natAbs z)) × (natAbs z ≤ k)
+upto-nat {z} {k} h = natural z k h
+
+sum-upto : (a b : ℤ) (m n : ℕ) → Upto a m → Upto b n → Upto (a +ℤ b) (m + n)
+sum-upto = all2 _ (λ a b. simp zr (omega arith))
+
+pub u0+ : {a b : ℤ} {m n : ℕ} → Upto a m → Upto b n → Upto (a +ℤ b) (m + n)
+u0+ {a} {b} {m} {n} h k = sum-upto a b m n h k
+
+pub u0* : {a b : ℤ} {m n : ℕ} → Upto a m → Upto b n → Upto (a *ℤ b) (m * n)
+u0* {a} {b} h k = upto-under (mul-nonneg {a = a} {b = b} (h .low) (k .low)) (u-upto h u* u-upto k)
