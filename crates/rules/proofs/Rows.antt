@@ -1,1 +1,198 @@
--- To be written.
+-- The table of refusals in its order: the first broken row answers, and nothing else does; what settling and writing answer and
+-- leave behind, refused or accepted; an answer is told by its number and place.
+use mathlib.Core.Path.{_≡_, refl, sym, _∙_, ap, ap₂}
+use mathlib.Core.Logic.{_↔_}
+use mathlib.Core.Bool.{Bool, true, false, cond}
+use mathlib.Core.Option.{Option, none, some}
+use mathlib.Core.List.{List, [], _∷_, _++_}
+use Prim.Native.Nat.{ℕ, zero, suc, _≤_}
+use native.Mathlib.Omega.{arith}
+use lib.IntN.{ℤ}
+use lib.ListN.{length, getD}
+use lib.Dec.{eqb}
+use borrow.Author.Tests.{eqb-true, eqb-false}
+use Rattle.whole.proofs.Tests.{split, never}
+use Rattle.rules.specs.declared.Answer.{Answer}
+use Rattle.rules.specs.declared.Answer.the-variants.{Accepted, BadLength, BadSum, BadBlock, BadHead, BadRecord, BadArea, BadAmount, OutOfRange, TooNarrow, NotAnAmount, TooShort}
+use Rattle.rules.specs.declared.Settled.{Settled}
+use Rattle.rules.specs.HourFile.{hourly, hourOf}
+use Rattle.rules.specs.Refusals.{Row, row, Verdict, accepted, refusedAt, verdictOf, verdict, layoutRows, wordRows, sumRows, fileRows, hourRows, writeRows}
+use Rattle.rules.specs.Settling.{Buffers, isAccepted, bufferRows, settleRows, filled, ufeFigures, noFigures, settle, write}
+use Rattle.rules.specs.Text.{amountField}
+use Rattle.rules.specs.Promises.{Accepts, AllWhole, FirstBrokenRow, Fits, OneResult}
+
+-- ---- any table
+
+-- no row has the number of acceptance
+abbrev pub Numbered : List Row → Type 0
+Numbered [] = Unit {0}
+Numbered (row n broken ∷ rows) = (1 ≤ n) × Numbered rows
+
+zero-never : {X : Type 0} (n : ℕ) → suc n ≡ 0 → X
+zero-never n e = absurd (omega arith)
+
+-- a table accepts exactly when every row is whole
+pub accepts-when-whole : (rows : List Row) → Numbered rows → (verdict rows ≡ accepted) ↔ AllWhole rows
+unfolding verdict
+accepts-when-whole [] n = (λ e. tt, λ w. refl)
+accepts-when-whole (row k none ∷ rows) n = let r = accepts-when-whole rows (n .1) in (λ e. (refl, r .0 e), λ w. r .1 (w .1))
+accepts-when-whole (row k (some p) ∷ rows) n = (
+  λ e. absurd (let z : k ≡ 0 = ap (λ (v : Verdict). v .number) e in omega (arith, n .0)),
+  λ w. absurd (let z : _≡_ {A = ℕ} 0 1 = cc (w .0) in omega arith),
+)
+
+-- number 0 says that a call was accepted
+pub zero-accepts : (rows : List Row) → Numbered rows → verdict rows .number ≡ 0 → verdict rows ≡ accepted
+unfolding verdict
+zero-accepts [] n e = refl
+zero-accepts (row k none ∷ rows) n e = zero-accepts rows (n .1) e
+zero-accepts (row k (some p) ∷ rows) n e = absurd (omega (arith, n .0))
+
+-- a whole row in front decides nothing
+whole-in-front : {rows : List Row} {n p : ℕ} (k : ℕ) → FirstBrokenRow rows n p → FirstBrokenRow (row k none ∷ rows) n p
+whole-in-front k f = record {
+  before = row k none ∷ f .before;
+  after = f .after;
+  in-order = ap (λ (l : List Row). row k none ∷ l) (f .in-order);
+  whole-before = (refl, f .whole-before);
+}
+
+first-broken-answers : (before after : List Row) (n p : ℕ) → AllWhole before → verdict (before ++ row n (some p) ∷ after) ≡ refusedAt n p
+unfolding verdict
+first-broken-answers [] after n p w = refl
+first-broken-answers (row k none ∷ before) after n p w = first-broken-answers before after n p (w .1)
+first-broken-answers (row k (some q) ∷ before) after n p w = absurd (let z : _≡_ {A = ℕ} 0 1 = cc (w .0) in omega arith)
+
+answered-by : (rows : List Row) (n p : ℕ) → verdict rows ≡ refusedAt (suc n) p → FirstBrokenRow rows (suc n) p
+unfolding verdict
+answered-by [] n p e = zero-never n (sym (ap (λ (v : Verdict). v .number) e))
+answered-by (row k none ∷ rows) n p e = whole-in-front k (answered-by rows n p e)
+answered-by (row k (some q) ∷ rows) n p e = record {
+  before = [];
+  after = rows;
+  in-order = ap₂ (λ (x y : ℕ). row x (some y) ∷ rows) (ap (λ (v : Verdict). v .number) e) (ap (λ (v : Verdict). v .place) e);
+  whole-before = tt;
+}
+
+-- a table refuses with a number and place exactly when that row is broken there and every row before it is whole
+pub refuses-at-first : (rows : List Row) (n p : ℕ) → (verdict rows ≡ refusedAt (suc n) p) ↔ FirstBrokenRow rows (suc n) p
+refuses-at-first rows n p = (answered-by rows n p, λ f. ap verdict (f .in-order) ∙ first-broken-answers (f .before) (f .after) (suc n) p (f .whole-before))
+
+-- what the first rows refuse, all refuse alike
+pub refused-first : (rows more : List Row) → (verdict rows ≡ accepted → ⊥) → verdict (rows ++ more) ≡ verdict rows
+unfolding verdict
+refused-first [] more r = absurd (r refl)
+refused-first (row n (some p) ∷ rows) more r = refl
+refused-first (row n none ∷ rows) more r = refused-first rows more r
+
+-- what they pass, the others decide
+pub passed-on : (rows more : List Row) → AllWhole rows → verdict (rows ++ more) ≡ verdict more
+unfolding verdict
+passed-on [] more w = refl
+passed-on (row n none ∷ rows) more w = passed-on rows more (w .1)
+passed-on (row n (some p) ∷ rows) more w = absurd (let z : _≡_ {A = ℕ} 0 1 = cc (w .0) in omega arith)
+
+-- a table in two parts is whole when both are
+pub whole-parts : (rows more : List Row) → AllWhole (rows ++ more) ↔ (AllWhole rows × AllWhole more)
+whole-parts [] more = (λ w. (tt, w), λ w. w .1)
+whole-parts (row n o ∷ rows) more = let r = whole-parts rows more in
+    (λ w. ((w .0, r .0 (w .1) .0), r .0 (w .1) .1), λ w. (w .0 .0, r .1 (w .0 .1, w .1)))
+
+-- ---- the tables of document 01
+
+module _ (s : List ℕ) where
+  pub file-numbered : Numbered (fileRows s)
+  unfolding fileRows layoutRows wordRows
+  file-numbered = omega arith
+
+  pub hour-numbered : Numbered (hourRows s)
+  unfolding hourRows fileRows layoutRows wordRows sumRows
+  hour-numbered = omega arith
+
+  pub settle-numbered : (b : Buffers) → Numbered (settleRows s b)
+  unfolding settleRows hourRows fileRows layoutRows wordRows sumRows bufferRows
+  settle-numbered b = omega arith
+
+pub write-numbered : (width : ℕ) (z : ℤ) → Numbered (writeRows width z)
+unfolding writeRows
+write-numbered width z = omega arith
+
+-- ---- settling
+
+module _ (s : List ℕ) (b : Buffers) where
+  pub settle-verdict : settle s b .verdict ≡ verdict (settleRows s b)
+  unfolding settle
+  settle-verdict = split (isAccepted (verdict (settleRows s b))) (λ e. rw e) (λ e. rw e)
+
+  pub settle-accepts : Accepts s b ↔ AllWhole (settleRows s b)
+  settle-accepts = let r = accepts-when-whole (settleRows s b) (settle-numbered s b) in
+      (λ e. r .0 (sym settle-verdict ∙ e), λ w. settle-verdict ∙ r .1 w)
+
+  pub settle-refuses : (n p : ℕ) → (settle s b .verdict ≡ refusedAt (suc n) p) ↔ FirstBrokenRow (settleRows s b) (suc n) p
+  settle-refuses n p = let r = refuses-at-first (settleRows s b) n p in
+      (λ e. r .0 (sym settle-verdict ∙ e), λ f. settle-verdict ∙ r .1 f)
+
+  -- refused: every buffer is what it was, and all UFE figures are 0
+  pub settle-changes-nothing : (Accepts s b → ⊥) → (settle s b .buffers ≡ b) × (settle s b .ufe ≡ noFigures)
+  unfolding settle
+  settle-changes-nothing r = split (isAccepted (verdict (settleRows s b)))
+      (λ e. absurd (r (settle-verdict ∙ zero-accepts (settleRows s b) (settle-numbered s b) (eqb-true _ _ e))))
+      (λ e. rw e (refl, refl))
+
+  -- accepted: the buffers are filled, and the UFE figures are the areas'
+  pub settle-fills : Accepts s b → (settle s b .buffers ≡ filled (hourOf hourly s) b) × (settle s b .ufe ≡ ufeFigures (hourOf hourly s))
+  unfolding settle
+  settle-fills a = rw (sym settle-verdict ∙ a) (refl, refl)
+
+-- ---- writing
+
+module _ (f : List ℕ) (z : ℤ) where
+  pub write-verdict : write f z .verdict ≡ verdict (writeRows (length f) z)
+  unfolding write
+  write-verdict = refl
+
+  pub write-accepts : (write f z .verdict ≡ accepted) ↔ AllWhole (writeRows (length f) z)
+  unfolding write
+  write-accepts = accepts-when-whole (writeRows (length f) z) (write-numbered (length f) z)
+
+  pub write-refuses : (n p : ℕ) → (write f z .verdict ≡ refusedAt (suc n) p) ↔ FirstBrokenRow (writeRows (length f) z) (suc n) p
+  unfolding write
+  write-refuses n p = refuses-at-first (writeRows (length f) z) n p
+
+  pub write-changes-nothing : (write f z .verdict ≡ accepted → ⊥) → write f z .field ≡ f
+  unfolding write
+  write-changes-nothing r = split (isAccepted (verdict (writeRows (length f) z)))
+      (λ e. absurd (r (zero-accepts (writeRows (length f) z) (write-numbered (length f) z) (eqb-true _ _ e))))
+      (λ e. rw e)
+
+-- ---- no second result fits
+
+-- the answer with this number and place
+abbrev answerOf : Verdict → Answer
+answerOf v = let p = v .place in
+    getD (Accepted ∷ BadLength ∷ BadSum p ∷ BadBlock p ∷ BadHead p ∷ BadRecord p ∷ BadArea p ∷ BadAmount p ∷ OutOfRange ∷ TooNarrow ∷ NotAnAmount ∷ TooShort ∷ []) (v .number) Accepted
+
+told : (a : Answer) → answerOf (verdictOf a) ≡ a
+told Accepted = refl
+told BadLength = refl
+told (BadSum b) = refl
+told (BadBlock b) = refl
+told (BadHead w) = refl
+told (BadRecord i) = refl
+told (BadArea a) = refl
+told (BadAmount m) = refl
+told OutOfRange = refl
+told TooNarrow = refl
+told NotAnAmount = refl
+told TooShort = refl
+
+-- no two answers have the same number and place
+pub one-answer : (a b : Answer) → verdictOf a ≡ verdictOf b → a ≡ b
+one-answer a b e = sym (told a) ∙ ap answerOf e ∙ told b
+
+-- what settling answers and leaves in the buffers is determined by the file and by what the buffers held
+pub one-result : OneResult
+one-result s b r t x y f g = (
+  ap₂ (λ (a : Answer) (u : List ℤ). record { answer = a; ufe = u }) (one-answer (r .answer) (t .answer) (f .verdict-is ∙ sym (g .verdict-is))) (f .ufe-is ∙ sym (g .ufe-is)),
+  f .buffers-are ∙ sym (g .buffers-are),
+)
