@@ -8,5 +8,6 @@ pub mod Kept
 pub mod Bounds
 pub mod Fair
 pub mod Demands
+pub mod Stated
 pub mod Starred
 pub mod Printed

@@ -10,6 +10,7 @@ use Rattle.rules.specs.Record.{entry}
 use Rattle.rules.specs.Deviation.{deviation}
 use Rattle.rules.specs.Share.{share}
 use Rattle.rules.specs.Charge.{cents}
+use Rattle.rules.specs.Text.{bytes}
 use Rattle.rules.specs.Refusals.{accepted, refusedAt}
 use Rattle.rules.specs.Settling.{write}
 
@@ -28,7 +29,7 @@ deviationOf words = deviation (entry (λ w. getD words w 0))
 abbrev pub sharesOf : ℤ → List ℕ → List ℤ
 sharesOf U ds = valuesBelow (share (λ i. true) (λ i. getD ds i 0) (length ds) U) (length ds)
 
--- a field of other bytes, so that what is written shows
+-- a field of so many columns, of other bytes, so that what is written shows
 abbrev pub columns : ℕ → List ℕ
 columns n = replicate n 35
 
@@ -47,9 +48,8 @@ starred =
     ∷ sharesOf (pos 5) (2 ∷ 1 ∷ []) is (pos 3 ∷ pos 2 ∷ [])
     ∷ cents (pos 5000000) is pos 1
     ∷ cents (negℤ (pos 5000000)) is negℤ (pos 1)
-    --                                                                             -    1    .    2    3
-    ∷ write (columns 7) (negℤ (pos 123)) is record { verdict = accepted; field = 32 ∷ 32 ∷ 45 ∷ 49 ∷ 46 ∷ 50 ∷ 51 ∷ [] }
-    ∷ write (columns 5) (negℤ (pos 123)) is record { verdict = accepted; field = 45 ∷ 49 ∷ 46 ∷ 50 ∷ 51 ∷ [] }
+    ∷ write (columns 7) (negℤ (pos 123)) is record { verdict = accepted; field = bytes "  -1.23" }
+    ∷ write (columns 5) (negℤ (pos 123)) is record { verdict = accepted; field = bytes "-1.23" }
     ∷ write (columns 4) (negℤ (pos 123)) is record { verdict = refusedAt 9 0; field = columns 4 }
     ∷ []
 

@@ -15,3 +15,4 @@ pub mod Tariff
 pub mod Kept
 pub mod Promises
 pub mod Figures
+pub mod Printed

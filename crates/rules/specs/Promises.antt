@@ -15,12 +15,12 @@ use Rattle.rules.specs.Record.{Hour, members, zones, areas, price, membe
 use Rattle.rules.specs.Ufe.{inArea, ufe, demand, demands}
 use Rattle.rules.specs.Share.{allDemand, wholePart, remainder, unitsLeft}
 use Rattle.rules.specs.Charge.{entering, shareOf, recordsOf, cents, charge, poolTotal}
-use Rattle.rules.specs.Text.{digitByte, amountText, amountField}
+use Rattle.rules.specs.Text.{bytes, digitByte, amountText, amountField}
 use Rattle.rules.specs.HourFile.{hourly, hourOf}
 use Rattle.rules.specs.Refusals.{Row, row, Verdict, accepted, refusedAt, verdictOf, verdict, hourRows, writeRows}
 use Rattle.rules.specs.Settling.{Buffers, settle, settleRows, noFigures, write, ReadAmount, read}
 use Rattle.rules.specs.Posting.{emptyLine}
-use Rattle.rules.specs.Statement.{blank, lineFeed, memberLine}
+use Rattle.rules.specs.Statement.{memberLine}
 use Rattle.rules.specs.Tariff.{devAs, ufeOfTerritory, IEC}
 
 abbrev pub Accepts : List ℕ → Buffers → Type 0
@@ -94,7 +94,7 @@ pub record Demand2 : Type 0 where
   pub read-written : (s f : List ℕ) (z : ℤ) → read s ≡ record { verdict = accepted; amount = z } → length f ≡ length s → write f z ≡ record { verdict = accepted; field = s }
   -- the statement shows every charge whole
   pub printed : (s : List ℕ) → verdict (hourRows s) ≡ accepted → let h = hourOf hourly s in (m : ℕ) → m < members h →
-      (length (amountText (charge h m)) ≤ 14) × (memberLine h m ≡ digitByte (m / 10) ∷ digitByte (m % 10) ∷ blank ++ amountField 14 (charge h m) ++ lineFeed)
+      (length (amountText (charge h m)) ≤ 14) × (memberLine h m ≡ digitByte (m / 10) ∷ digitByte (m % 10) ∷ bytes " " ++ amountField 14 (charge h m) ++ bytes "\n")
 
 -- ---- DEMAND 3: the sums come out whole, without fractions
 

@@ -1,5 +1,7 @@
 -- Amounts as text: what an amount's text is, and how a field is read part by part. Document 01, "Text amounts".
 use Prim.Native.Nat.{ℕ, zero, suc, _+_, _-_, _*_, _/_, _%_}
+use Prim.Native.Char.{code}
+use Prim.Native.String.{String}
 use mathlib.Core.Bool.{Bool, true, false, not, cond, _&&_, _||_}
 use mathlib.Core.Option.{Option, none, some, bind}
 use mathlib.Core.List.{List, [], _∷_, _++_}
@@ -7,7 +9,12 @@ use lib.IntN.{ℤ, pos, negsuc, natAbs}
 use lib.ListN.{length, drop, getD, replicate}
 use lib.Dec.{leb, ltb, eqb}
 
--- ---- bytes: + is 43, - is 45, the point is 46, the digits are 48 to 57, a blank is 32
+-- ---- bytes: a blank is 32, + is 43, - is 45, the point is 46, the digits are 48 to 57
+
+-- the bytes of a text of such characters
+abbrev pub bytes : String → List ℕ
+bytes String.[] = []
+bytes (String._∷_ c s) = code c ∷ bytes s
 
 abbrev pub digitByte : ℕ → ℕ
 digitByte d = 48 + d
