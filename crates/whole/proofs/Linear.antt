@@ -343,6 +343,16 @@ fits↑ {z} f = is-fits (is-at z) f
 pub ruleset zo = (le↓, lt↓, eq↓, le↑, lt↑, eq↑, under-hi, under-lo)
 
 -- ---- orders, and what products do to them
+-- a test that failed, beside the kit's `leZ-yes`, `ltZ-yes` and `ltZ-no`
+nle : (a b : ℤ) → T (not (leZ a b)) → T (ltZ b a)
+nle (pos a) (pos b) t = lt→ltb b a (nleb→lt a b t)
+nle (pos a) (negsuc b) t = tt
+nle (negsuc a) (pos b) t = t
+nle (negsuc a) (negsuc b) t = lt→ltb a b (nleb→lt b a t)
+
+pub leZ-no : {a b : ℤ} → T (not (leZ a b)) → b <ℤ a
+leZ-no {a} {b} t = record { lt = nle a b t }
+
 pub ≤ℤ-or-< : (a b : ℤ) → (a ≤ℤ b) ⊎ (b <ℤ a)
 ≤ℤ-or-< a b = split (leb (up a + dn b) (up b + dn a)) (λ e. inl (le↑ (leb-true _ _ e))) (λ e. inr (lt↑ (leb-false _ _ e)))
 
