@@ -2,7 +2,7 @@
 --     Mv r z k       r is z, and −k ≤ z ≤ k
 --     _m+_ _m-_ _m*_         an operation, before it is stored
 --     kept           what is read back of a stored result, which is the result since k is below 2 ^ 63
---     Num            an expression of the code, with all that: `at (c .pre .j-in) :* at0 (c .pre .h-in)`
+--     Num            an expression of the code, with all that: `at (c .pre .a-in) :* at0 (c .pre .b-in)`
 --     fits, stored   of a `Num`: the need of the operation that makes it, and that what is stored is the number meant
 use mathlib.Core.Path.{_≡_, refl, sym, _∙_, ap, ap₂, subst}
 use Prim.Native.Nat.{ℕ, _+_, _*_, _<_, _≤_}
