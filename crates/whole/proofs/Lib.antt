@@ -9,3 +9,5 @@ pub mod Buffers
 pub mod Division
 pub mod Rank
 pub mod Handing
+pub mod Ring
+pub mod Machine

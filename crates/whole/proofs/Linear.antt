@@ -252,7 +252,7 @@ pub ev-upto : (x : E) (k : ℕ) → Upto (ev x) k ↔ ((x .n ≤ x .p) × (x .p 
 ev-upto x k = (λ f. upto-is (is-ev x) f, λ f. is-upto (is-ev x) f)
 
 -- ---- the larger and the smaller of two
-nle-parts : (a b : ℤ) → T (not (leZ a b)) → up b + dn a ≤ up a + dn b
+nle-parts : (a b : ℤ) → T (not (leZ a b)) → up b + dn a < up a + dn b
 nle-parts (pos x) (pos y) t = omega (arith, nleb→lt x y t)
 nle-parts (pos x) (negsuc y) t = omega arith
 nle-parts (negsuc x) (pos y) t = absurd t
@@ -282,7 +282,7 @@ ev-min x y = by-ev (is-min (is-ev x) (is-ev y)) (is-ev (smaller x y)) refl refl
 
 pub ruleset zr = (ev-max, ev-min, ev-add, ev-neg, ev-mul, ev-minus, ev-pos, ev-negsuc, ev-eq, ev-le, ev-lt, ev-abs, ev-fits, ev-under, ev-upto)
 
--- every number is such a difference: `all3 (λ a b c. simp zr (omega arith))` proves a statement about three numbers
+-- every number is such a difference, so what holds of all differences holds of all numbers
 onto : (z : ℤ) → ev (record { p = up z; n = dn z }) ≡ z
 onto z = is-eq (is-ev _) (is-at z) refl
 
@@ -343,6 +343,10 @@ fits↑ {z} f = is-fits (is-at z) f
 pub ruleset zo = (le↓, lt↓, eq↓, le↑, lt↑, eq↑, under-hi, under-lo)
 
 -- ---- orders, and what products do to them
+-- a test that failed, beside the kit's `leZ-yes`, `ltZ-yes` and `ltZ-no`
+pub leZ-no : {a b : ℤ} → T (not (leZ a b)) → b <ℤ a
+leZ-no {a} {b} t = lt↑ (nle-parts a b t)
+
 pub ≤ℤ-or-< : (a b : ℤ) → (a ≤ℤ b) ⊎ (b <ℤ a)
 ≤ℤ-or-< a b = split (leb (up a + dn b) (up b + dn a)) (λ e. inl (le↑ (leb-true _ _ e))) (λ e. inr (lt↑ (leb-false _ _ e)))
 
@@ -383,7 +387,7 @@ pub mul-cancel : (a b p : ℤ) → pos 0 <ℤ p → (a *ℤ p) ≤ℤ (b *ℤ p)
 mul-cancel a b p h k = ⊎-elim (λ l. l) (λ l. absurd (clash a b p (mul-mono {a = b +ℤ pos 1} p (≤ℤ-of-< h) (step-of a b l)) k h)) (≤ℤ-or-< a b)
 
 -- ---- sizes
-abs-minus : (k : ℕ) → natAbs (negℤ (pos k)) ≡ k
+pub abs-minus : (k : ℕ) → natAbs (negℤ (pos k)) ≡ k
 abs-minus zero = refl
 abs-minus (suc k) = refl
 

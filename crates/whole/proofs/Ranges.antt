@@ -1,6 +1,6 @@
--- Ranges of signed numbers, built as the numbers are: `(hs u* hf) u- (ha u* hh)` bounds `s *ℤ f -ℤ a *ℤ h`.
+-- Ranges of signed numbers, built as the numbers are: `(ha u* hb) u- (hc u* hd)` bounds `a *ℤ b -ℤ c *ℤ d`.
 use mathlib.Core.Path.{_≡_, refl}
-use Prim.Native.Nat.{ℕ, zero, suc, _+_, _*_, _<_, _≤_, max}
+use Prim.Native.Nat.{ℕ, _+_, _*_, _<_, _≤_, max}
 use native.Mathlib.Nat.{le-refl, le-trans, le-of-eq, mul-le-mul}
 use native.Mathlib.Omega.{arith}
 use lib.Dec.{T, ltb, leb, ltb→lt, leb→le}
@@ -9,7 +9,7 @@ use lib.Signed.{_≤ℤ_}
 use mir.Syntax.{w64}
 use mir.Val.{SFits}
 use Rattle.whole.specs.Signed.{Under, Upto, maxℤ, minℤ, withSignOf}
-use Rattle.whole.proofs.Linear.{zr, all1, all2, all3, le↑, mul-nonneg, abs-mul}
+use Rattle.whole.proofs.Linear.{zr, all1, all2, all3, le↑, mul-nonneg, abs-minus, abs-mul}
 
 -- ---- −k ≤ z ≤ k
 infixl 6 _u+_ _u-_
@@ -74,8 +74,7 @@ u-max {a} {b} {k} h l = max-under a b k h l
 -- ---- a size with a number's sign
 pub abs-with-sign : (z : ℤ) (n : ℕ) → natAbs (withSignOf z n) ≡ n
 abs-with-sign (pos u) n = refl
-abs-with-sign (negsuc u) zero = refl
-abs-with-sign (negsuc u) (suc n) = refl
+abs-with-sign (negsuc u) n = abs-minus n
 
 pub u-with-sign : (z : ℤ) (n : ℕ) → Under (withSignOf z n) n
 u-with-sign z n = record { under = le-of-eq (abs-with-sign z n) }

@@ -12,7 +12,11 @@ use Rattle.whole.proofs.Tests.{split, never, last-or-below}
 
 -- ---- how many pass a test
 
--- one more, at the code's n + 1
+-- none, and one more at the code's n + 1: a loop's start and its turn
+pub count-none : (p : ℕ → Bool) → countBelow p 0 ≡ 0
+unfolding countBelow
+count-none p = refl
+
 pub count-add-one : (p : ℕ → Bool) (n : ℕ) → countBelow p (n + 1) ≡ countBelow p n + oneIf (p n)
 unfolding countBelow
 count-add-one p n = ap (countBelow p) (add-one n)
@@ -51,6 +55,10 @@ pub count-most : (p : ℕ → Bool) (n : ℕ) → countBelow p n ≤ n
 count-most p n = let e = all-count n in let h = count-mono p (λ i. true) n (λ i l t. refl) in omega arith
 
 -- ---- sums
+
+pub sum-none : (f : ℕ → ℕ) → sumBelow f 0 ≡ 0
+unfolding sumBelow
+sum-none f = refl
 
 pub sum-add-one : (f : ℕ → ℕ) (n : ℕ) → sumBelow f (n + 1) ≡ sumBelow f n + f n
 unfolding sumBelow
@@ -123,6 +131,10 @@ pub wraps-on : (m : ℕ) (f : ℕ → ℕ) (w acc x r : ℕ) → acc ≡ sumBelo
 wraps-on m f w acc x r a b e = rw sum-add-one (e ∙ ap₂ (λ (p q : ℕ). (p + q) % m) a b ∙ mod-add-mod (sumBelow f w) m (f w))
 
 -- ---- products
+
+pub product-none : (f : ℕ → ℕ) → productBelow f 0 ≡ 1
+unfolding productBelow
+product-none f = refl
 
 pub product-add-one : (f : ℕ → ℕ) (n : ℕ) → productBelow f (n + 1) ≡ productBelow f n * f n
 unfolding productBelow

@@ -24,12 +24,6 @@ pub neither : (a b : Bool) → (a || b) ≡ false → (a ≡ false) × (b ≡ fa
 neither true b e = never refl e
 neither false b e = (refl, e)
 
--- two tests that say the same
-pub same-test : (a b : Bool) → (a ≡ true → b ≡ true) → (b ≡ true → a ≡ true) → a ≡ b
-same-test true b f g = sym (f refl)
-same-test false true f g = g refl
-same-test false false f g = refl
-
 -- the second test, where the first has passed
 pub and-ext : (a b c : Bool) → (a ≡ true → b ≡ c) → (a && b) ≡ (a && c)
 and-ext true b c f = f refl

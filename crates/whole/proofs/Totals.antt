@@ -15,7 +15,11 @@ use Rattle.whole.proofs.Tests.{split}
 use Rattle.whole.proofs.Linear.{zr, all3, all4}
 use Rattle.whole.proofs.Ranges.{_u+_}
 
--- one more, at the code's n + 1
+-- none, and one more at the code's n + 1: a loop's start and its turn
+pub total-none : (f : ℕ → ℤ) → totalBelow f 0 ≡ pos 0
+unfolding totalBelow
+total-none f = refl
+
 pub total-add-one : (f : ℕ → ℤ) (n : ℕ) → totalBelow f (n + 1) ≡ totalBelow f n +ℤ f n
 unfolding totalBelow
 total-add-one f n = ap (totalBelow f) (add-one n)

@@ -1,0 +1,177 @@
+-- What the machine computes with signed numbers of 64 bits, beside the numbers that are meant.
+--     Mv r z k       r is z, and −k ≤ z ≤ k
+--     _m+_ _m-_ _m*_         an operation, before it is stored
+--     kept           what is read back of a stored result, which is the result since k is below 2 ^ 63
+--     Num            an expression of the code, with all that: `at (c .pre .a-in) :* at0 (c .pre .b-in)`
+--     fits, stored   of a `Num`: the need of the operation that makes it, and that what is stored is the number meant
+use mathlib.Core.Path.{_≡_, refl, sym, _∙_, ap, ap₂, subst}
+use Prim.Native.Nat.{ℕ, _+_, _*_, _<_, _≤_}
+use mathlib.Core.Bool.{Bool, true, false, not, _&&_}
+use native.Mathlib.Omega.{arith}
+use lib.Dec.{T, leb, ltb, ltb→lt}
+use lib.Signed.{_≤ℤ_, _<ℤ_, ltZ, leZ, ltZ-yes, ltZ-no, leZ-yes, quotZ, remZ, nonNeg, yes-nonNeg}
+use lib.IntN.{ℤ, pos, natAbs, _+ℤ_, _-ℤ_, _*ℤ_}
+use mir.Syntax.{w64}
+use mir.Val.{Fits, SFits, toZ, ofZ}
+use mir.ValLaws.{toZ-ofZ, toZ-pos}
+use mir.Facts.{and-yes}
+use Rattle.whole.specs.Signed.{Under, Upto}
+use Rattle.whole.proofs.Linear.{leZ-no}
+use Rattle.whole.proofs.Ranges.{_u+_, _u-_, _u*_, u-lit, u-upto, u-fits, u-more}
+use Rattle.whole.proofs.Division.{quot-under, rem-under}
+
+pub record Mv (r z : ℤ) (k : ℕ) : Type 0 where
+  pub is : r ≡ z
+  pub range : Under z k
+
+infixl 6 _m+_ _m-_
+infixl 7 _m*_
+pub _m+_ : {r r′ z z′ : ℤ} {k k′ : ℕ} → Mv r z k → Mv r′ z′ k′ → Mv (r +ℤ r′) (z +ℤ z′) (k + k′)
+x m+ y = record { is = ap₂ (λ (a b : ℤ). a +ℤ b) (x .is) (y .is); range = x .range u+ y .range }
+
+pub _m-_ : {r r′ z z′ : ℤ} {k k′ : ℕ} → Mv r z k → Mv r′ z′ k′ → Mv (r -ℤ r′) (z -ℤ z′) (k + k′)
+x m- y = record { is = ap₂ (λ (a b : ℤ). a -ℤ b) (x .is) (y .is); range = x .range u- y .range }
+
+pub _m*_ : {r r′ z z′ : ℤ} {k k′ : ℕ} → Mv r z k → Mv r′ z′ k′ → Mv (r *ℤ r′) (z *ℤ z′) (k * k′)
+x m* y = record { is = ap₂ (λ (a b : ℤ). a *ℤ b) (x .is) (y .is); range = x .range u* y .range }
+
+pub lit : (z : ℤ) → Mv z z (natAbs z)
+lit z = record { is = refl; range = u-lit z }
+
+pub m-fits : {r z : ℤ} {k : ℕ} → Mv r z k → T (ltb k 9223372036854775808) → SFits w64 r
+m-fits x t = subst (SFits w64) (sym (x .is)) (u-fits (x .range) t)
+
+pub kept : {r z : ℤ} {k : ℕ} → Mv r z k → T (ltb k 9223372036854775808) → Mv (toZ w64 (ofZ w64 r)) z k
+kept {r} x t = record { is = toZ-ofZ w64 r (m-fits x t) ∙ x .is; range = x .range }
+
+-- ---- an expression of the code
+--     r        the machine's value, before it is stored
+--     rd       what is read back of it by the operation that takes it
+--     z        the number that is meant
+--     k        a bound of its size
+--     ok       a test that every step before it fits
+pub record Num : Type 0 where
+  pub r : ℤ
+  pub rd : ℤ
+  pub z : ℤ
+  pub k : ℕ
+  pub ok : Bool
+  pub mv : T ok → Mv r z k
+  pub rd-mv : T ok → T (ltb k 9223372036854775808) → Mv rd z k
+
+abbrev pub small : ℕ → Bool
+small k = ltb k 9223372036854775808
+
+abbrev pub back : ℤ → ℤ
+back r = toZ w64 (ofZ w64 r)
+
+abbrev pub good : Num → Bool
+good x = x .ok && small (x .k)
+
+pub read : (x : Num) → T (good x) → Mv (x .rd) (x .z) (x .k)
+read x t = let b = and-yes (x .ok) (small (x .k)) t in x .rd-mv (b .0) (b .1)
+
+-- a literal; a parameter, an element or a field, by its range
+abbrev pub # : ℤ → Num
+# n = record { r = n; rd = n; z = n; k = natAbs n; ok = true; mv = λ t. lit n; rd-mv = λ t u. lit n }
+
+abbrev pub at : {z : ℤ} {k : ℕ} → Under z k → Num
+at {z} {k} h =
+    let m : Mv z z k = record { is = refl; range = h } in
+    record { r = z; rd = back z; z = z; k = k; ok = true; mv = λ t. m; rd-mv = λ t u. kept m u }
+
+abbrev pub at0 : {z : ℤ} {k : ℕ} → Upto z k → Num
+at0 h = at (u-upto h)
+
+-- a local that a loop or a branch has changed: e says what it is, as `toZ w64 sum ≡ z`
+abbrev pub local : {r z : ℤ} {k : ℕ} → r ≡ z → Under z k → Num
+local {r} {z} {k} e h =
+    let m : Mv r z k = record { is = e; range = h } in
+    record { r = r; rd = r; z = z; k = k; ok = true; mv = λ t. m; rd-mv = λ t u. m }
+
+-- a call's result, or another value that is read back: e says what it is
+abbrev pub result : {r z : ℤ} {k : ℕ} → r ≡ z → Under z k → Num
+result {r} {z} {k} e h =
+    let m : Mv r z k = record { is = e; range = h } in
+    record { r = r; rd = back r; z = z; k = k; ok = true; mv = λ t. m; rd-mv = λ t u. kept m u }
+
+-- an operation's result
+abbrev pub made : {r z : ℤ} {k : ℕ} (ok : Bool) → (T ok → Mv r z k) → Num
+made {r} {z} {k} ok m = record { r = r; rd = back r; z = z; k = k; ok = ok; mv = m; rd-mv = λ t u. kept (m t) u }
+
+infixl 6 _:+_ _:-_
+infixl 7 _:*_
+abbrev pub _:+_ : Num → Num → Num
+x :+ y = made (good x && good y) (λ t. let b = and-yes (good x) (good y) t in read x (b .0) m+ read y (b .1))
+
+abbrev pub _:-_ : Num → Num → Num
+x :- y = made (good x && good y) (λ t. let b = and-yes (good x) (good y) t in read x (b .0) m- read y (b .1))
+
+abbrev pub _:*_ : Num → Num → Num
+x :* y = made (good x && good y) (λ t. let b = and-yes (good x) (good y) t in read x (b .0) m* read y (b .1))
+
+-- a quotient by a literal, toward zero
+infixl 7 _:/_
+abbrev pub _:/_ : Num → ℕ → Num
+x :/ d = made (good x && ltb 0 d) (λ t. let b = and-yes (good x) (ltb 0 d) t in let m = read x (b .0) in
+    record { is = ap (λ (a : ℤ). quotZ a (pos d)) (m .is); range = quot-under (x .z) (x .k) (ltb→lt 0 d (b .1)) (m .range) })
+
+-- the remainder of that quotient
+infixl 7 _:%_
+abbrev pub _:%_ : Num → ℕ → Num
+x :% d = made (good x && ltb 0 d) (λ t. let b = and-yes (good x) (ltb 0 d) t in
+    record { is = ap (λ (a : ℤ). remZ a (pos d)) (read x (b .0) .is); range = rem-under (x .z) (ltb→lt 0 d (b .1)) })
+
+-- the need of an operation; the value that is read back; its range
+pub fits : (x : Num) → T (good x) → SFits w64 (x .r)
+fits x t = let b = and-yes (x .ok) (small (x .k)) t in m-fits (x .mv (b .0)) (b .1)
+
+pub stored : (x : Num) → T (good x) → x .rd ≡ x .z
+stored x t = read x t .is
+
+pub bound : (x : Num) → T (x .ok) → Under (x .z) (x .k)
+bound x t = x .mv t .range
+
+-- ---- a test of two numbers: what its flag says of the numbers that are meant
+pub lt-yes : (x y : Num) → T (good x) → T (good y) → ltZ (x .rd) (y .rd) ≡ true → x .z <ℤ y .z
+lt-yes x y s t e =
+    ltZ-yes (subst T (sym (ap₂ ltZ (sym (stored x s)) (sym (stored y t)) ∙ e)) tt)
+
+pub lt-no : (x y : Num) → T (good x) → T (good y) → ltZ (x .rd) (y .rd) ≡ false → y .z ≤ℤ x .z
+lt-no x y s t e =
+    ltZ-no (subst (λ (b : Bool). T (not b)) (sym (ap₂ ltZ (sym (stored x s)) (sym (stored y t)) ∙ e)) tt)
+
+pub le-yes : (x y : Num) → T (good x) → T (good y) → leZ (x .rd) (y .rd) ≡ true → x .z ≤ℤ y .z
+le-yes x y s t e =
+    leZ-yes (subst T (sym (ap₂ leZ (sym (stored x s)) (sym (stored y t)) ∙ e)) tt)
+
+pub le-no : (x y : Num) → T (good x) → T (good y) → leZ (x .rd) (y .rd) ≡ false → y .z <ℤ x .z
+le-no x y s t e =
+    leZ-no (subst (λ (b : Bool). T (not b)) (sym (ap₂ leZ (sym (stored x s)) (sym (stored y t)) ∙ e)) tt)
+
+-- `==` tests the bits: hand it over as `ap (toZ w64) (c .if1 .taken)`
+pub eq-yes : (x y : Num) → T (good x) → T (good y) → x .rd ≡ y .rd → x .z ≡ y .z
+eq-yes x y s t e = sym (stored x s) ∙ e ∙ stored y t
+
+-- a fact of the number that is meant, as one of what is read back
+pub told : (P : ℤ → Type 0) (x : Num) → T (good x) → P (x .z) → P (x .rd)
+told P x t h = subst P (sym (stored x t)) h
+
+-- what a callee asks of an argument: its range
+pub gives : (n : ℕ) (x : Num) → T (good x) → T (leb (x .k) n) → Under (x .rd) n
+gives n x t l = told (λ y. Under y n) x t (u-more n (read x t .range) l)
+
+-- ---- casts between i64 and u64
+-- the need of `x as u64`, and its result
+pub to-u64 : (x : Num) → T (good x) → pos 0 ≤ℤ x .z → T (nonNeg (x .rd)) × Fits w64 (natAbs (x .rd))
+to-u64 x t h = told (λ y. T (nonNeg y) × Fits w64 (natAbs y)) x t (yes-nonNeg h, record { fits = size (read x t .range .under) (ltb→lt (x .k) 9223372036854775808 (and-yes (x .ok) (small (x .k)) t .1)) })
+  where
+    size : {a b : ℕ} → a ≤ b → b < 9223372036854775808 → a < 18446744073709551616
+    size l m = omega arith
+
+pub u64-is : (x : Num) → T (good x) → natAbs (x .rd) ≡ natAbs (x .z)
+u64-is x t = ap natAbs (stored x t)
+
+-- what `n as i64` reads back as
+pub i64-is : {n : ℕ} → n < 9223372036854775808 → toZ w64 n ≡ pos n
+i64-is {n} h = toZ-pos w64 n h
