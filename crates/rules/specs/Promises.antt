@@ -82,10 +82,14 @@ pub record ByFormula (h : Hour) (before : Buffers) (ufes : List ℤ) (after : Bu
   pub share-is : (i : ℕ) → i < h .count → getD (after .shares) i (pos 0) ≡ rankedShare h i
   pub charge-is : (m : ℕ) → m < members h → getD (after .charges) m (pos 0) ≡ cents (allZones h m)
   pub line-is : (m : ℕ) → m < members h → getD (after .lines) m emptyLine ≡ record { amount = allZones h m; records = recordsOf h m }
+  -- a member without records pays nothing
+  pub no-records : (m : ℕ) → m < members h → recordsOf h m ≡ 0 → (getD (after .charges) m (pos 0) ≡ pos 0) × (getD (after .lines) m emptyLine ≡ emptyLine)
   pub past-charges : drop (members h) (after .charges) ≡ drop (members h) (before .charges)
   pub past-lines : drop (members h) (after .lines) ≡ drop (members h) (before .lines)
   pub past-shares : drop (h .count) (after .shares) ≡ drop (h .count) (before .shares)
   pub past-deviations : drop (h .count) (after .deviations) ≡ drop (h .count) (before .deviations)
+  pub same-lengths : (length (after .charges) ≡ length (before .charges)) × (length (after .lines) ≡ length (before .lines))
+      × (length (after .shares) ≡ length (before .shares)) × (length (after .deviations) ≡ length (before .deviations))
 
 pub record Demand2 : Type 0 where
   pub settled : (s : List ℕ) (b : Buffers) → Accepts s b → ByFormula (hourOf hourly s) b (settle s b .ufe) (settle s b .buffers)
