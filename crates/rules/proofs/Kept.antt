@@ -1,1 +1,182 @@
--- To be written.
+-- A file that passes rows 1 to 5 keeps its ranges. Document 01, "Units and ranges", "Refusal numbers and their order".
+use mathlib.Core.Path.{_≡_, refl}
+use mathlib.Core.Bool.{Bool, true, false}
+use mathlib.Core.Option.{Option, none, some}
+use mathlib.Core.List.{List}
+use Prim.Native.Nat.{ℕ, _+_, _-_, _*_, _/_, _%_, _≤_, _<_, zero-le}
+use native.Mathlib.Omega.{arith}
+use lib.ListN.{getD}
+use lib.Dec.{ltb, leb, eqb}
+use borrow.Author.Tests.{leb-false, lt-ltb, le-ltb, ne-eqb, not-false}
+use Rattle.whole.specs.Signed.{Under}
+use Rattle.whole.proofs.Tests.{split, never, never-some}
+use Rattle.whole.proofs.Linear.{zo}
+use Rattle.whole.proofs.Ranges.{upto-pos}
+use Rattle.whole.proofs.Search.{first-none}
+use Rattle.rules.specs.declared.Kind.{Kind}
+use Rattle.rules.specs.declared.Kind.the-variants.{Generator, RealTimeLoad, ProfileLoad, Import, Export, Unknown}
+use Rattle.rules.specs.declared.Rule.{Rule}
+use Rattle.rules.specs.Record.{Hour, members, zones, areas, zonePrice, zoneOf, tieIn, tieOut, memberOf, areaOf, entry, entryOf, kindOf, signed}
+use Rattle.rules.specs.HourFile.{hourly, lengthBad, blocks, blockWord, recordCount, hourOf}
+use Rattle.rules.specs.Ranges.{firstBroken, mustBeZero, countRule, blockRule, areaRule, headRule, rowOf, recordRule}
+use Rattle.rules.specs.Refusals.{placeZeroIf, isBroken, badLength, badBlock, badHead, badWord, badRecord, layoutRows, wordRows, fileRows}
+use Rattle.rules.specs.Promises.{AllWhole}
+use Rattle.rules.specs.Kept.{EntryKept, RecordKept, AreaKept, HourKept, FileKept}
+use Rattle.rules.proofs.Words.{Holds, holds, length-is-whole}
+
+-- ---- a search that found nothing
+
+-- no broken word
+unbroken : (o : Option ℕ) → isBroken o ≡ false → o ≡ none
+unbroken none e = refl
+unbroken (some w) e = never refl e
+
+-- no first broken word: every word keeps its rule
+all-hold : (rule : ℕ → Rule) (word : ℕ → ℕ) (n : ℕ) → firstBroken rule word n ≡ none → (w : ℕ) → w < n → Holds (rule w) (word w)
+unfolding firstBroken
+all-hold rule word n e w l = holds (rule w) (word w) (not-false _ (first-none _ n e w l))
+
+-- ---- a record
+
+-- words 3 to 10 keep the rules of a row
+record RowHeld (rules : List Rule) (v : ℕ → ℕ) : Type 0 where
+  S-held : Holds (getD rules 0 mustBeZero) (v 3)
+  A-held : Holds (getD rules 1 mustBeZero) (v 4)
+  J-held : Holds (getD rules 2 mustBeZero) (v 5)
+  N-held : Holds (getD rules 3 mustBeZero) (v 6)
+  O-held : Holds (getD rules 4 mustBeZero) (v 7)
+  M-held : Holds (getD rules 5 mustBeZero) (v 8)
+  F-held : Holds (getD rules 6 mustBeZero) (v 9)
+  H-held : Holds (getD rules 7 mustBeZero) (v 10)
+
+signed-zero : (w : ℕ) → w ≤ 0 → Under (signed w) 0
+unfolding signed
+signed-zero w h = let z : w ≡ 0 = omega arith in rw z (record { under = zero-le })
+
+-- an unknown kind has no row, so that all its words are zero
+entry-kept : (K : Kind) (v : ℕ → ℕ) → RowHeld (rowOf K) v → EntryKept (entry v)
+unfolding rowOf entry
+entry-kept Generator v f = omega (arith, zo)
+entry-kept RealTimeLoad v f = omega (arith, zo)
+entry-kept ProfileLoad v f = omega (arith, zo)
+entry-kept Import v f = omega (arith, zo)
+entry-kept Export v f = omega (arith, zo)
+entry-kept Unknown v f = let j = signed-zero (v 5) (f .J-held .1) in omega (arith, zo)
+
+-- ---- an hour
+
+module _ (h : Hour) (head-whole : badHead h ≡ none) (records-whole : badRecord h ≡ none) where
+  head-holds : (w : ℕ) → w < 128 → Holds (headRule (zones h) (areas h) w) (h .head w)
+  unfolding badHead
+  head-holds w l = all-hold (headRule (zones h) (areas h)) (h .head) 128 head-whole w l
+
+  -- words 9 to 11
+  counts-held : ((1 ≤ members h) × (members h ≤ 32)) × ((1 ≤ zones h) × (zones h ≤ 4)) × ((1 ≤ areas h) × (areas h ≤ 8))
+  unfolding headRule
+  counts-held = (head-holds 9 (omega arith), head-holds 10 (omega arith), head-holds 11 (omega arith))
+
+  -- words 12 to 15
+  price-held : (z : ℕ) → z < zones h → Under (zonePrice h z) 1000000
+  unfolding headRule zonePrice
+  price-held z l =
+      let few : zones h ≤ 4 = counts-held .1 .1 in
+      let w : ℕ = 12 + z in
+      let from-12 : w - 12 ≡ z = omega arith in
+      rw (le-ltb w 9 (omega arith), le-ltb w 12 (omega arith), lt-ltb w 16 (omega arith), from-12, lt-ltb z (zones h) l) at (head-holds w (omega arith))
+
+  -- word f of area a
+  area-holds : (a f w : ℕ) → a < areas h → f < 4 → w ≡ 16 + 4 * a + f → Holds (areaRule (zones h) f) (h .head w)
+  unfolding headRule
+  area-holds a f w l m e =
+      let few : areas h ≤ 8 = counts-held .2 .1 in
+      let area-is : (w - 16) / 4 ≡ a = omega arith in
+      let word-is : (w - 16) % 4 ≡ f = omega arith in
+      rw (le-ltb w 9 (omega arith), le-ltb w 12 (omega arith), le-ltb w 16 (omega arith), lt-ltb w 48 (omega arith), area-is, word-is, lt-ltb a (areas h) l) at (head-holds w (omega arith))
+
+  area-kept : (a : ℕ) → a < areas h → AreaKept h a
+  unfolding areaRule zoneOf tieIn tieOut
+  area-kept a l = record {
+    zone-there = area-holds a 0 (16 + 4 * a) l (omega arith) (omega arith);
+    tie-in = upto-pos _ _ (area-holds a 1 (17 + 4 * a) l (omega arith) (omega arith) .1);
+    tie-out = upto-pos _ _ (area-holds a 2 (18 + 4 * a) l (omega arith) (omega arith) .1);
+  }
+
+  word-holds : (i w : ℕ) → i < h .count → w < 12 → Holds (recordRule (members h) (areas h) (h .rec i 0) w) (h .rec i w)
+  unfolding badRecord badWord
+  word-holds i w l m = all-hold (recordRule (members h) (areas h) (h .rec i 0)) (h .rec i) 12 (unbroken _ (first-none _ (h .count) records-whole i l)) w m
+
+  row-held : (i : ℕ) → i < h .count → RowHeld (rowOf (kindOf (h .rec i 0))) (h .rec i)
+  unfolding recordRule
+  row-held i l = record {
+    S-held = word-holds i 3 l (omega arith);
+    A-held = word-holds i 4 l (omega arith);
+    J-held = word-holds i 5 l (omega arith);
+    N-held = word-holds i 6 l (omega arith);
+    O-held = word-holds i 7 l (omega arith);
+    M-held = word-holds i 8 l (omega arith);
+    F-held = word-holds i 9 l (omega arith);
+    H-held = word-holds i 10 l (omega arith);
+  }
+
+  record-kept : (i : ℕ) → i < h .count → RecordKept h i
+  unfolding recordRule memberOf areaOf entryOf entry
+  record-kept i l =
+      let kind-held : (1 ≤ h .rec i 0) × (h .rec i 0 ≤ 5) = word-holds i 0 l (omega arith) in
+      let kept = entry-kept (kindOf (h .rec i 0)) (h .rec i) (row-held i l) in record {
+        kind-least = kind-held .0;
+        kind-most = kind-held .1;
+        member-there = word-holds i 1 l (omega arith);
+        area-there = word-holds i 2 l (omega arith);
+        demand-most = omega (arith, zo);
+        entry-kept = kept;
+      }
+
+  -- An hour of at most 250 records whose head and records pass rows 4 and 5 keeps the ranges of document 01.
+  pub hour-kept : h .count ≤ 250 → HourKept h
+  hour-kept few = record {
+    members-least = counts-held .0 .0;
+    members-most = counts-held .0 .1;
+    zones-least = counts-held .1 .0;
+    zones-most = counts-held .1 .1;
+    areas-least = counts-held .2 .0;
+    areas-most = counts-held .2 .1;
+    count-most = few;
+    price-in = price-held;
+    area-kept = area-kept;
+    record-kept = record-kept;
+  }
+
+-- ---- a file
+
+no-place : (b : Bool) → placeZeroIf b ≡ none → b ≡ false
+no-place true e = never-some e
+no-place false e = refl
+
+module _ (s : List ℕ) (length-whole : badLength hourly s ≡ none) (blocks-whole : badBlock hourly s ≡ none) where
+  length-good : lengthBad hourly s ≡ false
+  unfolding badLength
+  length-good = no-place (lengthBad hourly s) length-whole
+
+  -- word 2 of a block other than the first: at most ten records
+  held-most : (b : ℕ) → 1 ≤ b → b < blocks s → blockWord s b 2 ≤ 10
+  unfolding badBlock blockRule countRule
+  held-most b l m =
+      let other : eqb b 0 ≡ false = ne-eqb b 0 (λ e. omega arith) in
+      let k = all-hold (blockRule hourly (blocks s) (blockWord s b 2) b) (blockWord s b) 128 (unbroken _ (first-none _ (blocks s) blocks-whole b m)) 2 (omega arith) in
+      split (ltb (b + 1) (blocks s)) (λ e. (rw (other, e) at k) .1) (λ e. (rw (other, e) at k) .1)
+
+  -- at most 26 blocks: 24 full ones between the first and the last
+  count-most : hourOf hourly s .count ≤ 250
+  unfolding hourOf recordCount
+  count-most = let n = length-is-whole hourly s length-good in split (leb (blocks s) 1)
+      (λ e. rw e zero-le)
+      (λ e. let m : 1 < blocks s = leb-false (blocks s) 1 e in
+      let held : blockWord s (blocks s - 1) 2 ≤ 10 = held-most (blocks s - 1) (omega arith) (omega arith) in
+      rw e (omega arith))
+
+-- A file whose rows 1 to 5 are whole keeps the ranges of document 01.
+pub file-kept : (s : List ℕ) → AllWhole (fileRows s) → FileKept s
+unfolding fileRows layoutRows wordRows
+file-kept s e =
+    let h = hourOf hourly s in
+    record { length-good = length-good s (e .0) (e .1 .1 .0); hour-kept = hour-kept h (e .1 .1 .1 .0) (e .1 .1 .1 .1 .0) (count-most s (e .0) (e .1 .1 .0)) }

@@ -4,6 +4,7 @@ pub mod Posting
 pub mod Shares
 pub mod Text
 pub mod Rows
+pub mod Words
 pub mod Kept
 pub mod Bounds
 pub mod Fair
