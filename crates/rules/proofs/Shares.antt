@@ -1,1 +1,225 @@
--- To be written.
+-- A size shared in whole units: handing the units left over out one at a time gives them by rank, the shares add up to the size, and
+-- each is less than a unit from its exact fraction. Who takes no part may as well demand 0.
+use Prim.Native.Nat.{ℕ, zero, suc, _+_, _-_, _*_, _/_, _%_, _≤_, _<_, zero-le}
+use native.Mathlib.Nat.{not-suc-le-zero, le-refl, le-trans, div-add-mod', mod-lt, le-of-mul-le-mul-right, sub-add-cancel, mul-zero, zero-mul, zero-div, zero-mod, zero-sub}
+use native.Mathlib.Omega.{arith}
+use mathlib.Core.Path.{_≡_, refl, sym, _∙_, ap, ap₂, subst}
+use mathlib.Core.Bool.{Bool, true, false, not, cond, _&&_, _||_}
+use mathlib.Core.Option.{Option, none, some}
+use lib.IntN.{ℤ, pos, natAbs}
+use lib.Dec.{ltb, eqb}
+use borrow.Author.Tests.{ltb-true, ltb-false, eqb-true, eqb-false, not-true, not-false, lt-ltb, le-ltb, eq-eqb, ne-eqb}
+use Rattle.whole.specs.Below.{oneIf, countBelow, sumBelow}
+use Rattle.whole.specs.Signed.{withSignOf}
+use Rattle.whole.proofs.Tests.{split, never, both, and-ext, and-mono, last-or-below}
+use Rattle.whole.proofs.Sums.{count-ext, count-mono, sum-ext, sum-mono, sum-at, sum-add, sum-mul, sum-one-if, sum-zero}
+use Rattle.whole.proofs.Rank.{Order, by-key, why-ahead, count-served}
+use Rattle.whole.proofs.Handing.{Handing, handed}
+use Rattle.rules.specs.Share.{better, firstLargest, isAt, handedOut, allDemand, wholePart, remainder, unitsLeft, shareSize, share}
+use Rattle.rules.specs.Promises.{ahead, rankedSize}
+
+-- ---- the first largest of those that wait
+
+module _ (rem : ℕ → ℕ) (waits : ℕ → Bool) where
+  record FirstLargestAt (m b : ℕ) : Type 0 where
+    there : b < m
+    waiting : waits b ≡ true
+    largest : (j : ℕ) → j < m → waits j ≡ true → rem j ≤ rem b
+    first : (j : ℕ) → j < b → waits j ≡ true → rem j < rem b
+
+  abbrev Chosen : Option ℕ → ℕ → Type 0
+  Chosen none m = (j : ℕ) → j < m → waits j ≡ false
+  Chosen (some b) m = FirstLargestAt m b
+
+  -- place m doesn't wait
+  passed : (o : Option ℕ) (m : ℕ) → waits m ≡ false → Chosen o m → Chosen o (suc m)
+  passed none m f c = λ j l. last-or-below j m l (λ e. rw e f) (c j)
+  passed (some b) m f c = record {
+    there = omega (arith, c .there);
+    waiting = c .waiting;
+    largest = λ j l w. last-or-below j m l (λ e. never (rw e at w) f) (λ k. c .largest j k w);
+    first = c .first;
+  }
+
+  -- it waits, and is better than what was chosen, or not
+  compared : (o : Option ℕ) (m : ℕ) → waits m ≡ true → Chosen o m → Chosen (better rem o m) (suc m)
+  unfolding better
+  compared none m t c = record {
+    there = le-refl (suc m);
+    waiting = t;
+    largest = λ j l w. last-or-below j m l (λ e. rw e (le-refl (rem m))) (λ k. never w (c j k));
+    first = λ j l w. never w (c j l);
+  }
+  compared (some b) m t c = split (ltb (rem b) (rem m))
+      (λ s. let more = ltb-true (rem b) (rem m) s in rw s (record {
+        there = le-refl (suc m);
+        waiting = t;
+        largest = λ j l w. last-or-below j m l (λ e. rw e (le-refl (rem m))) (λ k. omega (arith, c .largest j k w));
+        first = λ j l w. omega (arith, c .largest j l w);
+      }))
+      (λ s. let less = ltb-false (rem b) (rem m) s in rw s (record {
+        there = omega (arith, c .there);
+        waiting = c .waiting;
+        largest = λ j l w. last-or-below j m l (λ e. rw e less) (λ k. c .largest j k w);
+        first = c .first;
+      }))
+
+  chosen : (m : ℕ) → Chosen (firstLargest rem waits m) m
+  unfolding firstLargest
+  chosen zero = λ j l. absurd (not-suc-le-zero l)
+  chosen (suc m) = split (waits m) (λ t. rw t (compared (firstLargest rem waits m) m t (chosen m))) (λ f. rw f (passed (firstLargest rem waits m) m f (chosen m)))
+
+  none-waits : (m : ℕ) → firstLargest rem waits m ≡ none → (j : ℕ) → j < m → waits j ≡ false
+  none-waits m e = subst (λ (o : Option ℕ). Chosen o m) e (chosen m)
+
+  found : (m b : ℕ) → firstLargest rem waits m ≡ some b → FirstLargestAt m b
+  found m b e = subst (λ (o : Option ℕ). Chosen o m) e (chosen m)
+
+-- ---- handing out is by rank
+
+pub in-order : (rem : ℕ → ℕ) → Order (ahead rem)
+unfolding ahead
+in-order rem = by-key rem
+
+larger : (rem : ℕ → ℕ) (j i : ℕ) → rem i < rem j → ahead rem j i ≡ true
+unfolding ahead
+larger rem j i l = rw (lt-ltb (rem i) (rem j) l)
+
+not-ahead : (rem : ℕ → ℕ) (j i : ℕ) → rem j ≤ rem i → (j < i → rem j < rem i) → ahead rem j i ≡ false
+unfolding ahead
+not-ahead rem j i l m = split (ahead rem j i) (λ t. why-ahead rem j i t (λ k. absurd (omega arith)) (λ e k. absurd (let s = m k in omega arith))) (λ f. f)
+
+module _ (rem : ℕ → ℕ) (takes : ℕ → Bool) (n : ℕ) where
+  abbrev has : ℕ → ℕ → Bool
+  has k = handedOut rem takes n k
+
+  abbrev waits : ℕ → ℕ → Bool
+  waits k j = takes j && not (has k j)
+
+  abbrev pick : ℕ → Option ℕ
+  pick k = firstLargest rem (waits k) n
+
+  handing : Handing (ahead rem) takes n has pick
+  unfolding handedOut isAt
+  handing = record {
+    nobody = λ i l. refl;
+    gives = λ k b e i l. rw e;
+    none-left = λ k e i l t. not-false (has k i) (rw t at (none-waits rem (waits k) n e i l));
+    there = λ k b e. found rem (waits k) n b e .there;
+    taker = λ k b e. both (takes b) (not (has k b)) (found rem (waits k) n b e .waiting) .0;
+    has-none = λ k b e. not-true (has k b) (both (takes b) (not (has k b)) (found rem (waits k) n b e .waiting) .1);
+    first-of = λ k b e j l t f.
+        let w : waits k j ≡ true = rw (t, f) in
+        let c = found rem (waits k) n b e in
+        not-ahead rem j b (c .largest j l w) (λ m. c .first j m w);
+  }
+
+-- Of k units handed out one at a time, a taker has one exactly if fewer than k takers stand ahead of it.
+pub handing-is-rank : (rem : ℕ → ℕ) (takes : ℕ → Bool) (n k : ℕ) → k ≤ countBelow takes n → (i : ℕ) → i < n →
+    handedOut rem takes n k i ≡ (takes i && ltb (countBelow (λ j. takes j && ahead rem j i) n) k)
+handing-is-rank rem takes n k h i l = handed (in-order rem) (handing rem takes n) k h i l
+
+-- ---- where somebody demands something
+
+-- the sum of whole multiples of t and rests, over takers alone
+cond-parts : (b : Bool) (w t r x : ℕ) → w * t + r ≡ x → cond b w 0 * t + cond b r 0 ≡ cond b x 0
+cond-parts true w t r x e = e
+cond-parts false w t r x e = omega arith
+
+cond-mul : (b : Bool) (d u : ℕ) → cond b (d * u) 0 ≡ cond b d 0 * u
+cond-mul true d u = refl
+cond-mul false d u = omega arith
+
+module _ (takes : ℕ → Bool) (D : ℕ → ℕ) (n U : ℕ) (some-demand : 0 < allDemand takes D n) where
+  abbrev T : ℕ
+  T = allDemand takes D n
+
+  abbrev W : ℕ → ℕ
+  W = wholePart takes D n U
+
+  abbrev R : ℕ → ℕ
+  R = remainder takes D n U
+
+  abbrev left : ℕ
+  left = unitsLeft takes D n U
+
+  abbrev wholeParts : ℕ
+  wholeParts = sumBelow (λ i. cond (takes i) (W i) 0) n
+
+  abbrev remainders : ℕ
+  remainders = sumBelow (λ i. cond (takes i) (R i) 0) n
+
+  parts : (i : ℕ) → W i * T + R i ≡ D i * U
+  unfolding wholePart remainder
+  parts i = div-add-mod' (D i * U) T
+
+  below-T : (i : ℕ) → R i < T
+  unfolding remainder
+  below-T i = mod-lt (D i * U) some-demand
+
+  all-parts : wholeParts * T + remainders ≡ T * U
+  unfolding allDemand
+  all-parts =
+      ap (λ (x : ℕ). x + remainders) (sym (sum-mul (λ i. cond (takes i) (W i) 0) T n))
+      ∙ sym (sum-add (λ i. cond (takes i) (W i) 0 * T) (λ i. cond (takes i) (R i) 0) n)
+      ∙ sum-ext _ _ n (λ i l. cond-parts (takes i) (W i) T (R i) (D i * U) (parts i) ∙ cond-mul (takes i) (D i) U)
+      ∙ sum-mul (λ i. cond (takes i) (D i) 0) U n
+
+  -- The whole parts and the units left over are the size that is shared.
+  pub whole-parts-and-left : left + wholeParts ≡ U
+  unfolding unitsLeft
+  whole-parts-and-left = sub-add-cancel (le-of-mul-le-mul-right {k = T} (omega (arith, all-parts)) some-demand)
+
+  left-are-remainders : left * T ≡ remainders
+  left-are-remainders =
+      let e : wholeParts * T + remainders ≡ T * (left + wholeParts) = rw whole-parts-and-left all-parts in
+      omega arith
+
+  -- No more units are left over than takers have a remainder.
+  pub left-few : left ≤ countBelow (λ j. takes j && ltb 0 (R j)) n
+  left-few = le-of-mul-le-mul-right {k = T} (le-trans (omega (arith, left-are-remainders)) (le-trans
+      (sum-mono (λ i. cond (takes i) (R i) 0) (λ j. oneIf (takes j && ltb 0 (R j)) * T) n (λ j l. one (takes j) (R j) (below-T j)))
+      (omega (arith, sum-mul (λ j. oneIf (takes j && ltb 0 (R j))) T n, ap (λ (x : ℕ). x * T) (sum-one-if (λ j. takes j && ltb 0 (R j)) n))))) some-demand
+    where
+      one : (b : Bool) (r : ℕ) → r < T → cond b r 0 ≤ oneIf (b && ltb 0 r) * T
+      one false r l = zero-le
+      one true r l = split (ltb 0 r) (λ e. rw e (omega arith)) (λ e. rw e (omega (arith, ltb-false 0 r e)))
+
+  left-at-most-takers : left ≤ countBelow takes n
+  left-at-most-takers = le-trans left-few (count-mono _ _ n (λ j l t. both (takes j) (ltb 0 (R j)) t .0))
+
+  -- how many takers stand ahead of i
+  abbrev rank : ℕ → ℕ
+  rank i = countBelow (λ j. takes j && ahead R j i) n
+
+  handed-by-rank : (i : ℕ) → i < n → handedOut R takes n left i ≡ (takes i && ltb (rank i) left)
+  handed-by-rank = handing-is-rank R takes n left left-at-most-takers
+
+  size-is : (i : ℕ) → i < n → shareSize takes D n U i ≡ cond (takes i) (W i) 0 + oneIf (takes i && ltb (rank i) left)
+  unfolding shareSize
+  size-is i l = rw (ne-eqb T 0 (λ e. omega arith), handed-by-rank i l) (taker (takes i) (W i) (ltb (rank i) left))
+    where
+      taker : (b : Bool) (w : ℕ) (u : Bool) → cond (b && true) (w + oneIf (b && u)) 0 ≡ cond b w 0 + oneIf (b && u)
+      taker true w u = refl
+      taker false w u = refl
+
+  -- The shares add up to the size that is shared.
+  pub sizes-add-up : sumBelow (shareSize takes D n U) n ≡ U
+  sizes-add-up =
+      sum-ext _ _ n size-is
+      ∙ sum-add (λ i. cond (takes i) (W i) 0) (λ i. oneIf (takes i && ltb (rank i) left)) n
+      ∙ ap (λ (x : ℕ). wholeParts + x) (sum-one-if (λ i. takes i && ltb (rank i) left) n ∙ count-served (ahead R) (in-order R) takes n left left-at-most-takers)
+      ∙ omega (arith, whole-parts-and-left)
+
+  -- who gets one of the units left over has a remainder
+  has-remainder : (i : ℕ) → rank i < left → 0 < R i
+  has-remainder i h = split (ltb 0 (R i)) (λ e. ltb-true 0 (R i) e) (λ e. absurd (
+      let none : R i ≤ 0 = ltb-false 0 (R i) e in
+      let m = count-mono (λ j. takes j && ltb 0 (R j)) (λ j. takes j && ahead R j i) n (λ j l. and-mono (takes j) _ _ (λ p. larger R j i (omega (arith, ltb-true 0 (R j) p)))) in
+      omega (arith, left-few)))
+
+  -- Each share is less than a unit from its exact fraction.
+  pub size-near : (i : ℕ) → i < n → takes i ≡ true → (shareSize takes D n U i * T < D i * U + T) × (D i * U < shareSize takes D n U i * T + T)
+  size-near i l t = split (ltb (rank i) left)
+      (λ e. let p = has-remainder i (ltb-true (rank i) left e) in rw (size-is i l, t, e) (omega (arith, parts i, below-T i)))
+      (λ e. rw (size-is i l, t, e) (omega (arith, parts i, below-T i)))
