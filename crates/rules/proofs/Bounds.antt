@@ -30,9 +30,11 @@ use Rattle.rules.specs.Kept.{EntryKept, HourKept}
 
 -- ---- a record
 
+-- M and N are not negative, so that only A and O count
 unavailable-under : (M A O N : ℤ) → Upto M 100000 → Upto A 100000 → Upto O 100000 → Upto N 100000 → Under (minℤ (pos 0) (M -ℤ A -ℤ (O -ℤ N))) 200000
 unavailable-under = all4 _ (λ M A O N. simp zr (omega arith))
 
+-- the bound is reached at both ends of H
 loss-rate-under : (H : ℤ) → Upto H 20000 → Under (unitsPerKWh -ℤ H) 10000
 loss-rate-under = all1 _ (λ H. simp zr (omega arith))
 
@@ -71,7 +73,7 @@ module _ {r : Entry} (kept : EntryKept r) where
   deviation-as-under Export = u-more 9000000000 export-under tt
   deviation-as-under Unknown = u-zero
 
-  -- No deviation is over 9×10^9 units in size, nor is what enters an amount.
+  -- No deviation is over 9×10^9 units in size, and none as it enters an amount.
   pub deviation-under : Under (deviation r) 9000000000
   unfolding deviation
   deviation-under = deviation-as-under (r .kind)
@@ -88,17 +90,17 @@ module _ {r : Entry} (kept : EntryKept r) where
   unfolding entering
   entering-under = entering-as-under (r .kind)
 
-  generated-under : Under (unitsPerKWh *ℤ r .A) 1000000000
-  generated-under = units-under (u-upto A-in)
+  metered-under : Under (unitsPerKWh *ℤ r .A) 1000000000
+  metered-under = units-under (u-upto A-in)
 
   lost-under : Under (r .A *ℤ (unitsPerKWh -ℤ r .H)) 1000000000
   lost-under = u-upto A-in u* loss-rate-under (r .H) H-in
 
   accounted-as-under : (k : Kind) → Under (accountedAs k (r .A) (r .H)) 2000000000
   unfolding accountedAs
-  accounted-as-under Generator = generated-under u- lost-under
-  accounted-as-under RealTimeLoad = u-more 2000000000 (u-neg generated-under) tt
-  accounted-as-under ProfileLoad = u-more 2000000000 (u-neg generated-under) tt
+  accounted-as-under Generator = metered-under u- lost-under
+  accounted-as-under RealTimeLoad = u-more 2000000000 (u-neg metered-under) tt
+  accounted-as-under ProfileLoad = u-more 2000000000 (u-neg metered-under) tt
   accounted-as-under Import = u-more 2000000000 (u-neg lost-under) tt
   accounted-as-under Export = u-zero
   accounted-as-under Unknown = u-zero
@@ -149,7 +151,7 @@ module _ (ufe-by-record : (h : Hour) (a : ℕ) → ufe h a ≡ unitsPerKWh *ℤ 
   pub ufe-under : (a : ℕ) → a < areas h → Under (ufe h a) 1000000000000
   ufe-under a l = rw (ufe-by-record h a) (u-more 1000000000000 (ties-under a l u+ energy-running a (h .count) (le-refl (h .count))) tt)
 
-  -- its ties, and 2×10^9 for each of its records
+  -- its ties, and 2×10^9 for each of its records: each record counts in one area, so that the areas together stay below eight times the above
   ufe-within : (a : ℕ) → a < areas h → Under (ufe h a) (100000000000 + sumBelow (λ i. cond (eqb (areaOf h i) a) 2000000000 0) (h .count))
   ufe-within a l = rw (ufe-by-record h a) (ties-under a l u+ total-within _ _ (h .count) (λ i m. u-picked (eqb (areaOf h i) a) (energy-at i m)))
 
