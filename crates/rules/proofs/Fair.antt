@@ -43,6 +43,41 @@ near-with-sign : (U : ℤ) (s t d : ℕ) → s * t < d * natAbs U + t → d * na
 near-with-sign (pos u) s t d p q = simp zr (omega arith)
 near-with-sign (negsuc u) s t d p q = simp zr (omega arith)
 
+-- ---- half a cent
+
+half-cent : (g : ℤ) → Under (cents g *ℤ pos 10000000 -ℤ g) 5000000
+unfolding cents nearestCent
+half-cent g = nearest-half g 5000000 (omega arith)
+
+-- ---- the deviations of an area, kind by kind and record by record
+
+by-kind : (b : Bool) (k : Kind) (r : Entry) →
+    cond (b && isGenerator k) (generatorDeviation r) (pos 0) -ℤ cond (b && isLoad k) (loadDeviation r) (pos 0)
+    +ℤ cond (b && isImport k) (importDeviation r) (pos 0) -ℤ cond (b && isExport k) (exportDeviation r) (pos 0)
+    ≡ cond b (enteringAs k (deviationAs r k)) (pos 0)
+by-kind false k r = refl
+by-kind true Generator r = simp +ℤ-idr
+by-kind true RealTimeLoad r = simp (+ℤ-idl, +ℤ-idr)
+by-kind true ProfileLoad r = simp (+ℤ-idl, +ℤ-idr)
+by-kind true Import r = simp (+ℤ-idl, +ℤ-idr)
+by-kind true Export r = simp +ℤ-idl
+by-kind true Unknown r = refl
+
+area-deviations : (h : Hour) (a : ℕ) →
+    areaSum h a isGenerator generatorDeviation -ℤ areaSum h a isLoad loadDeviation
+    +ℤ areaSum h a isImport importDeviation -ℤ areaSum h a isExport exportDeviation
+    ≡ totalBelow (λ i. cond (eqb (areaOf h i) a) (entering (entryOf h i)) (pos 0)) (h .count)
+unfolding areaSum inArea entering deviation
+area-deviations h a =
+    sym (total-sub (λ i. of isGenerator generatorDeviation i -ℤ of isLoad loadDeviation i +ℤ of isImport importDeviation i) (of isExport exportDeviation) (h .count)
+    ∙ ap (λ (z : ℤ). z -ℤ totalBelow (of isExport exportDeviation) (h .count)) (
+    total-add (λ i. of isGenerator generatorDeviation i -ℤ of isLoad loadDeviation i) (of isImport importDeviation) (h .count)
+    ∙ ap (λ (z : ℤ). z +ℤ totalBelow (of isImport importDeviation) (h .count)) (total-sub (of isGenerator generatorDeviation) (of isLoad loadDeviation) (h .count))))
+    ∙ total-ext _ _ (h .count) (λ i l. by-kind (eqb (areaOf h i) a) (entryOf h i .kind) (entryOf h i))
+  where
+    of : (Kind → Bool) → (Entry → ℤ) → ℕ → ℤ
+    of kinds figure i = cond (eqb (areaOf h i) a && kinds (entryOf h i .kind)) (figure (entryOf h i)) (pos 0)
+
 module _ (h : Hour) where
   -- the size that record i has of area a's UFE, 0 for what is no load of it
   abbrev sizeIn : ℕ → ℕ → ℕ
@@ -97,3 +132,40 @@ module _ (h : Hour) where
         ∙ total-with-sign (ufe h a) (sizeIn a) (h .count)
         ∙ ap (withSignOf (ufe h a)) (sizes-are-ufe a l)
         ∙ own-sign (ufe h a)
+
+    -- ---- the pool: the amounts of all members are those of all areas
+
+    abbrev e : ℕ → ℤ
+    e i = entering (entryOf h i)
+
+    by-member : totalBelow (amount h) (members h) ≡ totalBelow (grains h) (h .count)
+    unfolding amount
+    by-member =
+        total-swap (λ m i. cond (eqb (memberOf h i) m) (grains h i) (pos 0)) (members h) (h .count)
+        ∙ total-ext _ _ (h .count) (λ i l. total-pick (λ m. grains h i) (members h) (memberOf h i) (ok .member-there i l))
+
+    of-area : (a : ℕ) → a < areas h →
+        price h a *ℤ (totalBelow (λ i. cond (eqb (areaOf h i) a) (e i) (pos 0)) (h .count) +ℤ ufe h a)
+        ≡ totalBelow (λ i. cond (eqb (areaOf h i) a) (price h a *ℤ (e i +ℤ shareOf h i)) (pos 0)) (h .count)
+    of-area a l =
+        ap (λ (u : ℤ). price h a *ℤ (totalBelow (λ i. cond (eqb (areaOf h i) a) (e i) (pos 0)) (h .count) +ℤ u)) (sym (shares-add-up a l))
+        ∙ ap (λ (u : ℤ). price h a *ℤ u) (sym (total-add (λ i. cond (eqb (areaOf h i) a) (e i) (pos 0)) (λ i. cond (eqb (areaOf h i) a) (shareOf h i) (pos 0)) (h .count)))
+        ∙ sym (total-mul (price h a) (λ i. cond (eqb (areaOf h i) a) (e i) (pos 0) +ℤ cond (eqb (areaOf h i) a) (shareOf h i) (pos 0)) (h .count))
+        ∙ total-ext _ _ (h .count) (λ i m. split (eqb (areaOf h i) a) (λ t. rw t) (λ f. rw f (*ℤ-zero (price h a))))
+
+    by-area : poolTotal h ≡ totalBelow (grains h) (h .count)
+    unfolding poolTotal grains
+    by-area =
+        total-ext _ _ (areas h) (λ a l. ap (λ (d : ℤ). price h a *ℤ (d +ℤ ufe h a)) (area-deviations h a) ∙ of-area a l)
+        ∙ total-swap (λ a i. cond (eqb (areaOf h i) a) (price h a *ℤ (e i +ℤ shareOf h i)) (pos 0)) (areas h) (h .count)
+        ∙ total-ext _ _ (h .count) (λ i l. total-pick (λ a. price h a *ℤ (e i +ℤ shareOf h i)) (areas h) (areaOf h i) (ok .area-there i l))
+
+    -- All charges together are within half a cent a member of the pool's total.
+    pub pooled : natAbs (totalBelow (charge h) (members h) *ℤ pos 10000000 -ℤ poolTotal h) ≤ 5000000 * members h
+    unfolding charge
+    pooled =
+        let u = total-under (λ m. charge h m *ℤ pos 10000000 -ℤ amount h m) 5000000 (members h) (λ m l. half-cent (amount h m)) in
+        le-trans (subst (λ (z : ℤ). Under z (members h * 5000000))
+        (total-sub (λ m. charge h m *ℤ pos 10000000) (amount h) (members h)
+        ∙ ap₂ (λ (x y : ℤ). x -ℤ y) (total-times (charge h) (pos 10000000) (members h)) (by-member ∙ sym by-area)) u .under)
+        (omega arith)
