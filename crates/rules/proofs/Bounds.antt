@@ -27,6 +27,7 @@ use Rattle.rules.specs.Charge.{enteringAs, entering, nearestCent, cents,
 use Rattle.rules.specs.Posting.{accountedAs, accounted}
 use Rattle.rules.specs.Refusals.{badAmount}
 use Rattle.rules.specs.Kept.{EntryKept, HourKept}
+use Rattle.rules.proofs.Tariff.{ufe-by-record}
 
 -- ---- a record
 
@@ -112,8 +113,7 @@ module _ {r : Entry} (kept : EntryKept r) where
 
 -- ---- sums over the records
 
-module _ (ufe-by-record : (h : Hour) (a : ℕ) → ufe h a ≡ unitsPerKWh *ℤ (tieIn h a -ℤ tieOut h a) +ℤ totalBelow (λ i. cond (eqb (areaOf h i) a) (accounted (entryOf h i)) (pos 0)) (h .count))
-    (share-sizes-at-most : (h : Hour) (a : ℕ) → sumBelow (λ i. cond (eqb (areaOf h i) a) (natAbs (shareOf h i)) 0) (h .count) ≤ natAbs (ufe h a))
+module _ (share-sizes-at-most : (h : Hour) (a : ℕ) → sumBelow (λ i. cond (eqb (areaOf h i) a) (natAbs (shareOf h i)) 0) (h .count) ≤ natAbs (ufe h a))
     {h : Hour} (kept : HourKept h) where
   -- A running sum of an area's demands is at most 25,000,000 kWh.
   pub demand-running : (a n : ℕ) → n ≤ h .count → sumBelow (λ i. cond (inArea h a isLoad i) (demand h i) 0) n ≤ 25000000

@@ -1,1 +1,171 @@
--- To be written.
+-- Demand 3, for every hour whose records name members and areas that are there and whose areas without demand have no UFE: shares add
+-- up to the UFE, and shares, charges and the pool keep their distances.
+use Prim.Native.Nat.{ℕ, suc, _+_, _*_, _≤_, _<_, zero-le}
+use native.Mathlib.Nat.{le-trans, le-of-eq, le-of-lt, eq-zero-or-pos}
+use native.Mathlib.Omega.{arith}
+use mathlib.Core.Path.{_≡_, refl, sym, _∙_, ap, ap₂, subst}
+use mathlib.Core.Logic.{⊎-elim}
+use mathlib.Core.Bool.{Bool, true, false, not, cond, and-false, and-true, _&&_}
+use lib.IntN.{ℤ, pos, negsuc, negℤ, natAbs, +ℤ-idl, +ℤ-idr, zero-*ℤ, *ℤ-zero, _+ℤ_, _-ℤ_, _*ℤ_}
+use lib.Dec.{eqb}
+use borrow.Author.Tests.{eqb-true, eqb-false, eq-eqb, ne-eqb, not-true}
+use Rattle.whole.specs.Below.{sumBelow, totalBelow}
+use Rattle.whole.specs.Signed.{Under, withSignOf}
+use Rattle.whole.proofs.Tests.{split, both}
+use Rattle.whole.proofs.Linear.{zr, all5}
+use Rattle.whole.proofs.Ranges.{_u+_, _u*_, u-lit, u-le, abs-with-sign}
+use Rattle.whole.proofs.Sums.{sum-ext, sum-mul, product-but}
+use Rattle.whole.proofs.Totals.{total-ext, total-add, total-sub, total-mul, total-times, total-swap, total-pick, total-within, total-under, total-with-sign, own-sign, sign-of-zero}
+use Rattle.whole.proofs.Division.{nearest-half}
+use Rattle.rules.specs.declared.Kind.{Kind}
+use Rattle.rules.specs.declared.Kind.the-variants.{Generator, RealTimeLoad, ProfileLoad, Import, Export, Unknown}
+use Rattle.rules.specs.Record.{Hour, Entry, members, areas, price, memberOf, areaOf, entryOf, isGenerator, isLoad, isImport, isExport}
+use Rattle.rules.specs.Deviation.{generatorDeviation, loadDeviation, importDeviation, exportDeviation, deviation, deviationAs}
+use Rattle.rules.specs.Ufe.{inArea, areaSum, ufe, demand, demands}
+use Rattle.rules.specs.Share.{allDemand, shareSize, share}
+use Rattle.rules.specs.Charge.{entering, enteringAs, nearestCent, cents, shareOf, grains, amount, charge, poolTotal}
+use Rattle.rules.specs.Promises.{nonZeroT, allT, otherT, exactFraction, unrounded, loadPrices, Fair}
+use Rattle.rules.proofs.Shares.{nothing-for-others, nothing-without-demand, sizes-add-up, sizes-at-most, size-near}
+
+pub record Sound (h : Hour) : Type 0 where
+  pub member-there : (i : ℕ) → i < h .count → memberOf h i < members h
+  pub area-there : (i : ℕ) → i < h .count → areaOf h i < areas h
+  pub no-demand-no-ufe : (a : ℕ) → a < areas h → demands h a ≡ 0 → ufe h a ≡ pos 0
+
+-- ---- a record's share among those of an area
+
+cond-abs : (b : Bool) (z : ℤ) → cond b (natAbs z) 0 ≡ natAbs (cond b z (pos 0))
+cond-abs true z = refl
+cond-abs false z = refl
+
+-- a size less than a unit from its exact fraction, with the sign of what is shared
+near-with-sign : (U : ℤ) (s t d : ℕ) → s * t < d * natAbs U + t → d * natAbs U < s * t + t → natAbs (withSignOf U s *ℤ pos t -ℤ pos d *ℤ U) < t
+near-with-sign (pos u) s t d p q = simp zr (omega arith)
+near-with-sign (negsuc u) s t d p q = simp zr (omega arith)
+
+-- ---- half a cent
+
+half-cent : (g : ℤ) → Under (cents g *ℤ pos 10000000 -ℤ g) 5000000
+unfolding cents nearestCent
+half-cent g = nearest-half g 5000000 (omega arith)
+
+-- ---- the deviations of an area, kind by kind and record by record
+
+by-kind : (b : Bool) (k : Kind) (r : Entry) →
+    cond (b && isGenerator k) (generatorDeviation r) (pos 0) -ℤ cond (b && isLoad k) (loadDeviation r) (pos 0)
+    +ℤ cond (b && isImport k) (importDeviation r) (pos 0) -ℤ cond (b && isExport k) (exportDeviation r) (pos 0)
+    ≡ cond b (enteringAs k (deviationAs r k)) (pos 0)
+by-kind false k r = refl
+by-kind true Generator r = simp +ℤ-idr
+by-kind true RealTimeLoad r = simp (+ℤ-idl, +ℤ-idr)
+by-kind true ProfileLoad r = simp (+ℤ-idl, +ℤ-idr)
+by-kind true Import r = simp (+ℤ-idl, +ℤ-idr)
+by-kind true Export r = simp +ℤ-idl
+by-kind true Unknown r = refl
+
+area-deviations : (h : Hour) (a : ℕ) →
+    areaSum h a isGenerator generatorDeviation -ℤ areaSum h a isLoad loadDeviation
+    +ℤ areaSum h a isImport importDeviation -ℤ areaSum h a isExport exportDeviation
+    ≡ totalBelow (λ i. cond (eqb (areaOf h i) a) (entering (entryOf h i)) (pos 0)) (h .count)
+unfolding areaSum inArea entering deviation
+area-deviations h a =
+    sym (total-sub (λ i. of isGenerator generatorDeviation i -ℤ of isLoad loadDeviation i +ℤ of isImport importDeviation i) (of isExport exportDeviation) (h .count)
+    ∙ ap (λ (z : ℤ). z -ℤ totalBelow (of isExport exportDeviation) (h .count)) (
+    total-add (λ i. of isGenerator generatorDeviation i -ℤ of isLoad loadDeviation i) (of isImport importDeviation) (h .count)
+    ∙ ap (λ (z : ℤ). z +ℤ totalBelow (of isImport importDeviation) (h .count)) (total-sub (of isGenerator generatorDeviation) (of isLoad loadDeviation) (h .count))))
+    ∙ total-ext _ _ (h .count) (λ i l. by-kind (eqb (areaOf h i) a) (entryOf h i .kind) (entryOf h i))
+  where
+    of : (Kind → Bool) → (Entry → ℤ) → ℕ → ℤ
+    of kinds figure i = cond (eqb (areaOf h i) a && kinds (entryOf h i .kind)) (figure (entryOf h i)) (pos 0)
+
+module _ (h : Hour) where
+  -- the size that record i has of area a's UFE, 0 for what is no load of it
+  abbrev sizeIn : ℕ → ℕ → ℕ
+  sizeIn a = shareSize (inArea h a isLoad) (demand h) (h .count) (natAbs (ufe h a))
+
+  no-load-no-size : (a i : ℕ) → inArea h a isLoad i ≡ false → pos 0 ≡ withSignOf (ufe h a) (sizeIn a i)
+  no-load-no-size a i f = sym (ap (withSignOf (ufe h a)) (nothing-for-others (inArea h a isLoad) (demand h) (h .count) (natAbs (ufe h a)) i f) ∙ sign-of-zero (ufe h a))
+
+  own-share : (i : ℕ) → shareOf h i ≡ withSignOf (ufe h (areaOf h i)) (sizeIn (areaOf h i) i)
+  unfolding shareOf share inArea
+  own-share i = split (isLoad (entryOf h i .kind)) (λ t. rw t) (λ f. rw f (no-load-no-size (areaOf h i) i (rw (f, and-false))))
+
+  share-in : (a i : ℕ) → cond (eqb (areaOf h i) a) (shareOf h i) (pos 0) ≡ withSignOf (ufe h a) (sizeIn a i)
+  unfolding inArea
+  share-in a i = split (eqb (areaOf h i) a)
+      (λ t. rw t (own-share i ∙ ap (λ (x : ℕ). withSignOf (ufe h x) (sizeIn x i)) (eqb-true (areaOf h i) a t)))
+      (λ f. rw f (no-load-no-size a i (rw f)))
+
+  -- The sizes of an area's shares never add up to more than the size of its UFE.
+  pub share-sizes-at-most : (a : ℕ) → sumBelow (λ i. cond (eqb (areaOf h i) a) (natAbs (shareOf h i)) 0) (h .count) ≤ natAbs (ufe h a)
+  share-sizes-at-most a = le-trans
+      (le-of-eq (sum-ext _ (sizeIn a) (h .count) (λ i l. cond-abs (eqb (areaOf h i) a) (shareOf h i) ∙ ap natAbs (share-in a i) ∙ abs-with-sign (ufe h a) (sizeIn a i))))
+      (sizes-at-most (inArea h a isLoad) (demand h) (h .count) (natAbs (ufe h a)))
+
+  -- Each share is less than one unit from its exact fraction, and 0 where the area has no demand.
+  pub near : (i : ℕ) → i < h .count → isLoad (entryOf h i .kind) ≡ true → (demands h (areaOf h i) ≡ 0 → ⊥) →
+      natAbs (shareOf h i *ℤ pos (demands h (areaOf h i)) -ℤ pos (demand h i) *ℤ ufe h (areaOf h i)) < demands h (areaOf h i)
+  unfolding demands allDemand inArea
+  near i l t some =
+      let a : ℕ = areaOf h i in
+      let q = size-near (inArea h a isLoad) (demand h) (h .count) (natAbs (ufe h a)) (omega (arith, some)) i l (rw (eq-eqb a a refl, t)) in
+      rw (own-share i) (near-with-sign (ufe h a) (sizeIn a i) (demands h a) (demand h i) (q .0) (q .1))
+
+  pub none-to-share : (i : ℕ) → i < h .count → demands h (areaOf h i) ≡ 0 → shareOf h i ≡ pos 0
+  unfolding demands allDemand
+  none-to-share i l z =
+      let a : ℕ = areaOf h i in
+      own-share i ∙ ap (withSignOf (ufe h a)) (nothing-without-demand (inArea h a isLoad) (demand h) (h .count) (natAbs (ufe h a)) i z) ∙ sign-of-zero (ufe h a)
+
+  module _ (ok : Sound h) where
+    sizes-are-ufe : (a : ℕ) → a < areas h → sumBelow (sizeIn a) (h .count) ≡ natAbs (ufe h a)
+    unfolding demands allDemand
+    sizes-are-ufe a l = ⊎-elim
+        (λ z. let u = ap natAbs (ok .no-demand-no-ufe a l z) in omega (arith, sizes-at-most (inArea h a isLoad) (demand h) (h .count) (natAbs (ufe h a))))
+        (sizes-add-up (inArea h a isLoad) (demand h) (h .count) (natAbs (ufe h a)))
+        (eq-zero-or-pos (demands h a))
+
+    -- The shares of each area add up exactly to its UFE.
+    pub shares-add-up : (a : ℕ) → a < areas h → totalBelow (λ i. cond (eqb (areaOf h i) a) (shareOf h i) (pos 0)) (h .count) ≡ ufe h a
+    shares-add-up a l =
+        total-ext _ _ (h .count) (λ i m. share-in a i)
+        ∙ total-with-sign (ufe h a) (sizeIn a) (h .count)
+        ∙ ap (withSignOf (ufe h a)) (sizes-are-ufe a l)
+        ∙ own-sign (ufe h a)
+
+    -- ---- the pool: the amounts of all members are those of all areas
+
+    abbrev e : ℕ → ℤ
+    e i = entering (entryOf h i)
+
+    by-member : totalBelow (amount h) (members h) ≡ totalBelow (grains h) (h .count)
+    unfolding amount
+    by-member =
+        total-swap (λ m i. cond (eqb (memberOf h i) m) (grains h i) (pos 0)) (members h) (h .count)
+        ∙ total-ext _ _ (h .count) (λ i l. total-pick (λ m. grains h i) (members h) (memberOf h i) (ok .member-there i l))
+
+    of-area : (a : ℕ) → a < areas h →
+        price h a *ℤ (totalBelow (λ i. cond (eqb (areaOf h i) a) (e i) (pos 0)) (h .count) +ℤ ufe h a)
+        ≡ totalBelow (λ i. cond (eqb (areaOf h i) a) (price h a *ℤ (e i +ℤ shareOf h i)) (pos 0)) (h .count)
+    of-area a l =
+        ap (λ (u : ℤ). price h a *ℤ (totalBelow (λ i. cond (eqb (areaOf h i) a) (e i) (pos 0)) (h .count) +ℤ u)) (sym (shares-add-up a l))
+        ∙ ap (λ (u : ℤ). price h a *ℤ u) (sym (total-add (λ i. cond (eqb (areaOf h i) a) (e i) (pos 0)) (λ i. cond (eqb (areaOf h i) a) (shareOf h i) (pos 0)) (h .count)))
+        ∙ sym (total-mul (price h a) (λ i. cond (eqb (areaOf h i) a) (e i) (pos 0) +ℤ cond (eqb (areaOf h i) a) (shareOf h i) (pos 0)) (h .count))
+        ∙ total-ext _ _ (h .count) (λ i m. split (eqb (areaOf h i) a) (λ t. rw t) (λ f. rw f (*ℤ-zero (price h a))))
+
+    by-area : poolTotal h ≡ totalBelow (grains h) (h .count)
+    unfolding poolTotal grains
+    by-area =
+        total-ext _ _ (areas h) (λ a l. ap (λ (d : ℤ). price h a *ℤ (d +ℤ ufe h a)) (area-deviations h a) ∙ of-area a l)
+        ∙ total-swap (λ a i. cond (eqb (areaOf h i) a) (price h a *ℤ (e i +ℤ shareOf h i)) (pos 0)) (areas h) (h .count)
+        ∙ total-ext _ _ (h .count) (λ i l. total-pick (λ a. price h a *ℤ (e i +ℤ shareOf h i)) (areas h) (areaOf h i) (ok .area-there i l))
+
+    -- All charges together are within half a cent a member of the pool's total.
+    pub pooled : natAbs (totalBelow (charge h) (members h) *ℤ pos 10000000 -ℤ poolTotal h) ≤ 5000000 * members h
+    unfolding charge
+    pooled =
+        let u = total-under (λ m. charge h m *ℤ pos 10000000 -ℤ amount h m) 5000000 (members h) (λ m l. half-cent (amount h m)) in
+        le-trans (subst (λ (z : ℤ). Under z (members h * 5000000))
+        (total-sub (λ m. charge h m *ℤ pos 10000000) (amount h) (members h)
+        ∙ ap₂ (λ (x y : ℤ). x -ℤ y) (total-times (charge h) (pos 10000000) (members h)) (by-member ∙ sym by-area)) u .under)
+        (omega arith)
