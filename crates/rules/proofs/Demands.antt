@@ -1,1 +1,112 @@
--- To be written.
+-- The customer's demands, proved for every input: refusals as the table says, figures as 003 and texts as document 01 say, sums
+-- that come out whole.
+use mathlib.Core.Path.{_≡_, refl, sym, _∙_, ap, ap₂}
+use mathlib.Core.Bool.{not, cond, _&&_, _||_}
+use mathlib.Core.Option.{none}
+use mathlib.Core.List.{List}
+use Prim.Native.Nat.{ℕ, _≤_, _<_}
+use native.Mathlib.Omega.{arith}
+use lib.IntN.{ℤ, pos, natAbs}
+use lib.ListN.{length, getD}
+use lib.Dec.{ltb, eqb}
+use borrow.Author.Tests.{ltb-false, lt-ltb}
+use Rattle.whole.specs.Below.{totalBelow}
+use Rattle.whole.proofs.Tests.{neither}
+use Rattle.whole.proofs.Sums.{count-zero}
+use Rattle.whole.proofs.Totals.{total-ext, total-zero}
+use Rattle.whole.proofs.Buffers.{getD-values, getD-replacing, drop-replacing, length-replacing}
+use Rattle.rules.specs.declared.Line.{Line}
+use Rattle.rules.specs.Record.{Hour, members, zones, areas, memberOf, areaOf, zoneOf, entryOf}
+use Rattle.rules.specs.Deviation.{deviation}
+use Rattle.rules.specs.Ufe.{ufe}
+use Rattle.rules.specs.Charge.{shareOf, grains, amount, recordsOf, cents, nearestCent, charge}
+use Rattle.rules.specs.HourFile.{hourly, hourOf}
+use Rattle.rules.specs.Refusals.{badArea, tooShort, fileRows, sumRows, hourRows}
+use Rattle.rules.specs.Settling.{Buffers, settle, filled, ufeFigures, bufferRows, settleRows, lineOf}
+use Rattle.rules.specs.Posting.{emptyLine}
+use Rattle.rules.specs.Kept.{HourKept}
+use Rattle.rules.specs.Promises.{Accepts, AllWhole, ByFormula, rankedShare, allZones}
+use Rattle.rules.proofs.Tariff.{deviation-renders, ufe-renders, amount-is-IEC}
+use Rattle.rules.proofs.Rows.{no-place, whole-parts, settle-accepts, settle-fills}
+use Rattle.rules.proofs.Kept.{file-kept}
+
+-- ---- an accepted hour
+
+-- what rows 1 to 7 say of an hour
+record Passed (h : Hour) : Type 0 where
+  kept : HourKept h
+  no-bad-area : badArea h ≡ none
+
+hour-passed : (s : List ℕ) → AllWhole (hourRows s) → Passed (hourOf hourly s)
+unfolding hourRows sumRows
+hour-passed s w = let p = whole-parts (fileRows s) (sumRows (hourOf hourly s)) .0 w in
+    record { kept = file-kept s (p .0) .hour-kept; no-bad-area = p .1 .0 }
+
+-- what row 11 says of the buffers
+record Room (h : Hour) (b : Buffers) : Type 0 where
+  charges-room : members h ≤ length (b .charges)
+  lines-room : members h ≤ length (b .lines)
+  shares-room : h .count ≤ length (b .shares)
+  deviations-room : h .count ≤ length (b .deviations)
+
+buffers-room : (h : Hour) (b : Buffers) → AllWhole (bufferRows h b) → Room h b
+unfolding bufferRows tooShort
+buffers-room h b w =
+    let c = ltb (length (b .charges)) (members h) in
+    let l = ltb (length (b .lines)) (members h) in
+    let s = ltb (length (b .shares)) (h .count) in
+    let x = neither (c || l || s) (ltb (length (b .deviations)) (h .count)) (no-place _ (w .0)) in
+    let y = neither (c || l) s (x .0) in
+    let z = neither c l (y .0) in
+    record { charges-room = ltb-false _ _ (z .0); lines-room = ltb-false _ _ (z .1); shares-room = ltb-false _ _ (y .1); deviations-room = ltb-false _ _ (x .1) }
+
+-- ---- the figures
+
+module _ (h : Hour) (kept : HourKept h) where
+  zone-there : (i : ℕ) → i < h .count → zoneOf h (areaOf h i) < zones h
+  zone-there i l = kept .area-kept (areaOf h i) (kept .record-kept i l .area-there) .zone-there
+
+  no-records-no-amount : (m : ℕ) → recordsOf h m ≡ 0 → amount h m ≡ pos 0
+  unfolding recordsOf amount
+  no-records-no-amount m e = total-ext _ _ (h .count) (λ i l. rw (count-zero (λ i. eqb (memberOf h i) m) (h .count) e i l)) ∙ total-zero (h .count)
+
+  no-records-no-charge : (m : ℕ) → recordsOf h m ≡ 0 → charge h m ≡ pos 0
+  unfolding charge cents nearestCent
+  no-records-no-charge m e = rw (no-records-no-amount m e)
+
+  by-formula : (b : Buffers) → Room h b → ByFormula h b (ufeFigures h) (filled h b)
+  unfolding ufeFigures filled lineOf charge emptyLine
+  by-formula b r =
+      let iec : (m : ℕ) → amount h m ≡ allZones h m = λ m. amount-is-IEC h m zone-there in
+      let charge-at = getD-replacing (charge h) (members h) (b .charges) in
+      let line-at = getD-replacing (lineOf h) (members h) (b .lines) in
+      record {
+        ufe-is = λ a l. getD-values (λ a. cond (ltb a (areas h)) (ufe h a) (pos 0)) 8 a (pos 0) (omega (arith, kept .areas-most)) ∙ rw (lt-ltb a (areas h) l) (ufe-renders h a);
+        deviation-is = λ i l. getD-replacing (λ i. deviation (entryOf h i)) (h .count) (b .deviations) i (pos 0) l ∙ deviation-renders (entryOf h i);
+        share-is = λ i l. getD-replacing (shareOf h) (h .count) (b .shares) i (pos 0) l ∙ ?share;
+        charge-is = λ m l. charge-at m (pos 0) l ∙ ap cents (iec m);
+        line-is = λ m l. line-at m emptyLine l ∙ ap (λ (z : ℤ). record { amount = z; records = recordsOf h m }) (iec m);
+        no-records = λ m l e. (
+          charge-at m (pos 0) l ∙ no-records-no-charge m e,
+          line-at m emptyLine l ∙ ap₂ (λ (z : ℤ) (n : ℕ). record { amount = z; records = n }) (no-records-no-amount m e) e,
+        );
+        past-charges = drop-replacing (charge h) (members h) (b .charges);
+        past-lines = drop-replacing (lineOf h) (members h) (b .lines);
+        past-shares = drop-replacing (shareOf h) (h .count) (b .shares);
+        past-deviations = drop-replacing (λ i. deviation (entryOf h i)) (h .count) (b .deviations);
+        same-lengths = (
+          length-replacing (charge h) (members h) (b .charges) (r .charges-room),
+          length-replacing (lineOf h) (members h) (b .lines) (r .lines-room),
+          length-replacing (shareOf h) (h .count) (b .shares) (r .shares-room),
+          length-replacing (λ i. deviation (entryOf h i)) (h .count) (b .deviations) (r .deviations-room),
+        );
+      }
+
+-- every figure of an accepted settling is the tariff's
+settled-by-formula : (s : List ℕ) (b : Buffers) → Accepts s b → ByFormula (hourOf hourly s) b (settle s b .ufe) (settle s b .buffers)
+unfolding settleRows
+settled-by-formula s b a =
+    let h = hourOf hourly s in
+    let p = whole-parts (hourRows s) (bufferRows h b) .0 (settle-accepts s b .0 a) in
+    let f = settle-fills s b a in
+    rw (f .0, f .1) (by-formula h (hour-passed s (p .0) .kept) b (buffers-room h b (p .1)))
