@@ -12,7 +12,8 @@ use borrow.Author.Tests.{eqb-true, eqb-false, eq-eqb, ne-eqb, not-true}
 use Rattle.whole.specs.Below.{sumBelow, totalBelow}
 use Rattle.whole.specs.Signed.{Under, withSignOf}
 use Rattle.whole.proofs.Tests.{split, both}
-use Rattle.whole.proofs.Linear.{zr, all5}
+use Rattle.whole.proofs.Linear.{zr, all4, all5}
+use Rattle.whole.proofs.Ring.{rr, ring5, same}
 use Rattle.whole.proofs.Ranges.{_u+_, _u*_, u-lit, u-le, abs-with-sign}
 use Rattle.whole.proofs.Sums.{sum-ext, sum-mul, product-but}
 use Rattle.whole.proofs.Totals.{total-ext, total-add, total-sub, total-mul, total-times, total-swap, total-pick, total-within, total-under, total-with-sign, own-sign, sign-of-zero}
@@ -42,6 +43,26 @@ cond-abs false z = refl
 near-with-sign : (U : ℤ) (s t d : ℕ) → s * t < d * natAbs U + t → d * natAbs U < s * t + t → natAbs (withSignOf U s *ℤ pos t -ℤ pos d *ℤ U) < t
 near-with-sign (pos u) s t d p q = simp zr (omega arith)
 near-with-sign (negsuc u) s t d p q = simp zr (omega arith)
+
+-- ---- distances
+
+-- a load's share times the other T, and a record's grains, against what the tariff has in their place
+scaled : (s t w o : ℤ) → s *ℤ (o *ℤ t) -ℤ w *ℤ o ≡ (s *ℤ t -ℤ w) *ℤ o
+scaled = all4 _ (λ s t w o. simp zr (omega arith))
+
+priced : (p e s q f : ℤ) → p *ℤ (e +ℤ s) *ℤ q -ℤ p *ℤ (e *ℤ q +ℤ f) ≡ p *ℤ (s *ℤ q -ℤ f)
+priced = ring5 _ (λ ρ. simp rr (same _ _ _ tt))
+
+-- a charge against the unrounded amount: its cents, then its shares
+rounded : (c a u k q : ℤ) → c *ℤ (k *ℤ q) -ℤ u ≡ (c *ℤ k -ℤ a) *ℤ q +ℤ (a *ℤ q -ℤ u)
+rounded = all5 _ (λ c a u k q. simp zr (omega arith))
+
+nothing-off : (q k : ℕ) → Under (pos 0 *ℤ pos q -ℤ pos 0) k
+nothing-off q k = simp zr (omega arith)
+
+cond-bound : (b : Bool) (p q : ℕ) → p * cond b q 0 ≤ cond b p 0 * q
+cond-bound true p q = omega arith
+cond-bound false p q = omega arith
 
 -- ---- half a cent
 
@@ -85,6 +106,10 @@ module _ (h : Hour) where
 
   no-load-no-size : (a i : ℕ) → inArea h a isLoad i ≡ false → pos 0 ≡ withSignOf (ufe h a) (sizeIn a i)
   no-load-no-size a i f = sym (ap (withSignOf (ufe h a)) (nothing-for-others (inArea h a isLoad) (demand h) (h .count) (natAbs (ufe h a)) i f) ∙ sign-of-zero (ufe h a))
+
+  no-load-no-share : (i : ℕ) → isLoad (entryOf h i .kind) ≡ false → shareOf h i ≡ pos 0
+  unfolding shareOf
+  no-load-no-share i f = rw f
 
   own-share : (i : ℕ) → shareOf h i ≡ withSignOf (ufe h (areaOf h i)) (sizeIn (areaOf h i) i)
   unfolding shareOf share inArea
@@ -169,3 +194,75 @@ module _ (h : Hour) where
         (total-sub (λ m. charge h m *ℤ pos 10000000) (amount h) (members h)
         ∙ ap₂ (λ (x y : ℤ). x -ℤ y) (total-times (charge h) (pos 10000000) (members h)) (by-member ∙ sym by-area)) u .under)
         (omega arith)
+
+    -- ---- a member's charge against the tariff's unrounded amount, both times all the T
+
+    abbrev q : ℕ
+    q = allT h
+
+    all-and-other : (a : ℕ) → a < areas h → (demands h a ≡ 0 → ⊥) → allT h ≡ otherT h a * demands h a
+    unfolding allT otherT nonZeroT
+    all-and-other a l some = sym (product-but (nonZeroT h) (areas h) a l) ∙ ap (λ (t : ℕ). otherT h a * t) (rw (ne-eqb (demands h a) 0 some))
+
+    -- a share against its exact fraction: less than one unit for a load that there is something to share with, else both are 0
+    load-off : (i : ℕ) → i < h .count → isLoad (entryOf h i .kind) ≡ true → (demands h (areaOf h i) ≡ 0 → ⊥) →
+        Under (shareOf h i *ℤ pos q -ℤ pos (demand h i) *ℤ ufe h (areaOf h i) *ℤ pos (otherT h (areaOf h i))) q
+    load-off i l t some =
+        let a : ℕ = areaOf h i in
+        let w : ℤ = pos (demand h i) *ℤ ufe h a in
+        let u : Under (shareOf h i *ℤ pos (demands h a) -ℤ w) (demands h a) = record { under = le-of-lt (near i l t some) } in
+        rw (all-and-other a (ok .area-there i l) some, scaled (shareOf h i) (pos (demands h a)) w (pos (otherT h a))) (u-le (u u* u-lit (pos (otherT h a))) (omega arith))
+
+    share-off : (i : ℕ) → i < h .count → Under (shareOf h i *ℤ pos q -ℤ exactFraction h i) (cond (isLoad (entryOf h i .kind)) q 0)
+    unfolding exactFraction
+    share-off i l = split (isLoad (entryOf h i .kind))
+        (λ t. ⊎-elim
+        (λ z. rw (none-to-share i l z, z, and-false) (nothing-off q _))
+        (λ (p : 0 < demands h (areaOf h i)). rw (t, ne-eqb (demands h (areaOf h i)) 0 (λ z. omega arith)) (load-off i l t (λ z. omega arith)))
+        (eq-zero-or-pos (demands h (areaOf h i))))
+        (λ f. rw (no-load-no-share i f, f) (nothing-off q 0))
+
+    -- a record's grains against the tariff's
+    abbrev exactGrains : ℕ → ℤ
+    exactGrains i = price h (areaOf h i) *ℤ (e i *ℤ pos q +ℤ exactFraction h i)
+
+    grains-off : (i : ℕ) → i < h .count → Under (grains h i *ℤ pos q -ℤ exactGrains i) (cond (isLoad (entryOf h i .kind)) (natAbs (price h (areaOf h i))) 0 * q)
+    unfolding grains
+    grains-off i l =
+        let p : ℤ = price h (areaOf h i) in
+        rw (priced p (e i) (shareOf h i) (pos q) (exactFraction h i)) (u-le (u-lit p u* share-off i l) (cond-bound (isLoad (entryOf h i .kind)) (natAbs p) q))
+
+    -- a member's amount: one unit at the size of the zone's price for each load
+    amount-off : (m : ℕ) → Under (amount h m *ℤ pos q -ℤ unrounded h m) (loadPrices h m * q)
+    unfolding amount unrounded loadPrices
+    amount-off m =
+        subst (λ (z : ℤ). Under z (loadPrices h m * q))
+        (total-sub (λ i. mine i (grains h i) *ℤ pos q) (λ i. mine i (exactGrains i)) (h .count)
+        ∙ ap (λ (z : ℤ). z -ℤ unrounded h m) (total-times (λ i. mine i (grains h i)) (pos q) (h .count)))
+        (u-le (total-within _ (λ i. bound i * q) (h .count) one) (le-of-eq (sum-mul bound q (h .count))))
+      where
+        mine : ℕ → ℤ → ℤ
+        mine i z = cond (eqb (memberOf h i) m) z (pos 0)
+
+        bound : ℕ → ℕ
+        bound i = cond (isLoad (entryOf h i .kind) && eqb (memberOf h i) m) (natAbs (price h (areaOf h i))) 0
+
+        one : (i : ℕ) → i < h .count → Under (mine i (grains h i) *ℤ pos q -ℤ mine i (exactGrains i)) (bound i * q)
+        one i l = split (eqb (memberOf h i) m) (λ t. rw (t, and-true) (grains-off i l)) (λ f. rw f (nothing-off q _))
+
+    -- Each charge is within half a cent, and one unit at the size of the zone's price for each load record, of the unrounded amount.
+    pub charged : (m : ℕ) → m < members h → natAbs (charge h m *ℤ pos (10000000 * allT h) -ℤ unrounded h m) ≤ (5000000 + loadPrices h m) * allT h
+    unfolding charge
+    charged m l =
+        rw (rounded (charge h m) (amount h m) (unrounded h m) (pos 10000000) (pos q))
+        (le-trans ((half-cent (amount h m) u* u-lit (pos q) u+ amount-off m) .under) (omega arith))
+
+-- Demand 3 of an hour.
+pub fair : (h : Hour) → Sound h → Fair h
+fair h ok = record {
+  exact = shares-add-up h ok;
+  near = near h;
+  none-to-share = none-to-share h;
+  charged = charged h ok;
+  pooled = pooled h ok;
+}
