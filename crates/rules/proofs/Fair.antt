@@ -25,8 +25,8 @@ use Rattle.rules.specs.Deviation.{generatorDeviation, loadDeviation, imp
 use Rattle.rules.specs.Ufe.{inArea, areaSum, ufe, demand, demands}
 use Rattle.rules.specs.Share.{allDemand, shareSize, share}
 use Rattle.rules.specs.Charge.{entering, enteringAs, nearestCent, cents, shareOf, grains, amount, charge, poolTotal}
-use Rattle.rules.specs.Promises.{nonZeroT, allT, otherT, exactFraction, unrounded, loadPrices, Fair}
-use Rattle.rules.proofs.Shares.{nothing-for-others, nothing-without-demand, sizes-add-up, sizes-at-most, size-near}
+use Rattle.rules.specs.Promises.{rankedShare, nonZeroT, allT, otherT, exactFraction, unrounded, loadPrices, Fair}
+use Rattle.rules.proofs.Shares.{ranked, nothing-for-others, nothing-without-demand, sizes-add-up, sizes-at-most, size-near}
 
 pub record Sound (h : Hour) : Type 0 where
   pub member-there : (i : ℕ) → i < h .count → memberOf h i < members h
@@ -59,6 +59,11 @@ module _ (h : Hour) where
   own-share : (i : ℕ) → shareOf h i ≡ withSignOf (ufe h (areaOf h i)) (sizeIn (areaOf h i) i)
   unfolding shareOf share inArea
   own-share i = split (isLoad (entryOf h i .kind)) (λ t. rw t) (λ f. rw f (no-load-no-size (areaOf h i) i (rw (f, and-false))))
+
+  -- Every record's share is that by rank.
+  pub shares-by-rank : (i : ℕ) → i < h .count → shareOf h i ≡ rankedShare h i
+  unfolding rankedShare
+  shares-by-rank i l = let a : ℕ = areaOf h i in own-share i ∙ ap (withSignOf (ufe h a)) (ranked (inArea h a isLoad) (demand h) (h .count) (natAbs (ufe h a)) i l)
 
   share-in : (a i : ℕ) → cond (eqb (areaOf h i) a) (shareOf h i) (pos 0) ≡ withSignOf (ufe h a) (sizeIn a i)
   unfolding inArea
