@@ -200,6 +200,7 @@ module _ (takes : ℕ → Bool) (D : ℕ → ℕ) (n U : ℕ) where
         (sum-mono _ (λ j. oneIf (takes j && ltb 0 (R j)) * T) n (λ j l. cond-rest (takes j) (R j) T (below-T j)))
         (le-of-eq (sum-mul (λ j. oneIf (takes j && ltb 0 (R j))) T n ∙ ap (λ (x : ℕ). x * T) (sum-one-if (λ j. takes j && ltb 0 (R j)) n))))) some-demand
 
+    -- So no taker gets two.
     pub left-at-most-takers : left ≤ countBelow takes n
     left-at-most-takers = le-trans left-few (count-mono _ _ n (λ j l t. both (takes j) (ltb 0 (R j)) t .0))
 
@@ -241,6 +242,7 @@ module _ (takes : ℕ → Bool) (D : ℕ → ℕ) (n U i : ℕ) where
       let c = both (takes i) (not (eqb (allDemand takes D n) 0)) t in
       rw (handed-by-rank takes D n U (demanded (allDemand takes D n) (c .1)) i l, c .0))
 
+  -- Who takes no part gets nothing, nor does anybody where nobody demands anything.
   pub nothing-for-others : takes i ≡ false → shareSize takes D n U i ≡ 0
   unfolding shareSize
   nothing-for-others f = rw f
