@@ -9,26 +9,29 @@ use native.Mathlib.Omega.{arith}
 use lib.IntN.{ℤ, pos, natAbs}
 use lib.ListN.{length, getD}
 use lib.Dec.{ltb, eqb}
-use borrow.Author.Tests.{ltb-false, lt-ltb}
+use borrow.Author.Tests.{ltb-false, lt-ltb, eqb-true, eq-eqb, not-false}
 use Rattle.whole.specs.Below.{totalBelow}
 use Rattle.whole.proofs.Tests.{neither}
 use Rattle.whole.proofs.Sums.{count-zero}
 use Rattle.whole.proofs.Totals.{total-ext, total-zero}
+use Rattle.whole.proofs.Linear.{abs-zero}
+use Rattle.whole.proofs.Search.{first-none}
 use Rattle.whole.proofs.Buffers.{getD-values, getD-replacing, drop-replacing, length-replacing}
 use Rattle.rules.specs.declared.Line.{Line}
 use Rattle.rules.specs.Record.{Hour, members, zones, areas, memberOf, areaOf, zoneOf, entryOf}
 use Rattle.rules.specs.Deviation.{deviation}
-use Rattle.rules.specs.Ufe.{ufe}
+use Rattle.rules.specs.Ufe.{ufe, demands}
 use Rattle.rules.specs.Charge.{shareOf, grains, amount, recordsOf, cents, nearestCent, charge}
 use Rattle.rules.specs.HourFile.{hourly, hourOf}
 use Rattle.rules.specs.Refusals.{badArea, tooShort, fileRows, sumRows, hourRows}
 use Rattle.rules.specs.Settling.{Buffers, settle, filled, ufeFigures, bufferRows, settleRows, lineOf}
 use Rattle.rules.specs.Posting.{emptyLine}
 use Rattle.rules.specs.Kept.{HourKept}
-use Rattle.rules.specs.Promises.{Accepts, AllWhole, ByFormula, rankedShare, allZones}
+use Rattle.rules.specs.Promises.{Accepts, AllWhole, ByFormula, Demand3, allZones}
 use Rattle.rules.proofs.Tariff.{deviation-renders, ufe-renders, amount-is-IEC}
 use Rattle.rules.proofs.Rows.{no-place, whole-parts, settle-accepts, settle-fills}
 use Rattle.rules.proofs.Kept.{file-kept}
+use Rattle.rules.proofs.Fair.{Sound, shares-by-rank, fair}
 
 -- ---- an accepted hour
 
@@ -83,7 +86,7 @@ module _ (h : Hour) (kept : HourKept h) where
       record {
         ufe-is = λ a l. getD-values (λ a. cond (ltb a (areas h)) (ufe h a) (pos 0)) 8 a (pos 0) (omega (arith, kept .areas-most)) ∙ rw (lt-ltb a (areas h) l) (ufe-renders h a);
         deviation-is = λ i l. getD-replacing (λ i. deviation (entryOf h i)) (h .count) (b .deviations) i (pos 0) l ∙ deviation-renders (entryOf h i);
-        share-is = λ i l. getD-replacing (shareOf h) (h .count) (b .shares) i (pos 0) l ∙ ?share;
+        share-is = λ i l. getD-replacing (shareOf h) (h .count) (b .shares) i (pos 0) l ∙ shares-by-rank h i l;
         charge-is = λ m l. charge-at m (pos 0) l ∙ ap cents (iec m);
         line-is = λ m l. line-at m emptyLine l ∙ ap (λ (z : ℤ). record { amount = z; records = recordsOf h m }) (iec m);
         no-records = λ m l e. (
@@ -110,3 +113,22 @@ settled-by-formula s b a =
     let p = whole-parts (hourRows s) (bufferRows h b) .0 (settle-accepts s b .0 a) in
     let f = settle-fills s b a in
     rw (f .0, f .1) (by-formula h (hour-passed s (p .0) .kept) b (buffers-room h b (p .1)))
+
+-- ---- demand 3
+
+sound : (h : Hour) → Passed h → Sound h
+unfolding badArea
+sound h p = record {
+  member-there = λ i l. p .kept .record-kept i l .member-there;
+  area-there = λ i l. p .kept .record-kept i l .area-there;
+  no-demand-no-ufe = λ a l z.
+      let whole = first-none (λ a. eqb (demands h a) 0 && not (eqb (natAbs (ufe h a)) 0)) (areas h) (p .no-bad-area) a l in
+      abs-zero (ufe h a) (eqb-true _ _ (not-false _ (rw (eq-eqb (demands h a) 0 z) at whole)));
+}
+
+pub demand3 : Demand3
+unfolding settleRows
+demand3 s b a =
+    let h = hourOf hourly s in
+    let p = whole-parts (hourRows s) (bufferRows h b) .0 (settle-accepts s b .0 a) in
+    fair h (sound h (hour-passed s (p .0)))
