@@ -3,6 +3,7 @@ pub mod Tariff
 pub mod Posting
 pub mod Shares
 pub mod Digits
+pub mod Parts
 pub mod Text
 pub mod Rows
 pub mod Kept
