@@ -3,11 +3,11 @@
 use mathlib.Core.Path.{_≡_, refl, sym, _∙_, ap, ap₂}
 use mathlib.Core.Bool.{not, cond, _&&_, _||_}
 use mathlib.Core.Option.{none}
-use mathlib.Core.List.{List}
-use Prim.Native.Nat.{ℕ, _≤_, _<_}
+use mathlib.Core.List.{List, _∷_, _++_}
+use Prim.Native.Nat.{ℕ, _/_, _%_, _≤_, _<_}
 use native.Mathlib.Omega.{arith}
 use lib.IntN.{ℤ, pos, natAbs}
-use lib.ListN.{length, getD}
+use lib.ListN.{length, getD, replicate}
 use lib.Dec.{ltb, eqb}
 use borrow.Author.Tests.{ltb-false, lt-ltb, eqb-true, eq-eqb, not-false}
 use Rattle.whole.specs.Below.{totalBelow}
@@ -22,15 +22,19 @@ use Rattle.rules.specs.Record.{Hour, members, zones, areas, memberOf, ar
 use Rattle.rules.specs.Deviation.{deviation}
 use Rattle.rules.specs.Ufe.{ufe, demands}
 use Rattle.rules.specs.Charge.{shareOf, grains, amount, recordsOf, cents, nearestCent, charge}
+use Rattle.rules.specs.Text.{bytes, digitByte, amountText, amountField}
 use Rattle.rules.specs.HourFile.{hourly, hourOf}
 use Rattle.rules.specs.Refusals.{badArea, tooShort, fileRows, sumRows, hourRows}
 use Rattle.rules.specs.Settling.{Buffers, settle, filled, ufeFigures, bufferRows, settleRows, lineOf}
 use Rattle.rules.specs.Posting.{emptyLine}
+use Rattle.rules.specs.Statement.{memberLine}
 use Rattle.rules.specs.Kept.{HourKept}
-use Rattle.rules.specs.Promises.{Accepts, AllWhole, ByFormula, Demand3, allZones}
+use Rattle.rules.specs.Promises.{Accepts, AllWhole, Demand1, ByFormula, allZones, Demand2, Demand3}
 use Rattle.rules.proofs.Tariff.{deviation-renders, ufe-renders, amount-is-IEC}
-use Rattle.rules.proofs.Rows.{no-place, whole-parts, settle-accepts, settle-fills}
+use Rattle.rules.proofs.Rows.{no-place, accepts-when-whole, whole-parts, hour-numbered, settle-accepts, settle-refuses, settle-changes-nothing, settle-fills, write-accepts, write-refuses, write-changes-nothing}
+use Rattle.rules.proofs.Text.{read-accepts, read-refuses, written-read, read-written, text-fits-14, write-accepted-at}
 use Rattle.rules.proofs.Kept.{file-kept}
+use Rattle.rules.proofs.Bounds.{charge-under}
 use Rattle.rules.proofs.Fair.{Sound, shares-by-rank, fair}
 
 -- ---- an accepted hour
@@ -113,6 +117,39 @@ settled-by-formula s b a =
     let p = whole-parts (hourRows s) (bufferRows h b) .0 (settle-accepts s b .0 a) in
     let f = settle-fills s b a in
     rw (f .0, f .1) (by-formula h (hour-passed s (p .0) .kept) b (buffers-room h b (p .1)))
+
+-- ---- demand 1
+
+pub demand1 : Demand1
+demand1 = record {
+  settle-accepts = settle-accepts;
+  settle-refuses = settle-refuses;
+  settle-changes-nothing = settle-changes-nothing;
+  write-accepts = write-accepts;
+  write-refuses = write-refuses;
+  write-changes-nothing = write-changes-nothing;
+  read-accepts = read-accepts;
+  read-refuses = read-refuses;
+}
+
+-- ---- demand 2
+
+-- every charge of an hour that passes rows 1 to 5 is printed whole
+charge-printed : (h : Hour) → HourKept h → (m : ℕ) →
+    (length (amountText (charge h m)) ≤ 14) × (memberLine h m ≡ digitByte (m / 10) ∷ digitByte (m % 10) ∷ bytes " " ++ amountField 14 (charge h m) ++ bytes "\n")
+unfolding memberLine
+charge-printed h kept m =
+    let in-range : natAbs (charge h m) ≤ 999999999999 = let u = charge-under kept m in omega arith in
+    let fits : length (amountText (charge h m)) ≤ 14 = text-fits-14 (charge h m) in-range in
+    (fits, rw (write-accepted-at (replicate 14 32) (charge h m) in-range fits))
+
+pub demand2 : Demand2
+demand2 = record {
+  settled = settled-by-formula;
+  written-read = written-read;
+  read-written = read-written;
+  printed = λ s e m l. charge-printed (hourOf hourly s) (hour-passed s (accepts-when-whole (hourRows s) (hour-numbered s) .0 e) .kept) m;
+}
 
 -- ---- demand 3
 
