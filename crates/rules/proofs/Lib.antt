@@ -7,6 +7,7 @@ pub mod Parts
 pub mod Text
 pub mod Rows
 pub mod Words
+pub mod PartWords
 pub mod Kept
 pub mod Bounds
 pub mod Fair

@@ -4,32 +4,18 @@ use mathlib.Core.Path.{_≡_, refl, sym, _∙_, ap}
 use mathlib.Core.Bool.{Bool, true, false, cond}
 use mathlib.Core.List.{List, [], _∷_}
 use Prim.Native.Nat.{ℕ, zero, suc, _+_, _-_, _≤_, _<_}
-use native.Mathlib.Nat.{not-suc-le-zero}
 use native.Mathlib.Omega.{arith}
 use lib.IntN.{pos, natAbs, _-ℤ_}
 use lib.ListN.{length, getD, List·getD-eq-default}
 use lib.Dec.{ltb, leb, eqb}
-use borrow.Author.Tests.{ltb-true, ltb-false, lt-ltb, le-ltb, lt-leb, ne-eqb}
-use Rattle.whole.proofs.Tests.{split, last-or-below}
+use borrow.Author.Tests.{lt-ltb, le-ltb, lt-leb, ne-eqb}
+use Rattle.whole.proofs.Tables.{EachBelow, alike}
 use Rattle.rules.specs.declared.Kind.{Kind}
 use Rattle.rules.specs.declared.Kind.the-variants.{Generator, RealTimeLoad, ProfileLoad, Import, Export, Unknown}
 use Rattle.rules.specs.declared.Rule.{Rule}
 use Rattle.rules.specs.declared.Rule.the-variants.{Any, Between, LessThan}
 use Rattle.rules.specs.Record.{signed, kindOf}
 use Rattle.rules.specs.Ranges.{keeps, mustBeZero, countRules, areaRule, energy, adjustment, multiplier, rowOf}
-
--- ---- two tables that agree below n, entry by entry, and past it
-
-abbrev EachBelow : (ℕ → Type 0) → ℕ → Type 0
-EachBelow P zero = Unit {0}
-EachBelow P (suc n) = EachBelow P n × P n
-
-at-each : (P : ℕ → Type 0) (n : ℕ) → EachBelow P n → (i : ℕ) → i < n → P i
-at-each P zero e i l = absurd (not-suc-le-zero l)
-at-each P (suc n) e i l = last-or-below i n l (λ k. rw k (e .1)) (λ k. at-each P n (e .0) i k)
-
-alike : {A : Type 0} (f g : ℕ → A) (n : ℕ) → EachBelow (λ i. f i ≡ g i) n → ((i : ℕ) → n ≤ i → f i ≡ g i) → (i : ℕ) → f i ≡ g i
-alike f g n e past i = split (ltb i n) (λ t. at-each (λ i. f i ≡ g i) n e i (ltb-true i n t)) (λ t. past i (ltb-false i n t))
 
 -- ---- the size of a negative number in two's complement
 
