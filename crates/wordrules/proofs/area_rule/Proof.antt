@@ -1,6 +1,6 @@
 -- `wordrules::area_rule` meets its contract: the table by its tests.
 use borrow.Author.Tests.{lt-ltb, le-ltb, eq-eqb, ne-eqb}
-use Rattle.wordrules.proofs.Tables.{area-words}
+use Rattle.rules.proofs.RuleTables.{area-words}
 use Rattle.wordrules.proofs.area_rule.Statement.{statement}
 use Rattle.wordrules.proofs.area_rule.Tie as tie
 

@@ -1,6 +1,6 @@
 -- `wordrules::generator_rule` meets its contract: the row by its tests.
 use borrow.Author.Tests.{lt-ltb, le-ltb, eq-eqb, ne-eqb}
-use Rattle.wordrules.proofs.Tables.{generator-words}
+use Rattle.rules.proofs.RuleTables.{generator-words}
 use Rattle.wordrules.proofs.generator_rule.Statement.{statement}
 use Rattle.wordrules.proofs.generator_rule.Tie as tie
 

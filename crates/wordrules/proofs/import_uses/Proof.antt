@@ -1,6 +1,6 @@
 -- `wordrules::import_uses` meets its contract: the row by its tests.
 use borrow.Author.Tests.{lt-ltb, le-ltb}
-use Rattle.wordrules.proofs.Tables.{import-uses}
+use Rattle.rules.proofs.RuleTables.{import-uses}
 use Rattle.wordrules.proofs.import_uses.Statement.{statement}
 use Rattle.wordrules.proofs.import_uses.Tie as tie
 

@@ -1,7 +1,7 @@
 -- `wordrules::kind_rule` meets its contract: a word in use has the generator's rule, any other is zero.
 use mathlib.Core.Path.{sym, _∙_}
 use borrow.Author.Needs.{needs}
-use Rattle.wordrules.proofs.Tables.{used-or-zero}
+use Rattle.rules.proofs.RuleTables.{used-or-zero}
 use Rattle.wordrules.proofs.kind_rule.Statement.{statement}
 use Rattle.wordrules.proofs.kind_rule.Tie as tie
 

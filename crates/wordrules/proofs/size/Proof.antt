@@ -3,7 +3,7 @@ use mathlib.Core.Path.{sym}
 use borrow.Author.Needs.{needs}
 use borrow.Author.Tests.{lt-ltb, le-ltb}
 use Rattle.rules.specs.Record.{signed}
-use Rattle.wordrules.proofs.Tables.{size-below}
+use Rattle.rules.proofs.RuleTables.{size-below}
 use Rattle.wordrules.proofs.size.Statement.{statement}
 use Rattle.wordrules.proofs.size.Tie as tie
 

@@ -3,7 +3,7 @@ use mathlib.Core.Path.{sym, _∙_}
 use borrow.Author.Needs.{needs}
 use Rattle.rules.specs.Record.{kindOf}
 use Rattle.rules.specs.Ranges.{rowOf, keeps}
-use Rattle.wordrules.proofs.Tables.{generator-uses, load-uses, export-uses, kind-unknown}
+use Rattle.rules.proofs.RuleTables.{generator-uses, load-uses, export-uses, kind-unknown}
 use Rattle.wordrules.proofs.uses.Statement.{statement}
 use Rattle.wordrules.proofs.uses.Tie as tie
 
