@@ -1,21 +1,24 @@
 -- The searches of rows 3 to 5 as the code makes them: which words of a block and of the head must be zero; the first fault of the records.
-use mathlib.Core.Path.{_≡_, refl, sym, _∙_, ap}
+use mathlib.Core.Path.{_≡_, refl, sym, _∙_, ap, ap₂}
 use mathlib.Core.Bool.{Bool, true, false, not, cond, _&&_}
 use mathlib.Core.Option.{Option, none, some, bind, Option·some-injective}
 use mathlib.Core.List.{List}
 use Prim.Native.Nat.{ℕ, _+_, _-_, _*_, _≤_, _<_, zero-le}
 use native.Mathlib.Omega.{arith}
-use lib.Dec.{ltb, leb, eqb}
+use lib.ListN.{take, drop}
+use lib.Dec.{leb, eqb}
 use borrow.Author.Tests.{leb-true, leb-false, eqb-true, eqb-false, lt-ltb, le-ltb, le-leb, lt-leb, eq-eqb, ne-eqb}
 use Rattle.whole.proofs.Tests.{split, never, never-some}
-use Rattle.whole.proofs.Search.{first-some}
+use Rattle.whole.specs.Below.{firstBelow}
+use Rattle.whole.proofs.Search.{first-some, first-more, first-rest, first-ext, none-below}
 use Rattle.rules.specs.declared.Rule.the-variants.{Any}
 use Rattle.rules.specs.Record.{Hour}
-use Rattle.rules.specs.HourFile.{hourly, blocks, blockWord, recordCount}
-use Rattle.rules.specs.Ranges.{keeps, mustBeZero, pastRule, blockRule, headRule}
+use Rattle.rules.specs.HourFile.{hourly, word, blocks, blockWord, recordCount}
+use Rattle.rules.specs.Ranges.{keeps, mustBeZero, firstBroken, pastRule, blockRule, headRule}
 use Rattle.rules.specs.Refusals.{isBroken, badLength, badBlock, badWord, badRecord, firstFault}
 use Rattle.rules.proofs.RuleTables.{block-words}
-use Rattle.rules.proofs.Kept.{held-most}
+use Rattle.rules.proofs.PartWords.{block-part-word}
+use Rattle.rules.proofs.Kept.{unbroken, held-most}
 
 -- ---- words that must be zero
 
@@ -25,25 +28,58 @@ zero-kept v = split (eqb v 0)
     (λ t. rw (t, eqb-true v 0 t))
     (λ t. rw (t, le-leb 0 v (omega arith), lt-leb v 0 (omega (arith, eqb-false v 0 t))))
 
-module _ (n held : ℕ) where
-  body-rule : (b w : ℕ) → 7 ≤ w → blockRule hourly n held b w ≡ cond (eqb w 7) Any (pastRule hourly held b w)
+-- ---- a block: words 0 to 6, and those past its records
+
+broken-more : (p : ℕ → Bool) (n m : ℕ) → n ≤ m → isBroken (firstBelow p n) ≡ true → isBroken (firstBelow p m) ≡ true
+broken-more p n m l e = step (firstBelow p n) refl e
+  where
+    step : (o : Option ℕ) → firstBelow p n ≡ o → isBroken o ≡ true → isBroken (firstBelow p m) ≡ true
+    step none q e = never e refl
+    step (some i) q e = ap isBroken (first-more p n m i q l)
+
+module _ (n held b : ℕ) where
+  body-rule : (w : ℕ) → 7 ≤ w → blockRule hourly n held b w ≡ cond (eqb w 7) Any (pastRule hourly held b w)
   unfolding blockRule
-  body-rule b w l = rw block-words (rw (ne-eqb w 0 (λ e. omega arith), ne-eqb w 1 (λ e. omega arith), ne-eqb w 2 (λ e. omega arith), le-ltb w 7 l))
+  body-rule w l = rw block-words (rw (ne-eqb w 0 (λ e. omega arith), ne-eqb w 1 (λ e. omega arith), ne-eqb w 2 (λ e. omega arith), le-ltb w 7 l))
 
-  -- the body of the first block is for row 4
-  pub first-body-any : (w v : ℕ) → 7 ≤ w → not (keeps (blockRule hourly n held 0 w) v) ≡ false
+  body-any : (w v : ℕ) → b ≡ 0 → 7 ≤ w → not (keeps (blockRule hourly n held b w) v) ≡ false
   unfolding pastRule keeps
-  first-body-any w v l = rw (body-rule 0 w l) (split (eqb w 7) (λ t. rw t) (λ t. rw t))
+  body-any w v e l = rw (body-rule w l) (split (eqb w 7) (λ t. rw t) (λ t. rw (t, eq-eqb b 0 e)))
 
-  -- of another block the words past its records must be zero
-  pub past-records : (b w v : ℕ) → (b ≡ 0 → ⊥) → 7 ≤ w → not (keeps (blockRule hourly n held b w) v) ≡ (leb (8 + 12 * held) w && not (eqb v 0))
+  past-records : (w v : ℕ) → (b ≡ 0 → ⊥) → 7 ≤ w → not (keeps (blockRule hourly n held b w) v) ≡ (leb (8 + 12 * held) w && not (eqb v 0))
   unfolding pastRule keeps
-  past-records b w v f l = rw (body-rule b w l) (split (eqb w 7)
+  past-records w v f l = rw (body-rule w l) (split (eqb w 7)
       (λ t. rw (t, lt-leb (8 + 12 * held) w (omega (arith, eqb-true w 7 t))))
       (λ t. split (leb (8 + 12 * held) w) (λ u. rw (t, ne-eqb b 0 f, u) (zero-kept v)) (λ u. rw (t, ne-eqb b 0 f, u))))
 
+  module _ (word : ℕ → ℕ) where
+    abbrev brokenBelow : ℕ → Option ℕ
+    brokenBelow = firstBroken (blockRule hourly n held b) word
+
+    pub front-broken : isBroken (brokenBelow 7) ≡ true → isBroken (brokenBelow 128) ≡ true
+    unfolding firstBroken
+    front-broken e = broken-more _ 7 128 (omega arith) e
+
+    -- the body of the first block is for row 4
+    pub first-block-whole : isBroken (brokenBelow 7) ≡ false → b ≡ 0 → isBroken (brokenBelow 128) ≡ false
+    unfolding firstBroken
+    first-block-whole e z = ap isBroken (first-rest _ (λ w. false) 7 128 (unbroken _ e) (λ w l. refl) (λ w l m. body-any w (word w) z l) ∙ none-below _ 128 (λ w l. refl))
+
+    -- another block has zeros past its records
+    pub past-front : isBroken (brokenBelow 7) ≡ false → (b ≡ 0 → ⊥) → brokenBelow 128 ≡ firstBelow (λ w. leb (8 + 12 * held) w && not (eqb (word w) 0)) 128
+    unfolding firstBroken
+    past-front e f = first-rest _ _ 7 128 (unbroken _ e) (λ w l. rw (lt-leb (8 + 12 * held) w (omega arith))) (λ w l m. past-records w (word w) f l)
+
+-- the layout of a block, read from its own 512 bytes
+pub block-part-broken : (s : List ℕ) (n b : ℕ) → isBroken (firstBroken (blockRule hourly n (word (take 512 (drop (512 * b) s)) 2) b) (word (take 512 (drop (512 * b) s))) 128)
+    ≡ isBroken (firstBroken (blockRule hourly n (blockWord s b 2) b) (blockWord s b) 128)
+unfolding firstBroken
+block-part-broken s n b = ap isBroken (first-ext _ _ 128 (λ w l. ap₂ (λ (held v : ℕ). not (keeps (blockRule hourly n held b w) v)) (block-part-word s b 2 (omega arith)) (block-part-word s b w l)))
+
+-- ---- the head
+
 module _ (zones areas : ℕ) where
-  -- words up to 8 of the head may be anything
+  -- words up to 8 may be anything
   pub head-any : (w v : ℕ) → w < 9 → not (keeps (headRule zones areas w) v) ≡ false
   unfolding headRule keeps
   head-any w v l = rw (lt-ltb w 9 l)

@@ -28,7 +28,7 @@ use Rattle.rules.proofs.Words.{Holds, holds, length-is-whole}
 -- ---- a search that found nothing
 
 -- no broken word
-unbroken : (o : Option ℕ) → isBroken o ≡ false → o ≡ none
+pub unbroken : (o : Option ℕ) → isBroken o ≡ false → o ≡ none
 unbroken none e = refl
 unbroken (some w) e = never refl e
 

@@ -48,8 +48,7 @@ loop-again : tie.Need-loop-again Inv-loop μ-loop
 loop-again c =
     let at = c .before .before .before in
     let block = at .before .before .args .block .now in
-    let w = at .loop .w in
-    (
+    let w = at .loop .w in (
       omega arith,
       first-next (not-zero block (at .before .before .args .from)) w (at .loop .inv .1)
           (rw (le-leb _ _ (at .loop .inv .0), eq-eqb (word block w) 0 (sym (c .before .word .ensures) ∙ c .if1 .left))),
