@@ -1,5 +1,5 @@
 // The hour file: the block reader, and the words of a block, of the head and of a record. Any byte string and any position is taken;
-// where a file has no such word, the word is 0. Refusals 1 to 5 are `refusals::examine`.
+// where a file has no such word, the word is 0. Refusals 1 to 5 are `examine`.
 ghost use mathlib.Core.Path.{_≡_};
 ghost use Prim.Native.Nat.{_+_, _*_, _/_, _≤_, _<_};
 ghost use lib.ListN.{length, getD};
@@ -7,8 +7,12 @@ ghost use Rattle.rules.specs.Record as Record;
 ghost use Rattle.rules.specs.HourFile as HourFile;
 ghost use Rattle.rules.specs.HourFile.{hourly};
 
-pub mod answers;
-pub mod refusals;
+mod answers;
+mod refusals;
+
+pub use answers::number_of;
+pub use answers::place_of;
+pub use refusals::examine;
 
 // Where the search of the records stops: at this word of this record, or nowhere.
 pub enum Fault {

@@ -2,14 +2,13 @@
 use mathlib.Core.Path.{sym}
 use Prim.Native.Nat.{_+_, _*_}
 use native.Mathlib.Omega.{arith}
-use borrow.Author.Needs.{needs}
 use Rattle.rules.specs.HourFile.{blocks, blockWord}
 use Rattle.rules.proofs.PartWords.{word-past}
 use Rattle.hourfile.proofs.block_word.Statement.{statement}
 use Rattle.hourfile.proofs.block_word.Tie as tie
 
 blocks-requires : tie.Need-blocks-requires
-blocks-requires c κs = search needs
+blocks-requires c κs = tt
 
 returns : tie.Need-returns
 unfolding blocks blockWord
@@ -28,7 +27,7 @@ unfolding blocks
 add-word c = omega arith
 
 word-requires : tie.Need-word-requires
-word-requires c κs = search needs
+word-requires c κs = tt
 
 returns-3 : tie.Need-returns-3
 unfolding blockWord

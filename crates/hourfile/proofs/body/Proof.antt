@@ -4,7 +4,6 @@ use Prim.Native.Nat.{ℕ, _+_, _*_, _-_}
 use native.Mathlib.Omega.{arith}
 use lib.Dec.{leb}
 use lib.ListN.{take, drop}
-use borrow.Author.Needs.{needs}
 use borrow.Author.Tests.{le-leb, lt-leb}
 use Rattle.rules.specs.HourFile.{hourly, blocks, body}
 use Rattle.rules.proofs.Words.{body-empty-bad, body-empty-past}
@@ -15,19 +14,19 @@ gap : (k : ℕ) → (512 * k + 512) - (512 * k + 32) ≡ 480
 gap k = omega arith
 
 length-bad-requires : tie.Need-length-bad-requires
-length-bad-requires c κs = search needs
+length-bad-requires c κs = tt
 
 slice-aggregate-result : tie.Need-slice-aggregate-result
-slice-aggregate-result c = search needs
+slice-aggregate-result c = omega arith
 
 returns : tie.Need-returns
 returns c = sym (body-empty-bad hourly _ _ (sym (c .before .before .length-bad .ensures) ∙ c .before .if1 .taken))
 
 blocks-requires : tie.Need-blocks-requires
-blocks-requires c κs = search needs
+blocks-requires c κs = tt
 
 slice-aggregate-result-2 : tie.Need-slice-aggregate-result-2
-slice-aggregate-result-2 c = search needs
+slice-aggregate-result-2 c = omega arith
 
 returns-2 : tie.Need-returns-2
 returns-2 c = sym (body-empty-past hourly _ _ (rw (← c .before .before .blocks2 .ensures) (c .before .if2 .taken)))
@@ -49,10 +48,10 @@ unfolding blocks
 add-to c = omega arith
 
 sub-result : tie.Need-sub-result
-sub-result c = search needs
+sub-result c = omega arith
 
 part-result-start : tie.Need-part-result-start
-part-result-start c = search needs
+part-result-start c = omega arith
 
 part-result-end : tie.Need-part-result-end
 unfolding blocks

@@ -7,10 +7,10 @@ use Rattle.hourfile.proofs.byte.Statement.{statement}
 use Rattle.hourfile.proofs.byte.Tie as tie
 
 shared-slice-read-wide : tie.Need-shared-slice-read-wide
-shared-slice-read-wide c = search needs
+shared-slice-read-wide c = omega arith
 
 wide-requires : tie.Need-wide-requires
-wide-requires c κs = search needs
+wide-requires c κs = tt
 
 returns : tie.Need-returns
 returns c = search needs

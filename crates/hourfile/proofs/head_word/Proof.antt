@@ -1,6 +1,5 @@
 -- `hourfile::head_word` meets its contract: words 8 to 127 of the first block, and 0 elsewhere.
 use mathlib.Core.Path.{sym, _∙_}
-use borrow.Author.Needs.{needs}
 use Rattle.rules.specs.HourFile.{hourly}
 use Rattle.rules.proofs.Words.{head-word, head-before, head-past}
 use Rattle.hourfile.proofs.head_word.Statement.{statement}
@@ -10,7 +9,7 @@ returns : tie.Need-returns
 returns c = sym (head-before hourly _ _ (c .if1 .taken))
 
 block-word-requires : tie.Need-block-word-requires
-block-word-requires c κs = search needs
+block-word-requires c κs = tt
 
 returns-2 : tie.Need-returns-2
 returns-2 c = c .block-word .ensures ∙ sym (head-word hourly _ _ (c .before .before .if1 .left) (c .before .if2 .taken))

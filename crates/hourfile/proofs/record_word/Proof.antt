@@ -1,14 +1,14 @@
 -- `hourfile::record_word` meets its contract: twelve words a record, ten records a block, and 0 elsewhere.
 use mathlib.Core.Path.{_≡_, sym, _∙_}
 use Prim.Native.Nat.{_≤_, _<_}
-use borrow.Author.Needs.{needs}
+use native.Mathlib.Omega.{arith}
 use Rattle.rules.specs.HourFile.{hourly, recordCount, recordWord}
 use Rattle.rules.proofs.Words.{record-count, record-word, record-past, record-word-past}
 use Rattle.hourfile.proofs.record_word.Statement.{statement}
 use Rattle.hourfile.proofs.record_word.Tie as tie
 
 records-requires : tie.Need-records-requires
-records-requires c κs = search needs
+records-requires c κs = tt
 
 returns : tie.Need-returns
 returns c =
@@ -16,19 +16,19 @@ returns c =
     sym (record-past hourly (at .file .now) (at .i) (at .w) (rw (← record-count, ← c .before .records .ensures) (c .if1 .taken)))
 
 add-block-word : tie.Need-add-block-word
-add-block-word c = search needs
+add-block-word c = omega arith
 
 mul-block-word : tie.Need-mul-block-word
-mul-block-word c = search needs
+mul-block-word c = omega arith
 
 add-block-word-2 : tie.Need-add-block-word-2
-add-block-word-2 c = search needs
+add-block-word-2 c = omega arith
 
 add-block-word-3 : tie.Need-add-block-word-3
-add-block-word-3 c = search needs
+add-block-word-3 c = omega arith
 
 block-word-requires : tie.Need-block-word-requires
-block-word-requires c κs = search needs
+block-word-requires c κs = tt
 
 returns-2 : tie.Need-returns-2
 unfolding recordWord

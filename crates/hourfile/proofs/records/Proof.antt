@@ -3,34 +3,33 @@ use mathlib.Core.Path.{_≡_, sym, _∙_, ap}
 use Prim.Native.Nat.{ℕ, _+_, _*_, _-_}
 use native.Mathlib.Omega.{arith}
 use lib.Dec.{leb}
-use borrow.Author.Needs.{needs}
 use borrow.Author.Tests.{le-leb, lt-leb}
 use Rattle.rules.specs.HourFile.{blocks, blockWord, recordCount, hourOf}
 use Rattle.hourfile.proofs.records.Statement.{statement}
 use Rattle.hourfile.proofs.records.Tie as tie
 
 blocks-requires : tie.Need-blocks-requires
-blocks-requires c κs = search needs
+blocks-requires c κs = tt
 
 returns : tie.Need-returns
 unfolding hourOf recordCount
 returns c = simp (ap (λ (n : ℕ). leb n 1) (sym (c .before .blocks2 .ensures)) ∙ le-leb _ _ (c .if1 .taken))
 
 sub-result : tie.Need-sub-result
-sub-result c = search needs
+sub-result c = omega arith
 
 mul-result : tie.Need-mul-result
 unfolding blocks
 mul-result c = omega arith
 
 sub-block-word : tie.Need-sub-block-word
-sub-block-word c = search needs
+sub-block-word c = omega arith
 
 block-word-requires : tie.Need-block-word-requires
-block-word-requires c κs = search needs
+block-word-requires c κs = tt
 
 cast-result : tie.Need-cast-result
-cast-result c = search needs
+cast-result c = omega arith
 
 add-result : tie.Need-add-result
 unfolding blocks

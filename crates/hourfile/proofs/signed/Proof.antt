@@ -3,7 +3,6 @@ use mathlib.Core.Path.{_∙_}
 use Prim.Native.Nat.{_<_}
 use native.Mathlib.Omega.{arith}
 use lib.IntN.{pos}
-use borrow.Author.Needs.{needs}
 use borrow.Author.Tests.{lt-ltb, le-ltb}
 use Rattle.whole.proofs.Machine.{Num, local, #, _:-_, fits, stored, i64-is}
 use Rattle.whole.proofs.Ranges.{upto-pos, u-upto}
@@ -19,14 +18,14 @@ less c =
     local (i64-is {n = c .before .args .w} (omega (arith, word-most (c .before)))) (u-upto (upto-pos (c .before .args .w) 4294967296 (omega (arith, word-most (c .before))))) :- # (pos 4294967296)
 
 cast-result : tie.Need-cast-result
-cast-result c = search needs
+cast-result c = omega arith
 
 returns : tie.Need-returns
 unfolding signed
 returns c = i64-is {n = c .before .args .w} (omega (arith, word-most (c .before))) ∙ rw (lt-ltb _ _ (c .if1 .taken))
 
 cast-result-2 : tie.Need-cast-result-2
-cast-result-2 c = search needs
+cast-result-2 c = omega arith
 
 sub-result : tie.Need-sub-result
 sub-result c = fits (less c) tt

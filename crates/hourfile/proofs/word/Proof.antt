@@ -7,13 +7,13 @@ use Rattle.hourfile.proofs.word.Statement.{statement}
 use Rattle.hourfile.proofs.word.Tie as tie
 
 whole-word-requires : tie.Need-whole-word-requires
-whole-word-requires c κs = search needs
+whole-word-requires c κs = omega arith
 
 returns : tie.Need-returns
 returns c = search needs
 
 cut-word-requires : tie.Need-cut-word-requires
-cut-word-requires c κs = search needs
+cut-word-requires c κs = omega arith
 
 returns-2 : tie.Need-returns-2
 returns-2 c = search needs

@@ -5,7 +5,6 @@ use mathlib.Core.Option.{none}
 use mathlib.Core.List.{List}
 use Prim.Native.Nat.{ℕ, _-_, _≤_}
 use native.Mathlib.Omega.{arith}
-use borrow.Author.Needs.{needs}
 use Rattle.whole.specs.Below.{firstBelow}
 use Rattle.whole.proofs.Search.{first-next, first-hit}
 use Rattle.rules.specs.HourFile.{hourly, word, blocks, blockWord}
@@ -38,7 +37,7 @@ module _ (c : tie.After-block-bad Inv-loop μ-loop) where
   told = c .block-bad .ensures ∙ ap (λ (l : List ℕ). isBroken (firstBroken (blockRule hourly n (word l 2) b) (word l) 128)) (c .before .block .ensures) ∙ block-part-broken file n b
 
 blocks-requires : tie.Need-blocks-requires Inv-loop μ-loop
-blocks-requires c κs = search needs
+blocks-requires c κs = tt
 
 loop-holds : tie.Need-loop-holds Inv-loop μ-loop
 unfolding firstBelow
@@ -57,7 +56,7 @@ unfolding blocks
 cast-block-bad-2 c = omega arith
 
 block-bad-requires : tie.Need-block-bad-requires Inv-loop μ-loop
-block-bad-requires c κs = search needs
+block-bad-requires c κs = tt
 
 returns : tie.Need-returns Inv-loop μ-loop
 unfolding badBlock

@@ -7,7 +7,6 @@ use Prim.Native.Nat.{ℕ, _-_, _*_, _≤_, _<_}
 use native.Mathlib.Omega.{arith}
 use lib.ListN.{take, drop}
 use lib.Dec.{leb, eqb}
-use borrow.Author.Needs.{needs}
 use borrow.Author.Tests.{le-leb, lt-leb}
 use Rattle.whole.specs.Below.{firstBelow}
 use Rattle.whole.proofs.Search.{first-next, first-hit, first-rest, none-below}
@@ -52,16 +51,16 @@ block-requires : tie.Need-block-requires Inv-loop μ-loop
 block-requires c κs = omega arith
 
 word-requires : tie.Need-word-requires Inv-loop μ-loop
-word-requires c κs = search needs
+word-requires c κs = tt
 
 word-requires-2 : tie.Need-word-requires-2 Inv-loop μ-loop
-word-requires-2 c κs = search needs
+word-requires-2 c κs = tt
 
 loop-holds : tie.Need-loop-holds Inv-loop μ-loop
 loop-holds c = (omega arith, omega arith, none-below _ 9 (λ w l. head-any _ _ w _ l))
 
 head-word-bad-requires : tie.Need-head-word-bad-requires Inv-loop μ-loop
-head-word-bad-requires c κs = search needs
+head-word-bad-requires c κs = tt
 
 returns : tie.Need-returns Inv-loop μ-loop
 unfolding badHead firstBroken
@@ -81,7 +80,7 @@ loop-again c =
     (omega arith, omega arith, first-next (bad (at .before .before .before .before .before .args .file .now)) (at .loop .w) (at .loop .inv .2) (sym (told-here (c .before)) ∙ c .if1 .left))
 
 first-not-zero-requires : tie.Need-first-not-zero-requires Inv-loop μ-loop
-first-not-zero-requires c κs = search needs
+first-not-zero-requires c κs = tt
 
 returns-2 : tie.Need-returns-2 Inv-loop μ-loop
 unfolding badHead firstBroken

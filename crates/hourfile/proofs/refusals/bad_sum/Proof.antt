@@ -6,7 +6,6 @@ use mathlib.Core.List.{List}
 use Prim.Native.Nat.{ℕ, _-_, _%_, _≤_}
 use native.Mathlib.Omega.{arith}
 use lib.Dec.{eqb}
-use borrow.Author.Needs.{needs}
 use borrow.Author.Tests.{eq-eqb, ne-eqb}
 use Rattle.whole.specs.Below.{sumBelow, firstBelow}
 use Rattle.whole.proofs.Search.{first-next, first-hit}
@@ -33,7 +32,7 @@ module _ (c : tie.After-sum-of Inv-loop μ-loop) where
   sum-is = c .sum-of .ensures ∙ ap (λ (l : List ℕ). sumBelow (word l) 128 % 0x1_0000_0000) (c .before .block .ensures) ∙ block-part-sum file (c .before .before .before .loop .b)
 
 blocks-requires : tie.Need-blocks-requires Inv-loop μ-loop
-blocks-requires c κs = search needs
+blocks-requires c κs = tt
 
 loop-holds : tie.Need-loop-holds Inv-loop μ-loop
 unfolding firstBelow
@@ -44,7 +43,7 @@ unfolding blocks
 block-requires c κs = omega arith
 
 sum-of-requires : tie.Need-sum-of-requires Inv-loop μ-loop
-sum-of-requires c κs = search needs
+sum-of-requires c κs = tt
 
 returns : tie.Need-returns Inv-loop μ-loop
 unfolding badSum

@@ -3,7 +3,6 @@ use mathlib.Core.Path.{_≡_, ap}
 use Prim.Native.Nat.{ℕ, _+_, _*_, _-_}
 use native.Mathlib.Omega.{arith}
 use lib.ListN.{take, drop}
-use borrow.Author.Needs.{needs}
 use Rattle.hourfile.proofs.refusals.block.Statement.{statement}
 use Rattle.hourfile.proofs.refusals.block.Tie as tie
 
@@ -11,22 +10,22 @@ gap : (b : ℕ) → (512 * b + 512) - 512 * b ≡ 512
 gap b = omega arith
 
 mul-from : tie.Need-mul-from
-mul-from c = search needs
+mul-from c = omega arith
 
 mul-to : tie.Need-mul-to
-mul-to c = search needs
+mul-to c = omega arith
 
 add-to : tie.Need-add-to
-add-to c = search needs
+add-to c = omega arith
 
 sub-result : tie.Need-sub-result
-sub-result c = search needs
+sub-result c = omega arith
 
 part-result-start : tie.Need-part-result-start
-part-result-start c = search needs
+part-result-start c = omega arith
 
 part-result-end : tie.Need-part-result-end
-part-result-end c = search needs
+part-result-end c = omega arith
 
 returns : tie.Need-returns
 returns c =

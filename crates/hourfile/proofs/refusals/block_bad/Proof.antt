@@ -2,6 +2,7 @@
 use mathlib.Core.Path.{_≡_, sym, _∙_, ap}
 use mathlib.Core.Bool.{Bool}
 use Prim.Native.Nat.{ℕ}
+use native.Mathlib.Omega.{arith}
 use borrow.Author.Needs.{needs}
 use Rattle.rules.specs.declared.Found.{Found}
 use Rattle.rules.specs.HourFile.{hourly, word}
@@ -27,10 +28,10 @@ rest-told c =
     ∙ ap isBroken (past-front _ _ _ _ (sym (at .front-bad .ensures) ∙ c .before .before .if1 .left) (c .before .if2 .left) ∙ sym (c .first-not-zero .ensures))
 
 word-requires : tie.Need-word-requires
-word-requires c κs = search needs
+word-requires c κs = tt
 
 front-bad-requires : tie.Need-front-bad-requires
-front-bad-requires c κs = search needs
+front-bad-requires c κs = tt
 
 returns : tie.Need-returns
 returns c = sym (sym (as-read (c .before)) ∙ front-broken _ _ _ _ (sym (c .before .front-bad .ensures) ∙ c .if1 .taken))
@@ -41,16 +42,16 @@ returns-2 c =
     sym (sym (as-read at) ∙ first-block-whole _ _ _ _ (sym (at .front-bad .ensures) ∙ c .before .if1 .left) (c .if2 .taken))
 
 cast-first-not-zero : tie.Need-cast-first-not-zero
-cast-first-not-zero c = search needs
+cast-first-not-zero c = omega arith
 
 mul-first-not-zero : tie.Need-mul-first-not-zero
-mul-first-not-zero c = search needs
+mul-first-not-zero c = omega arith
 
 add-first-not-zero : tie.Need-add-first-not-zero
-add-first-not-zero c = search needs
+add-first-not-zero c = omega arith
 
 first-not-zero-requires : tie.Need-first-not-zero-requires
-first-not-zero-requires c κs = search needs
+first-not-zero-requires c κs = tt
 
 enum-told : tie.Need-enum-told
 enum-told c = search needs

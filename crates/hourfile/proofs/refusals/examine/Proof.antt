@@ -25,14 +25,14 @@ blocks-good : (c : tie.After-enum-told2) → badBlock hourly (c .before .before 
 blocks-good c = sym (c .before .before .bad-block .ensures) ∙ ap foundAt (c .enum-told2 .given .1)
 
 length-bad-requires : tie.Need-length-bad-requires
-length-bad-requires c κs = search needs
+length-bad-requires c κs = tt
 
 returns : tie.Need-returns
 unfolding verdict fileRows layoutRows badLength
 returns c = simp (sym (c .before .length-bad .ensures) ∙ c .if1 .taken)
 
 bad-sum-requires : tie.Need-bad-sum-requires
-bad-sum-requires c κs = search needs
+bad-sum-requires c κs = tt
 
 enum-known-b : tie.Need-enum-known-b
 enum-known-b c = search needs

@@ -1,5 +1,6 @@
 -- `hourfile::refusals::examine_hour` meets its contract: the first row that is broken. The first fault tells the first bad record.
 use mathlib.Core.Path.{sym, _∙_, ap}
+use native.Mathlib.Omega.{arith}
 use borrow.Author.Needs.{needs}
 use Rattle.rules.specs.Refusals.{foundAt, verdict, wordRows}
 use Rattle.rules.proofs.Faults.{fault-record, fault-nowhere}
@@ -8,7 +9,7 @@ use Rattle.hourfile.proofs.refusals.examine_hour.Statement.{statement}
 use Rattle.hourfile.proofs.refusals.examine_hour.Tie as tie
 
 bad-head-requires : tie.Need-bad-head-requires
-bad-head-requires c κs = search needs
+bad-head-requires c κs = omega arith
 
 enum-known-w : tie.Need-enum-known-w
 enum-known-w c = search needs
@@ -21,7 +22,7 @@ enum-told : tie.Need-enum-told
 enum-told c = search needs
 
 first-fault-requires : tie.Need-first-fault-requires
-first-fault-requires c κs = search needs
+first-fault-requires c κs = omega arith
 
 enum-known-i : tie.Need-enum-known-i
 enum-known-i c = search needs

@@ -7,7 +7,6 @@ use mathlib.Core.List.{List}
 use Prim.Native.Nat.{ℕ, _+_, _-_, _*_, _/_, _≤_, _<_}
 use native.Mathlib.Omega.{arith}
 use lib.ListN.{take, drop}
-use borrow.Author.Needs.{needs}
 use Rattle.whole.specs.Below.{firstBelow}
 use Rattle.whole.proofs.Search.{first-next, first-hit}
 use Rattle.rules.specs.Record.{members, areas}
@@ -71,13 +70,13 @@ stops c =
     fault-at (hourOf hourly s) i (at .loop .w) (first-hit (record-bad s) i (hourOf hourly s .count) (rows .rows .inv .1) (ap isBroken word-first) (rw (← rows .before .records .ensures) (at .before .before .before .rows-test .taken))) word-first
 
 head-word-requires : tie.Need-head-word-requires Inv-loop μ-loop Inv-rows μ-rows
-head-word-requires c κs = search needs
+head-word-requires c κs = tt
 
 head-word-requires-2 : tie.Need-head-word-requires-2 Inv-loop μ-loop Inv-rows μ-rows
-head-word-requires-2 c κs = search needs
+head-word-requires-2 c κs = tt
 
 records-requires : tie.Need-records-requires Inv-loop μ-loop Inv-rows μ-rows
-records-requires c κs = search needs
+records-requires c κs = tt
 
 rows-holds : tie.Need-rows-holds Inv-loop μ-loop Inv-rows μ-rows
 unfolding firstBelow
@@ -90,14 +89,14 @@ record-requires c κs =
     omega (arith, record-count hourly (at .args .file .now))
 
 word-requires : tie.Need-word-requires Inv-loop μ-loop Inv-rows μ-rows
-word-requires c κs = search needs
+word-requires c κs = tt
 
 loop-holds : tie.Need-loop-holds Inv-loop μ-loop Inv-rows μ-rows
 unfolding firstBelow
 loop-holds c = (omega arith, refl)
 
 record-word-bad-requires : tie.Need-record-word-bad-requires Inv-loop μ-loop Inv-rows μ-rows
-record-word-bad-requires c κs = search needs
+record-word-bad-requires c κs = tt
 
 add-w : tie.Need-add-w Inv-loop μ-loop Inv-rows μ-rows
 add-w c = omega arith

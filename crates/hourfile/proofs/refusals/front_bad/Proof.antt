@@ -5,7 +5,6 @@ use mathlib.Core.Option.{none}
 use mathlib.Core.List.{List}
 use Prim.Native.Nat.{ℕ, _-_, _≤_}
 use native.Mathlib.Omega.{arith}
-use borrow.Author.Needs.{needs}
 use Rattle.whole.specs.Below.{firstBelow}
 use Rattle.whole.proofs.Search.{first-next, first-hit}
 use Rattle.rules.specs.HourFile.{hourly, word}
@@ -32,7 +31,7 @@ unfolding firstBelow
 loop-holds c = (omega arith, refl)
 
 block-word-bad-requires : tie.Need-block-word-bad-requires Inv-loop μ-loop
-block-word-bad-requires c κs = search needs
+block-word-bad-requires c κs = tt
 
 returns : tie.Need-returns Inv-loop μ-loop
 unfolding firstBroken

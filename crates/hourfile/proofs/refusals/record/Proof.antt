@@ -3,7 +3,6 @@ use mathlib.Core.Path.{_≡_, ap}
 use Prim.Native.Nat.{ℕ, _+_, _*_, _-_, _/_}
 use native.Mathlib.Omega.{arith}
 use lib.ListN.{take, drop}
-use borrow.Author.Needs.{needs}
 use Rattle.hourfile.proofs.refusals.record.Statement.{statement}
 use Rattle.hourfile.proofs.refusals.record.Tie as tie
 
@@ -11,28 +10,28 @@ gap : (from : ℕ) → (from + 48) - from ≡ 48
 gap from = omega arith
 
 mul-from : tie.Need-mul-from
-mul-from c = search needs
+mul-from c = omega arith
 
 add-from : tie.Need-add-from
-add-from c = search needs
+add-from c = omega arith
 
 mul-from-2 : tie.Need-mul-from-2
-mul-from-2 c = search needs
+mul-from-2 c = omega arith
 
 add-from-2 : tie.Need-add-from-2
-add-from-2 c = search needs
+add-from-2 c = omega arith
 
 add-to : tie.Need-add-to
-add-to c = search needs
+add-to c = omega arith
 
 sub-result : tie.Need-sub-result
-sub-result c = search needs
+sub-result c = omega arith
 
 part-result-start : tie.Need-part-result-start
-part-result-start c = search needs
+part-result-start c = omega arith
 
 part-result-end : tie.Need-part-result-end
-part-result-end c = search needs
+part-result-end c = omega arith
 
 returns : tie.Need-returns
 returns c =

@@ -2,7 +2,6 @@
 use mathlib.Core.Path.{_≡_, refl, _∙_, ap}
 use Prim.Native.Nat.{ℕ, _-_, _%_, _≤_}
 use native.Mathlib.Omega.{arith}
-use borrow.Author.Needs.{needs}
 use Rattle.whole.specs.Below.{sumBelow}
 use Rattle.whole.proofs.Sums.{wraps-on}
 use Rattle.rules.specs.HourFile.{word}
@@ -20,10 +19,10 @@ unfolding sumBelow
 loop-holds c = (omega arith, refl)
 
 word-requires : tie.Need-word-requires Inv-loop μ-loop
-word-requires c κs = search needs
+word-requires c κs = tt
 
 added-requires : tie.Need-added-requires Inv-loop μ-loop
-added-requires c κs = search needs
+added-requires c κs = tt
 
 add-w : tie.Need-add-w Inv-loop μ-loop
 add-w c = omega arith
