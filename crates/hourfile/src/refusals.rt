@@ -178,8 +178,7 @@ fn record(file: &[u8], i: usize) -> &[u8]
 fn record_word_bad(row: &[u8], members: u32, areas: u32, kind: u32, w: usize) -> bool
     ensures { λ r. ⌜ r ≡ not (Ranges.keeps (Ranges.recordRule members areas kind w) (HourFile.word (now (row .entry)) w)) ⌝ }
 {
-    let rule = wordrules::record_rule(members, areas, kind, w);
-    !wordrules::keeps(rule, crate::word(row, w))
+    !wordrules::record_keeps(members, areas, kind, w, crate::word(row, w))
 }
 
 // The search leaves all the rows at the first record, and in it the first word, that breaks a rule.

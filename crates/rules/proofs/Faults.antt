@@ -7,26 +7,18 @@ use Prim.Native.Nat.{ℕ, _+_, _-_, _*_, _≤_, _<_, zero-le}
 use native.Mathlib.Omega.{arith}
 use lib.ListN.{take, drop}
 use lib.Dec.{leb, eqb}
-use borrow.Author.Tests.{leb-true, leb-false, eqb-true, eqb-false, lt-ltb, le-ltb, le-leb, lt-leb, eq-eqb, ne-eqb}
+use borrow.Author.Tests.{leb-false, eqb-true, lt-ltb, le-ltb, lt-leb, eq-eqb, ne-eqb}
 use Rattle.whole.proofs.Tests.{split, never, never-some}
 use Rattle.whole.specs.Below.{firstBelow}
 use Rattle.whole.proofs.Search.{first-some, first-more, first-rest, first-ext, none-below}
 use Rattle.rules.specs.declared.Rule.the-variants.{Any}
 use Rattle.rules.specs.Record.{Hour}
 use Rattle.rules.specs.HourFile.{hourly, word, blocks, blockWord, recordCount}
-use Rattle.rules.specs.Ranges.{keeps, mustBeZero, firstBroken, pastRule, blockRule, headRule}
+use Rattle.rules.specs.Ranges.{keeps, firstBroken, pastRule, blockRule, headRule}
 use Rattle.rules.specs.Refusals.{isBroken, badLength, badBlock, badWord, badRecord, firstFault}
-use Rattle.rules.proofs.RuleTables.{block-words}
+use Rattle.rules.proofs.RuleTables.{zero-kept, block-words}
 use Rattle.rules.proofs.PartWords.{block-part-word}
 use Rattle.rules.proofs.Kept.{unbroken, held-most}
-
--- ---- words that must be zero
-
-zero-kept : (v : ℕ) → not (keeps mustBeZero v) ≡ not (eqb v 0)
-unfolding keeps
-zero-kept v = split (eqb v 0)
-    (λ t. rw (t, eqb-true v 0 t))
-    (λ t. rw (t, le-leb 0 v (omega arith), lt-leb v 0 (omega (arith, eqb-false v 0 t))))
 
 -- ---- a block: words 0 to 6, and those past its records
 
@@ -50,7 +42,7 @@ module _ (n held b : ℕ) where
   unfolding pastRule keeps
   past-records w v f l = rw (body-rule w l) (split (eqb w 7)
       (λ t. rw (t, lt-leb (8 + 12 * held) w (omega (arith, eqb-true w 7 t))))
-      (λ t. split (leb (8 + 12 * held) w) (λ u. rw (t, ne-eqb b 0 f, u) (zero-kept v)) (λ u. rw (t, ne-eqb b 0 f, u))))
+      (λ t. split (leb (8 + 12 * held) w) (λ u. rw (t, ne-eqb b 0 f, u) (ap not (zero-kept v))) (λ u. rw (t, ne-eqb b 0 f, u))))
 
   module _ (word : ℕ → ℕ) where
     abbrev brokenBelow : ℕ → Option ℕ
@@ -87,7 +79,7 @@ module _ (zones areas : ℕ) where
   -- from word 48 on they must be zero
   pub head-zero : (w v : ℕ) → 48 ≤ w → not (keeps (headRule zones areas w) v) ≡ not (eqb v 0)
   unfolding headRule
-  head-zero w v l = rw (le-ltb w 9 (omega arith), le-ltb w 12 (omega arith), le-ltb w 16 (omega arith), le-ltb w 48 l) (zero-kept v)
+  head-zero w v l = rw (le-ltb w 9 (omega arith), le-ltb w 12 (omega arith), le-ltb w 16 (omega arith), le-ltb w 48 l) (ap not (zero-kept v))
 
 -- ---- the first fault: the first bad record, and in it the first bad word
 

@@ -7,20 +7,30 @@ use Prim.Native.Nat.{ℕ, zero, suc, _+_, _-_, _≤_, _<_}
 use native.Mathlib.Omega.{arith}
 use lib.IntN.{pos, natAbs, _-ℤ_}
 use lib.ListN.{length, getD, List·getD-eq-default}
+use lib.Seq.{getD-drop}
 use lib.Dec.{ltb, leb, eqb}
-use borrow.Author.Tests.{lt-ltb, le-ltb, lt-leb, ne-eqb}
+use borrow.Author.Tests.{eqb-true, eqb-false, lt-ltb, le-ltb, le-leb, lt-leb, ne-eqb}
+use Rattle.whole.proofs.Tests.{split}
 use Rattle.whole.proofs.Tables.{EachBelow, alike}
 use Rattle.rules.specs.declared.Kind.{Kind}
 use Rattle.rules.specs.declared.Kind.the-variants.{Generator, RealTimeLoad, ProfileLoad, Import, Export, Unknown}
 use Rattle.rules.specs.declared.Rule.{Rule}
 use Rattle.rules.specs.declared.Rule.the-variants.{Any, Between, LessThan}
 use Rattle.rules.specs.Record.{signed, kindOf}
-use Rattle.rules.specs.Ranges.{keeps, mustBeZero, countRules, areaRule, energy, adjustment, multiplier, rowOf}
+use Rattle.rules.specs.Ranges.{keeps, mustBeZero, countRules, areaRule, energy, adjustment, multiplier, rowOf, recordRule}
 
 -- ---- the size of a negative number in two's complement
 
 pub size-below : (x : ℕ) → x < 4294967296 → natAbs (pos x -ℤ pos 4294967296) ≡ (4294967295 - x) + 1
 size-below x l = rw (lt-ltb x 4294967296 l) (omega arith)
+
+-- ---- a word that must be zero
+
+pub zero-kept : (v : ℕ) → keeps mustBeZero v ≡ eqb v 0
+unfolding keeps
+zero-kept v = split (eqb v 0)
+    (λ t. rw (t, eqb-true v 0 t))
+    (λ t. rw (t, le-leb 0 v (omega arith), lt-leb v 0 (omega (arith, eqb-false v 0 t))))
 
 -- ---- words of a block
 
@@ -163,3 +173,11 @@ rows-picked Unknown = refl
 -- what a kind uses has the generator's rule, and what it does not use is zero
 pub used-or-zero : (K : Kind) (w : ℕ) → wordOf K w ≡ cond (usedBy K w) (wordOf Generator w) mustBeZero
 used-or-zero K w = ap (λ (rs : List Rule). getD rs (w - 3) mustBeZero) (sym (rows-picked K)) ∙ at-picked (rowOf K) (rowOf Generator) (w - 3)
+
+-- from word 3 on a record has the row of its kind
+pub record-words : (members areas kind w : ℕ) → 3 ≤ w → recordRule members areas kind w ≡ wordOf (kindOf kind) w
+unfolding recordRule
+record-words members areas kind w l =
+    let rules : List Rule = Between 1 5 ∷ LessThan members ∷ LessThan areas ∷ rowOf (kindOf kind) in
+    let e : 3 + (w - 3) ≡ w = omega arith in
+    sym (getD-drop 3 rules (w - 3) mustBeZero ∙ ap (λ (w : ℕ). getD rules w mustBeZero) e)

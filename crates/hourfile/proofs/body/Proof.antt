@@ -4,7 +4,7 @@ use Prim.Native.Nat.{ℕ, _+_, _*_, _-_}
 use native.Mathlib.Omega.{arith}
 use lib.Dec.{leb}
 use lib.ListN.{take, drop}
-use borrow.Author.Tests.{le-leb, lt-leb}
+use borrow.Author.Tests.{lt-leb}
 use Rattle.rules.specs.HourFile.{hourly, blocks, body}
 use Rattle.rules.proofs.Words.{body-empty-bad, body-empty-past}
 use Rattle.hourfile.proofs.body.Statement.{statement}

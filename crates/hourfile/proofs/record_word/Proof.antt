@@ -1,8 +1,7 @@
 -- `hourfile::record_word` meets its contract: twelve words a record, ten records a block, and 0 elsewhere.
-use mathlib.Core.Path.{_≡_, sym, _∙_}
-use Prim.Native.Nat.{_≤_, _<_}
+use mathlib.Core.Path.{sym, _∙_}
 use native.Mathlib.Omega.{arith}
-use Rattle.rules.specs.HourFile.{hourly, recordCount, recordWord}
+use Rattle.rules.specs.HourFile.{hourly, recordWord}
 use Rattle.rules.proofs.Words.{record-count, record-word, record-past, record-word-past}
 use Rattle.hourfile.proofs.record_word.Statement.{statement}
 use Rattle.hourfile.proofs.record_word.Tie as tie

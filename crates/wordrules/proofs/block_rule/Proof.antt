@@ -4,8 +4,6 @@ use borrow.Author.Needs.{needs}
 use borrow.Author.Tests.{lt-ltb, le-ltb, ne-eqb}
 use Rattle.rules.specs.Ranges.{blockRule}
 use Rattle.rules.proofs.RuleTables.{block-words}
-use mathlib.Core.Path.{sym, _∙_}
-use borrow.Author.Tests.{lt-ltb, le-ltb, eq-eqb, ne-eqb}
 use Rattle.wordrules.proofs.block_rule.Statement.{statement}
 use Rattle.wordrules.proofs.block_rule.Tie as tie
 

@@ -5,7 +5,6 @@ use native.Mathlib.Omega.{arith}
 use borrow.Author.Needs.{needs}
 use borrow.Author.Tests.{lt-ltb, le-ltb, eq-eqb, ne-eqb}
 use Rattle.rules.specs.Ranges.{countRule}
-use mathlib.Core.Path.{_≡_, _∙_}
 use Rattle.wordrules.proofs.count_rule.Statement.{statement}
 use Rattle.wordrules.proofs.count_rule.Tie as tie
 

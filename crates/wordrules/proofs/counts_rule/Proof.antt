@@ -1,5 +1,4 @@
 -- `wordrules::counts_rule` meets its contract: the table by its tests.
-use mathlib.Core.Path.{sym, _∙_}
 use borrow.Author.Tests.{le-leb, lt-leb, eq-eqb, ne-eqb}
 use Rattle.rules.proofs.RuleTables.{count-words}
 use Rattle.wordrules.proofs.counts_rule.Statement.{statement}

@@ -1,5 +1,5 @@
 -- `hourfile::refusals::bad_head` meets its contract. The loop's invariant: no word passed breaks its rule. From word 48 on the test is for zero.
-use mathlib.Core.Path.{_≡_, refl, sym, _∙_, ap}
+use mathlib.Core.Path.{_≡_, sym, _∙_, ap}
 use mathlib.Core.Bool.{Bool, not, _&&_}
 use mathlib.Core.Option.{none}
 use mathlib.Core.List.{List}
@@ -16,8 +16,6 @@ use Rattle.rules.specs.Ranges.{keeps, headRule, firstBroken}
 use Rattle.rules.specs.Refusals.{badHead}
 use Rattle.rules.proofs.PartWords.{head-part-word}
 use Rattle.rules.proofs.Faults.{head-any, head-zero}
-use mathlib.Core.Bool.{Bool, not}
-use Prim.Native.Nat.{ℕ, _-_, _≤_}
 use Rattle.hourfile.proofs.refusals.bad_head.Statement.{statement}
 use Rattle.hourfile.proofs.refusals.bad_head.Tie as tie
 

@@ -2,7 +2,7 @@
 use mathlib.Core.Path.{_≡_, refl, sym, _∙_, ap}
 use mathlib.Core.Logic.{⊎-elim}
 use mathlib.Core.Bool.{Bool, not}
-use mathlib.Core.Option.{Option, none, some}
+use mathlib.Core.Option.{none, some}
 use mathlib.Core.List.{List}
 use Prim.Native.Nat.{ℕ, _+_, _-_, _*_, _/_, _≤_, _<_}
 use native.Mathlib.Omega.{arith}
@@ -10,13 +10,12 @@ use lib.ListN.{take, drop}
 use Rattle.whole.specs.Below.{firstBelow}
 use Rattle.whole.proofs.Search.{first-next, first-hit}
 use Rattle.rules.specs.Record.{members, areas}
-use Rattle.rules.specs.HourFile.{hourly, word, blocks, recordCount, hourOf}
+use Rattle.rules.specs.HourFile.{hourly, word, blocks, hourOf}
 use Rattle.rules.specs.Ranges.{keeps, recordRule, firstBroken}
 use Rattle.rules.specs.Refusals.{isBroken, badWord, badRecord, firstFault}
 use Rattle.rules.proofs.Words.{record-count}
 use Rattle.rules.proofs.PartWords.{record-part-word}
 use Rattle.rules.proofs.Faults.{fault-at, no-fault}
-use mathlib.Core.Option.{none, some}
 use Rattle.hourfile.proofs.refusals.first_fault.Statement.{statement}
 use Rattle.hourfile.proofs.refusals.first_fault.Tie as tie
 

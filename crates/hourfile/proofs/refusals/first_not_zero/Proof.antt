@@ -1,5 +1,5 @@
 -- `hourfile::refusals::first_not_zero` meets its contract. The loop's invariant: no word passed, from `from` on, is other than zero.
-use mathlib.Core.Path.{_≡_, sym, _∙_, ap}
+use mathlib.Core.Path.{_≡_, sym, _∙_}
 use mathlib.Core.Bool.{Bool, not, _&&_}
 use mathlib.Core.Option.{none}
 use mathlib.Core.List.{List}

@@ -1,22 +1,20 @@
--- `hourfile::refusals::record_word_bad` meets its contract: the rule of the word, and whether the word keeps it.
-use mathlib.Core.Path.{_∙_, ap, ap₂}
+-- `hourfile::refusals::record_word_bad` meets its contract: whether the word that is read keeps its rule.
+use mathlib.Core.Path.{_∙_, ap}
 use mathlib.Core.Bool.{not}
-use Rattle.rules.specs.Ranges.{keeps}
+use Rattle.rules.specs.Ranges.{keeps, recordRule}
 use Rattle.hourfile.proofs.refusals.record_word_bad.Statement.{statement}
 use Rattle.hourfile.proofs.refusals.record_word_bad.Tie as tie
-
-record-rule-requires : tie.Need-record-rule-requires
-record-rule-requires c κs = tt
 
 word-requires : tie.Need-word-requires
 word-requires c κs = tt
 
-keeps-requires : tie.Need-keeps-requires
-keeps-requires c κs = tt
+record-keeps-requires : tie.Need-record-keeps-requires
+record-keeps-requires c κs = tt
 
 returns : tie.Need-returns
-returns c = ap not (c .keeps .ensures ∙ ap₂ keeps (c .before .before .record-rule .ensures) (c .before .word .ensures))
+returns c =
+    let at = c .before .before .before .args in
+    ap not (c .record-keeps .ensures ∙ ap (keeps (recordRule (at .members) (at .areas) (at .kind) (at .w))) (c .before .word .ensures))
 
 pub record-word-bad-spec : {M : Type 1} → statement M
-record-word-bad-spec =
-    tie.close (tie.spec record-rule-requires word-requires keeps-requires returns)
+record-word-bad-spec = tie.close (tie.spec word-requires record-keeps-requires returns)
