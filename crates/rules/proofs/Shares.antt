@@ -1,17 +1,18 @@
 -- A size shared in whole units: handing the units left over out one at a time gives them by rank, the shares add up to the size, and
 -- each is less than a unit from its exact fraction. Who takes no part may as well demand 0.
 use Prim.Native.Nat.{ℕ, zero, suc, _+_, _-_, _*_, _/_, _%_, _≤_, _<_, zero-le}
-use native.Mathlib.Nat.{not-suc-le-zero, le-refl, le-trans, div-add-mod', mod-lt, le-of-mul-le-mul-right, sub-add-cancel, mul-zero, zero-mul, zero-div, zero-mod, zero-sub}
+use native.Mathlib.Nat.{not-suc-le-zero, le-refl, le-trans, div-add-mod', mod-lt, le-of-mul-le-mul-right, sub-add-cancel, eq-zero-or-pos, le-of-eq, mul-zero, zero-mul, zero-div, zero-mod, zero-sub}
 use native.Mathlib.Omega.{arith}
 use mathlib.Core.Path.{_≡_, refl, sym, _∙_, ap, ap₂, subst}
-use mathlib.Core.Bool.{Bool, true, false, not, cond, _&&_, _||_}
+use mathlib.Core.Logic.{⊎-elim}
+use mathlib.Core.Bool.{Bool, true, false, not, cond, and-false, _&&_}
 use mathlib.Core.Option.{Option, none, some}
 use lib.IntN.{ℤ, pos, natAbs}
 use lib.Dec.{ltb, eqb}
 use borrow.Author.Tests.{ltb-true, ltb-false, eqb-true, eqb-false, not-true, not-false, lt-ltb, le-ltb, eq-eqb, ne-eqb}
 use Rattle.whole.specs.Below.{oneIf, countBelow, sumBelow}
 use Rattle.whole.specs.Signed.{withSignOf}
-use Rattle.whole.proofs.Tests.{split, never, both, and-ext, and-mono, last-or-below}
+use Rattle.whole.proofs.Tests.{split, never, both, and-mono, cond-ext, last-or-below}
 use Rattle.whole.proofs.Sums.{count-ext, count-mono, sum-ext, sum-mono, sum-at, sum-add, sum-mul, sum-one-if, sum-zero}
 use Rattle.whole.proofs.Rank.{Order, by-key, why-ahead, count-served}
 use Rattle.whole.proofs.Handing.{Handing, handed}
@@ -223,3 +224,39 @@ module _ (takes : ℕ → Bool) (D : ℕ → ℕ) (n U : ℕ) (some-demand : 0 <
   size-near i l t = split (ltb (rank i) left)
       (λ e. let p = has-remainder i (ltb-true (rank i) left e) in rw (size-is i l, t, e) (omega (arith, parts i, below-T i)))
       (λ e. rw (size-is i l, t, e) (omega (arith, parts i, below-T i)))
+
+-- ---- for every demand
+
+demanded : (t : ℕ) → not (eqb t 0) ≡ true → 0 < t
+demanded t e = omega (arith, eqb-false t 0 (not-true (eqb t 0) e))
+
+module _ (takes : ℕ → Bool) (D : ℕ → ℕ) (n U i : ℕ) where
+  -- The size of a share is that by rank.
+  pub ranked : i < n → shareSize takes D n U i ≡ rankedSize takes D n U i
+  unfolding shareSize rankedSize
+  ranked l = cond-ext (takes i && not (eqb (allDemand takes D n) 0)) _ _ 0 (λ t.
+      let c = both (takes i) (not (eqb (allDemand takes D n) 0)) t in
+      rw (handed-by-rank takes D n U (demanded (allDemand takes D n) (c .1)) i l, c .0))
+
+  pub nothing-for-others : takes i ≡ false → shareSize takes D n U i ≡ 0
+  unfolding shareSize
+  nothing-for-others f = rw f
+
+  pub nothing-without-demand : allDemand takes D n ≡ 0 → shareSize takes D n U i ≡ 0
+  unfolding shareSize
+  nothing-without-demand e = rw (e, and-false)
+
+-- The shares never add up to more than the size shared, and no share is larger.
+pub sizes-at-most : (takes : ℕ → Bool) (D : ℕ → ℕ) (n U : ℕ) → sumBelow (shareSize takes D n U) n ≤ U
+sizes-at-most takes D n U = ⊎-elim
+    (λ z. le-trans (le-of-eq (sum-ext _ (λ i. 0) n (λ i l. nothing-without-demand takes D n U i z) ∙ sum-zero n)) zero-le)
+    (λ p. le-of-eq (sizes-add-up takes D n U p))
+    (eq-zero-or-pos (allDemand takes D n))
+
+pub size-at-most : (takes : ℕ → Bool) (D : ℕ → ℕ) (n U i : ℕ) → i < n → shareSize takes D n U i ≤ U
+size-at-most takes D n U i l = le-trans (sum-at (shareSize takes D n U) n i l) (sizes-at-most takes D n U)
+
+-- Nothing is shared out of 0.
+pub share-of-zero : (takes : ℕ → Bool) (D : ℕ → ℕ) (n i : ℕ) → share takes D n (pos 0) i ≡ pos 0
+unfolding share shareSize wholePart unitsLeft handedOut
+share-of-zero takes D n i = rw (mul-zero, zero-div, zero-sub) (split (takes i && not (eqb (allDemand takes D n) 0)) (λ t. rw t) (λ f. rw f))

@@ -48,3 +48,8 @@ no-else (some i) b e = never-some e
 -- a number below n + 1 is n or below n
 pub last-or-below {ℓ} : {X : Type ℓ} (i n : ℕ) → i < suc n → (i ≡ n → X) → (i < n → X) → X
 last-or-below i n l f g = split (eqb i n) (λ t. f (eqb-true i n t)) (λ t. g (omega (arith, eqb-false i n t)))
+
+-- the first branch, where its test has passed
+pub cond-ext {ℓ} : {A : Type ℓ} (c : Bool) (x y z : A) → (c ≡ true → x ≡ y) → cond c x z ≡ cond c y z
+cond-ext true x y z f = f refl
+cond-ext false x y z f = refl
