@@ -1,0 +1,3 @@
+-- The laws behind the engine.
+pub mod Parts
+pub mod Served

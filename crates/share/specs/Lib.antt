@@ -1,0 +1,2 @@
+-- What the sharing engine asks of its callers, and what its steps ask of each other.
+pub mod Shareable
