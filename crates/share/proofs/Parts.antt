@@ -9,7 +9,8 @@ use Rattle.whole.specs.Below.{sumBelow}
 use Rattle.whole.proofs.Sums.{sum-add-one, sum-prefix}
 use Rattle.rules.specs.Share.{allDemand, wholePart, remainder, unitsLeft}
 use Rattle.rules.proofs.Shares.{whole-parts-and-left}
-use Rattle.share.specs.Shareable.{at, everyone, demanded, Dividing}
+use Rattle.share.specs.Shareable.{at, everyone, demanded}
+use Rattle.share.specs.Steps.{Dividing}
 
 pub demanded-is : (l : List ℕ) → demanded l ≡ sumBelow (at l) (length l)
 unfolding allDemand

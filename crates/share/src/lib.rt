@@ -1,13 +1,13 @@
 // A size shared over demands in whole units, by largest remainders: `rules`' definition `shareSize`, with everybody taking part.
 // Who takes no part is passed with demand 0. Sizes only: the sign is put on by the caller.
 ghost use mathlib.Core.Path.{_≡_};
-ghost use mathlib.Core.Bool.{cond};
 ghost use mathlib.Core.Option.{some};
-ghost use Prim.Native.Nat.{_+_, _≤_, _<_};
+ghost use Prim.Native.Nat.{_≤_, _<_};
 ghost use lib.ListN.{length};
-ghost use Rattle.whole.specs.Below.{oneIf, replacingFirst};
-ghost use Rattle.rules.specs.Share.{firstLargest, handedOut, wholePart, remainder, unitsLeft, shareSize};
-ghost use Rattle.share.specs.Shareable.{at, everyone, demanded, Shareable, Dividing, Handing};
+ghost use Rattle.whole.specs.Below.{replacingFirst};
+ghost use Rattle.rules.specs.Share.{firstLargest, shareSize};
+ghost use Rattle.share.specs.Shareable.{at, everyone, demanded, Shareable};
+ghost use Rattle.share.specs.Steps.{Dividing, Divided, Handing, Handed};
 
 // The sum of the demands.
 fn total(demands: &[u64]) -> u64
@@ -26,9 +26,7 @@ fn total(demands: &[u64]) -> u64
 // Each demand's whole part into `out` and its remainder into `rests`; how many units that leaves over.
 fn divide(demands: &[u64], size: u64, t: u64, rests: &mut [u64], out: &mut [u64]) -> u64
     requires { ⌜ Dividing (now demands) size t (now rests) (now out) ⌝ }
-    ensures left { λ r. ⌜ r ≡ unitsLeft everyone (at (now (demands .entry))) (length (now (demands .entry))) size ⌝ }
-    ensures remainders { λ _. ⌜ now (rests .exit) ≡ replacingFirst (remainder everyone (at (now (demands .entry))) (length (now (demands .entry))) size) (length (now (demands .entry))) (now (rests .entry)) ⌝ }
-    ensures whole_parts { λ _. ⌜ now (out .exit) ≡ replacingFirst (wholePart everyone (at (now (demands .entry))) (length (now (demands .entry))) size) (length (now (demands .entry))) (now (out .entry)) ⌝ }
+    ensures { λ r. ⌜ Divided (now (demands .entry)) size (now (rests .entry)) (now (out .entry)) r (now (rests .exit)) (now (out .exit)) ⌝ }
 {
     let mut handed: u64 = 0;
     let mut i = 0;
@@ -62,8 +60,7 @@ fn largest(rests: &[u64]) -> usize
 // `units` units, one at a time, each to the largest remainder, which is then 0.
 fn hand_out(rests: &mut [u64], units: u64, out: &mut [u64])
     requires { ⌜ Handing (now rests) units (now out) ⌝ }
-    ensures { λ _. ⌜ now (out .exit) ≡ replacingFirst (λ i. at (now (out .entry)) i + oneIf (handedOut (at (now (rests .entry))) everyone (length (now (rests .entry))) units i)) (length (now (rests .entry))) (now (out .entry)) ⌝ }
-    ensures served { λ _. ⌜ now (rests .exit) ≡ replacingFirst (λ i. cond (handedOut (at (now (rests .entry))) everyone (length (now (rests .entry))) units i) 0 (at (now (rests .entry)) i)) (length (now (rests .entry))) (now (rests .entry)) ⌝ }
+    ensures { λ _. ⌜ Handed (now (rests .entry)) units (now (out .entry)) (now (rests .exit)) (now (out .exit)) ⌝ }
 {
     let mut k: u64 = 0;
     while k < units {
