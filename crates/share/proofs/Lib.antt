@@ -2,3 +2,4 @@
 pub mod Parts
 pub mod Served
 pub mod Shared
+pub mod Uses

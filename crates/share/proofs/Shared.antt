@@ -13,7 +13,7 @@ use Rattle.whole.proofs.Sums.{count-ext, count-most, all-count}
 use Rattle.whole.proofs.Buffers.{replacing-ext, replacing-twice, getD-replacing, length-replacing}
 use Rattle.rules.specs.Share.{allDemand, handedOut, wholePart, remainder, unitsLeft, shareSize}
 use Rattle.rules.proofs.Shares.{left-few, handed-ext, nothing-without-demand}
-use Rattle.share.specs.Shareable.{at, everyone, demanded, Shareable}
+use Rattle.share.specs.Shareable.{at, everyone, demanded, Shareable, sharesIn}
 use Rattle.share.specs.Steps.{Dividing, Divided, Handing, Handed, has}
 use Rattle.share.proofs.Parts.{whole-is}
 
@@ -60,7 +60,24 @@ module _ {demands : List ℕ} {size t : ℕ} {rests₀ out₀ : List ℕ} (d : D
         let most : units ≤ countBelow everyone n = omega (arith, p .left-over, few-left, count-most (λ j. ltb 0 (R j)) n, all-count n) in
         rw (whole-at i l, handed-ext (at rests) R everyone n units most rest-at i l, p .left-over, ne-eqb (demanded demands) 0 (λ e. omega (arith, some-demand)))
 
-    pub shared-out : {rests₁ out₁ : List ℕ} → Handed rests units out rests₁ out₁ → out₁ ≡ replacingFirst (shareSize everyone (at demands) n size) n out₀
+    pub shared-out : {rests₁ out₁ : List ℕ} → Handed rests units out rests₁ out₁ → out₁ ≡ sharesIn demands size out₀
     shared-out {rests₁} {out₁} h =
         let e : out₁ ≡ replacingFirst (λ i. at out i + oneIf (handedOut (at rests) everyone n units i)) n out = rw as-many at (h .grown) in
         e ∙ replacing-ext _ _ n out size-is ∙ rw (p .whole-parts) (replacing-twice W _ n out₀)
+
+-- ---- what may be shared, once the demands are added up
+
+module _ {demands : List ℕ} {size : ℕ} {out : List ℕ} (s : Shareable demands size out) (t : ℕ) (e : t ≡ demanded demands) where
+  -- nobody demands anything
+  pub nothing-shared : t ≡ 0 → replacingFirst (λ i. 0) (length demands) out ≡ sharesIn demands size out
+  nothing-shared z = replacing-ext _ _ (length demands) out (λ i l. sym (nothing-without-demand everyone (at demands) (length demands) size i (sym e ∙ z)))
+
+  -- somebody does
+  pub can-divide : (t ≡ 0 → ⊥) → (rests : List ℕ) → length rests ≡ length demands → Dividing demands size t rests out
+  can-divide some rests m = record {
+    sum-is = e;
+    some = omega (arith, some);
+    products-fit = s .products-fit;
+    places = m;
+    room = s .room;
+  }

@@ -5,8 +5,8 @@ ghost use mathlib.Core.Option.{some};
 ghost use Prim.Native.Nat.{_≤_, _<_};
 ghost use lib.ListN.{length};
 ghost use Rattle.whole.specs.Below.{replacingFirst};
-ghost use Rattle.rules.specs.Share.{firstLargest, shareSize};
-ghost use Rattle.share.specs.Shareable.{at, everyone, demanded, Shareable};
+ghost use Rattle.rules.specs.Share.{firstLargest};
+ghost use Rattle.share.specs.Shareable.{at, everyone, demanded, Shareable, sharesIn};
 ghost use Rattle.share.specs.Steps.{Dividing, Divided, Handing, Handed};
 
 // The sum of the demands.
@@ -74,7 +74,7 @@ fn hand_out(rests: &mut [u64], units: u64, out: &mut [u64])
 // The shares where the demands add up to `t`, which is not 0; `rests` is room for the remainders.
 fn share_out(demands: &[u64], size: u64, t: u64, rests: &mut [u64], out: &mut [u64])
     requires { ⌜ Dividing (now demands) size t (now rests) (now out) ⌝ }
-    ensures { λ _. ⌜ now (out .exit) ≡ replacingFirst (shareSize everyone (at (now (demands .entry))) (length (now (demands .entry))) size) (length (now (demands .entry))) (now (out .entry)) ⌝ }
+    ensures { λ _. ⌜ now (out .exit) ≡ sharesIn (now (demands .entry)) size (now (out .entry)) ⌝ }
 {
     let units = divide(demands, size, t, rests, out);
     hand_out(rests, units, out);
@@ -95,7 +95,7 @@ fn clear(out: &mut [u64], n: usize)
 // The sizes of the shares of `size` over the demands, into the first places of `out`; the places past them are unchanged.
 pub fn shares(demands: &[u64], size: u64, out: &mut [u64])
     requires { ⌜ Shareable (now demands) size (now out) ⌝ }
-    ensures { λ _. ⌜ now (out .exit) ≡ replacingFirst (shareSize everyone (at (now (demands .entry))) (length (now (demands .entry))) size) (length (now (demands .entry))) (now (out .entry)) ⌝ }
+    ensures { λ _. ⌜ now (out .exit) ≡ sharesIn (now (demands .entry)) size (now (out .entry)) ⌝ }
 {
     let n = demands.len();
     let t = total(demands);

@@ -79,11 +79,12 @@ loop-less c = omega arith
 loop-again : tie.Need-loop-again Inv-loop μ-loop
 loop-again c =
     let start = c .before .before .before in
-    let a = c .before .before .loop in
-    (omega arith,
-    handed-more (start .pre) (a .i) (a .handed) (a .inv .1),
-    rw (a .inv .2, rest-is (start .pre) (a .i)) (replacing-next _ (a .i) (start .args .rests .now) (omega (arith, start .pre .places))),
-    rw (a .inv .3, whole-is (start .pre) (a .i)) (replacing-next _ (a .i) (start .args .out .now) (omega (arith, start .pre .room))))
+    let a = c .before .before .loop in (
+      omega arith,
+      handed-more (start .pre) (a .i) (a .handed) (a .inv .1),
+      rw (a .inv .2, rest-is (start .pre) (a .i)) (replacing-next _ (a .i) (start .args .rests .now) (omega (arith, start .pre .places))),
+      rw (a .inv .3, whole-is (start .pre) (a .i)) (replacing-next _ (a .i) (start .args .out .now) (omega (arith, start .pre .room))),
+    )
 
 sub-result : tie.Need-sub-result Inv-loop μ-loop
 sub-result c = omega (arith, handed-within (c .before .before .pre) (c .before .loop .i) (omega arith))
