@@ -4,40 +4,68 @@ use mathlib.Core.Path.{_≡_, refl, sym, _∙_, ap}
 use mathlib.Core.Bool.{Bool, true, false, cond, not, _&&_, _||_, or-false}
 use mathlib.Core.Option.{some}
 use mathlib.Core.List.{List}
-use Prim.Native.Nat.{ℕ, suc, _+_, _≤_, _<_}
-use native.Mathlib.Nat.{le-refl, add-zero}
+use Prim.Native.Nat.{ℕ, _+_, _-_, _≤_, _<_, zero-le}
+use native.Mathlib.Nat.{le-refl, le-of-lt, add-zero}
 use native.Mathlib.Numerals.{add-one}
 use native.Mathlib.Omega.{arith}
 use lib.Dec.{ltb, eqb}
 use lib.ListN.{length, set}
-use borrow.Author.Tests.{ltb-true, eqb-true, not-true, lt-ltb, le-ltb}
+use borrow.Author.Tests.{ltb-true, eqb-true, eqb-false, not-true}
 use Rattle.whole.specs.Below.{oneIf, countBelow, replacingFirst}
 use Rattle.whole.proofs.Tests.{split}
 use Rattle.whole.proofs.Sums.{count-mono, count-most, all-count}
 use Rattle.whole.proofs.Buffers.{replacing-set, replacing-same, getD-replacing, length-replacing}
-use Rattle.rules.specs.Share.{better, firstLargest, isAt, handedOut}
+use Rattle.rules.specs.Share.{firstLargest, isAt, handedOut}
 use Rattle.rules.proofs.Shares.{FirstLargestAt, found, found-there, handed-count}
 use Rattle.share.specs.Shareable.{at, everyone}
 use Rattle.share.specs.Steps.{Handing, Handed, has}
 
--- ---- the search for the first largest, one place further
+-- ---- the search for the first largest, from the last place down
 
-module _ (f : ℕ → ℕ) where
-  pub begins : firstLargest f everyone 1 ≡ some 0
-  unfolding firstLargest better
-  begins = refl
+-- of the places from i on, b has the first largest number
+pub record LargestFrom (f : ℕ → ℕ) (n i b : ℕ) : Type 0 where
+  pub from : i ≤ b
+  pub there : b < n
+  pub largest : (j : ℕ) → i ≤ j → j < n → f j ≤ f b
+  pub first : (j : ℕ) → i ≤ j → j < b → f j < f b
 
-  pub found-below : (m b : ℕ) → firstLargest f everyone m ≡ some b → b < m
-  found-below m b e = found f everyone m b e .there
+here-or-past {ℓ} : {X : Type ℓ} (i j : ℕ) → i - 1 ≤ j → (j ≡ i - 1 → X) → (i ≤ j → X) → X
+here-or-past i j l here past = split (eqb j (i - 1)) (λ t. here (eqb-true j (i - 1) t)) (λ t. past (omega (arith, eqb-false j (i - 1) t)))
 
-  module _ (m b : ℕ) (e : firstLargest f everyone m ≡ some b) where
-    pub taken : f b < f m → firstLargest f everyone (m + 1) ≡ some m
-    unfolding firstLargest better
-    taken l = rw (add-one, e, lt-ltb (f b) (f m) l)
+module _ (f : ℕ → ℕ) (n : ℕ) where
+  pub begins : 0 < n → LargestFrom f n (n - 1) (n - 1)
+  begins h = record {
+    from = omega arith;
+    there = omega arith;
+    largest = λ j l m. let e : j ≡ n - 1 = omega arith in rw e (le-refl (f (n - 1)));
+    first = λ j l m. absurd (omega arith);
+  }
 
-    pub left : f m ≤ f b → firstLargest f everyone (m + 1) ≡ some b
-    unfolding firstLargest better
-    left l = rw (add-one, e, le-ltb (f b) (f m) l)
+  module _ (i b : ℕ) (h : 0 < i) (c : LargestFrom f n i b) where
+    -- one place further: it is as large, or less
+    pub taken : f b ≤ f (i - 1) → LargestFrom f n (i - 1) (i - 1)
+    taken t = record {
+      from = omega arith;
+      there = omega (arith, c .from, c .there);
+      largest = λ j l m. here-or-past i j l (λ e. rw e (le-refl (f (i - 1)))) (λ k. omega (arith, c .largest j k m));
+      first = λ j l m. absurd (omega arith);
+    }
+
+    pub left : f (i - 1) < f b → LargestFrom f n (i - 1) b
+    left t = record {
+      from = omega (arith, c .from);
+      there = c .there;
+      largest = λ j l m. here-or-past i j l (λ e. rw e (le-of-lt t)) (λ k. c .largest j k m);
+      first = λ j l m. here-or-past i j l (λ e. rw e t) (λ k. c .first j k m);
+    }
+
+  pub found-at : (b : ℕ) → LargestFrom f n 0 b → firstLargest f everyone n ≡ some b
+  found-at b c = found-there f everyone n b (record {
+    there = c .there;
+    waiting = refl;
+    largest = λ j l w. c .largest j zero-le l;
+    first = λ j l w. c .first j zero-le l;
+  })
 
 -- ---- one round
 
@@ -119,7 +147,7 @@ module _ {rests₀ : List ℕ} {units : ℕ} {out₀ : List ℕ} (h : Handing re
       among = rw rests-length at e
 
       pub best-there : b < n
-      best-there = found-below (at rests) n b among
+      best-there = found (at rests) everyone n b among .there
 
       unserved-best : has rests₀ k b ≡ false
       unserved-best = unserved (at rests₀) n k some-left (at rests) held b among

@@ -41,18 +41,19 @@ fn divide(demands: &[u64], size: u64, t: u64, rests: &mut [u64], out: &mut [u64]
     size - handed
 }
 
-// The place of the largest remainder, of equal ones the first.
+// The place of the largest remainder, of equal ones the first. It goes from the last place down, which takes the fewest instructions:
+// an equal remainder further up the list takes the place of the one found.
 fn largest(rests: &[u64]) -> usize
     requires { ⌜ 0 < length (now rests) ⌝ }
     ensures { λ r. ⌜ firstLargest (at (now (rests .entry))) everyone (length (now (rests .entry))) ≡ some r ⌝ }
 {
-    let mut best = 0;
-    let mut i = 1;
-    while i < rests.len() {
-        if rests[best] < rests[i] {
+    let mut i = rests.len() - 1;
+    let mut best = i;
+    while 0 < i {
+        i -= 1;
+        if rests[best] <= rests[i] {
             best = i;
         }
-        i += 1;
     }
     best
 }
