@@ -77,7 +77,7 @@ module _ {demands : List ℕ} {size : ℕ} {out : List ℕ} (s : Shareable deman
   can-divide some rests m = record {
     sum-is = e;
     some = omega (arith, some);
-    products-fit = s .products-fit;
+    products-fit = λ i l. omega (arith, s .products-fit i l);
     places = m;
     room = s .room;
   }

@@ -17,7 +17,7 @@ module _ (demands : List ℕ) (size : ℕ) (out : List ℕ) (room : length deman
   -- An area's UFE: at most 250 demands of at most 100,000, and 10^12 units.
   pub ufe-shareable : length demands ≤ 250 → ((i : ℕ) → i < length demands → at demands i ≤ 100000) → size ≤ 1000000000000 → Shareable demands size out
   ufe-shareable few each most = record {
-    few = few;
+    few = omega arith;
     sum-fits = omega (arith, demanded-is demands, sum-mono (at demands) (λ i. 100000) (length demands) each, sum-const 100000 (length demands));
     products-fit = λ i l. product (at demands i) size 100000 1000000000000 10000000000000000000 (each i l) most (omega arith);
     room = room;

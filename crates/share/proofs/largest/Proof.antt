@@ -41,7 +41,7 @@ loop-again : tie.Need-loop-again Inv-loop μ-loop
 loop-again c =
     let l = c .before .before .before .before .before .args .rests .now in
     let a = c .before .before .before .before .loop in
-    taken (at l) (length l) (a .i) (a .best) (omega arith) (a .inv) (c .if1 .taken)
+    taken (at l) (length l) (a .i) (a .best) (omega arith) (a .inv) (omega arith)
 
 loop-less-2 : tie.Need-loop-less-2 Inv-loop μ-loop
 loop-less-2 c = omega arith
@@ -50,7 +50,7 @@ loop-again-2 : tie.Need-loop-again-2 Inv-loop μ-loop
 loop-again-2 c =
     let l = c .before .before .before .before .before .args .rests .now in
     let a = c .before .before .before .before .loop in
-    left (at l) (length l) (a .i) (a .best) (omega arith) (a .inv) (c .if1 .left)
+    left (at l) (length l) (a .i) (a .best) (omega arith) (a .inv) (omega arith)
 
 returns : tie.Need-returns Inv-loop μ-loop
 returns c =

@@ -1,5 +1,6 @@
 -- `share::shares` meets its contract. Assumes nothing.
 use mathlib.Core.Path.{sym, _∙_}
+use native.Mathlib.Omega.{arith}
 use lib.ListN.{length}
 use lib.Seq.{length-take-le}
 use borrow.Author.Needs.{needs}
@@ -23,7 +24,7 @@ returns c =
     c .before .before .clear .ensures ∙ nothing-shared (start .pre) (added .result) (added .ensures) (c .before .before .before .before .if1 .taken)
 
 array-borrow-prefix-rests : tie.Need-array-borrow-prefix-rests
-array-borrow-prefix-rests c = search needs
+array-borrow-prefix-rests c = omega (arith, c .before .before .before .before .pre .few)
 
 slice-aggregate-share-out : tie.Need-slice-aggregate-share-out
 slice-aggregate-share-out c =
