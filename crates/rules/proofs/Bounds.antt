@@ -1,1 +1,230 @@
--- To be written.
+-- How large the numbers of an hour that keeps its ranges can be: deviations, UFE, shares, grains, amounts and charges, and every sum
+-- on the way to them. All fit 64 bits, and row 7 is never broken. Document 01, "Units and ranges", "The sums".
+use mathlib.Core.Path.{_≡_, refl, _∙_}
+use mathlib.Core.Bool.{cond}
+use mathlib.Core.Option.{none}
+use Prim.Native.Nat.{ℕ, _+_, _*_, _≤_, _<_, zero-le}
+use native.Mathlib.Nat.{le-refl, le-trans, mul-le-mul}
+use native.Mathlib.Omega.{arith}
+use lib.IntN.{ℤ, pos, natAbs, _-ℤ_, _*ℤ_}
+use lib.Dec.{eqb}
+use borrow.Author.Tests.{le-ltb, eq-eqb}
+use Rattle.whole.specs.Below.{sumBelow, totalBelow}
+use Rattle.whole.specs.Signed.{Under, Upto, minℤ}
+use Rattle.whole.proofs.Tests.{cond-ind}
+use Rattle.whole.proofs.Linear.{zr, all1, all4}
+use Rattle.whole.proofs.Ranges.{_u+_, _u-_, _u*_, u-neg, u-lit, u-more, u-le, u-max, u-upto, u-apart, u-zero, u-cond, u-picked}
+use Rattle.whole.proofs.Sums.{sum-ext, sum-mono, sum-prefix, sum-at, sum-add, sum-mul, sum-const, sum-swap, sum-pick}
+use Rattle.whole.proofs.Totals.{total-under, total-within}
+use Rattle.whole.proofs.Search.{none-below}
+use Rattle.whole.proofs.Division.{nearest-under}
+use Rattle.rules.specs.declared.Kind.{Kind}
+use Rattle.rules.specs.declared.Kind.the-variants.{Generator, RealTimeLoad, ProfileLoad, Import, Export, Unknown}
+use Rattle.rules.specs.Record.{Hour, Entry, members, areas, price, zoneOf, tieIn, tieOut, memberOf, areaOf, entryOf, isLoad}
+use Rattle.rules.specs.Deviation.{unitsPerKWh, generatorUnavailable, generatorDeviation, loadUnavailable, loadDeviation, importDeviation, exportDeviation, deviationAs, deviation}
+use Rattle.rules.specs.Ufe.{inArea, ufe, demand, demands}
+use Rattle.rules.specs.Charge.{enteringAs, entering, nearestCent, cents, shareOf, grains, amount, charge}
+use Rattle.rules.specs.Posting.{accountedAs, accounted}
+use Rattle.rules.specs.Refusals.{badAmount}
+use Rattle.rules.specs.Kept.{EntryKept, HourKept}
+use Rattle.rules.proofs.Tariff.{ufe-by-record}
+use Rattle.rules.proofs.Fair.{share-sizes-at-most}
+
+-- ---- a record
+
+-- M and N are not negative, so that only A and O count
+unavailable-under : (M A O N : ℤ) → Upto M 100000 → Upto A 100000 → Upto O 100000 → Upto N 100000 → Under (minℤ (pos 0) (M -ℤ A -ℤ (O -ℤ N))) 200000
+unavailable-under = all4 _ (λ M A O N. simp zr (omega arith))
+
+-- the bound is reached at both ends of H
+loss-rate-under : (H : ℤ) → Upto H 20000 → Under (unitsPerKWh -ℤ H) 10000
+loss-rate-under = all1 _ (λ H. simp zr (omega arith))
+
+units-under : {z : ℤ} {k : ℕ} → Under z k → Under (unitsPerKWh *ℤ z) (10000 * k)
+units-under h = u-lit unitsPerKWh u* h
+
+module _ {r : Entry} (kept : EntryKept r) where
+  open EntryKept kept using (S-in, A-in, J-in, N-in, O-in, M-in, F-in, H-in)
+
+  adjusted-under : Under (r .A -ℤ r .J) 200000
+  adjusted-under = u-upto A-in u- J-in
+
+  generator-under : Under (generatorDeviation r) 9000000000
+  unfolding generatorUnavailable generatorDeviation
+  generator-under =
+      u-upto S-in u* u-upto F-in u- (adjusted-under u* u-upto H-in u- units-under (u-upto N-in))
+      u- units-under (unavailable-under (r .M) (r .A) (r .O) (r .N) M-in A-in O-in N-in)
+
+  load-under : Under (loadDeviation r) 7000000000
+  unfolding loadUnavailable loadDeviation
+  load-under = units-under (u-upto S-in u- (adjusted-under u+ u-upto N-in) u- u-max u-zero (u-upto O-in u- u-upto N-in u- u-upto A-in))
+
+  import-under : Under (importDeviation r) 7000000000
+  unfolding importDeviation
+  import-under = u-upto S-in u* u-upto F-in u- adjusted-under u* u-upto H-in u+ units-under (u-upto N-in)
+
+  export-under : Under (exportDeviation r) 3000000000
+  unfolding exportDeviation
+  export-under = units-under (u-upto S-in u- u-upto A-in u- J-in)
+
+  deviation-as-under : (k : Kind) → Under (deviationAs r k) 9000000000
+  deviation-as-under Generator = generator-under
+  deviation-as-under RealTimeLoad = u-more 9000000000 load-under tt
+  deviation-as-under ProfileLoad = u-more 9000000000 load-under tt
+  deviation-as-under Import = u-more 9000000000 import-under tt
+  deviation-as-under Export = u-more 9000000000 export-under tt
+  deviation-as-under Unknown = u-zero
+
+  -- No deviation is over 9×10^9 units in size, and none as it enters an amount.
+  pub deviation-under : Under (deviation r) 9000000000
+  unfolding deviation
+  deviation-under = deviation-as-under (r .kind)
+
+  entering-as-under : (k : Kind) → Under (enteringAs k (deviation r)) 9000000000
+  entering-as-under Generator = deviation-under
+  entering-as-under RealTimeLoad = u-neg deviation-under
+  entering-as-under ProfileLoad = u-neg deviation-under
+  entering-as-under Import = deviation-under
+  entering-as-under Export = u-neg deviation-under
+  entering-as-under Unknown = u-zero
+
+  pub entering-under : Under (entering r) 9000000000
+  unfolding entering
+  entering-under = entering-as-under (r .kind)
+
+  metered-under : Under (unitsPerKWh *ℤ r .A) 1000000000
+  metered-under = units-under (u-upto A-in)
+
+  lost-under : Under (r .A *ℤ (unitsPerKWh -ℤ r .H)) 1000000000
+  lost-under = u-upto A-in u* loss-rate-under (r .H) H-in
+
+  accounted-as-under : (k : Kind) → Under (accountedAs k (r .A) (r .H)) 2000000000
+  unfolding accountedAs
+  accounted-as-under Generator = metered-under u- lost-under
+  accounted-as-under RealTimeLoad = u-more 2000000000 (u-neg metered-under) tt
+  accounted-as-under ProfileLoad = u-more 2000000000 (u-neg metered-under) tt
+  accounted-as-under Import = u-more 2000000000 (u-neg lost-under) tt
+  accounted-as-under Export = u-zero
+  accounted-as-under Unknown = u-zero
+
+  -- No record adds more than 2×10^9 units to its area's energy.
+  pub accounted-under : Under (accounted r) 2000000000
+  unfolding accounted
+  accounted-under = accounted-as-under (r .kind)
+
+-- ---- sums over the records
+
+module _ {h : Hour} (kept : HourKept h) where
+  -- A running sum of an area's demands is at most 25,000,000 kWh.
+  pub demand-running : (a n : ℕ) → n ≤ h .count → sumBelow (λ i. cond (inArea h a isLoad i) (demand h i) 0) n ≤ 25000000
+  demand-running a n l = omega (arith, sum-mono _ (λ i. 100000) n each, sum-const 100000 n, kept .count-most)
+    where
+      each : (i : ℕ) → i < n → cond (inArea h a isLoad i) (demand h i) 0 ≤ 100000
+      each i m = cond-ind (inArea h a isLoad i) (demand h i) 0 (λ d. d ≤ 100000) (λ t. kept .record-kept i (omega arith) .demand-most) (λ t. zero-le)
+
+  pub demands-most : (a : ℕ) → demands h a ≤ 25000000
+  unfolding demands
+  demands-most a = demand-running a (h .count) (le-refl (h .count))
+
+  energy-at : (i : ℕ) → i < h .count → Under (accounted (entryOf h i)) 2000000000
+  energy-at i l = accounted-under (kept .record-kept i l .entry-kept)
+
+  -- A running sum of an area's energy is at most 5×10^11 units in size.
+  pub energy-running : (a n : ℕ) → n ≤ h .count → Under (totalBelow (λ i. cond (eqb (areaOf h i) a) (accounted (entryOf h i)) (pos 0)) n) 500000000000
+  energy-running a n l = u-le (total-under _ 2000000000 n each) (omega (arith, kept .count-most))
+    where
+      each : (i : ℕ) → i < n → Under (cond (eqb (areaOf h i) a) (accounted (entryOf h i)) (pos 0)) 2000000000
+      each i m = u-cond (eqb (areaOf h i) a) (energy-at i (omega arith))
+
+  -- each record is of one area
+  by-area : (f : ℕ → ℕ) → sumBelow (λ a. sumBelow (λ i. cond (eqb (areaOf h i) a) (f i) 0) (h .count)) (areas h) ≡ sumBelow f (h .count)
+  by-area f =
+      sum-swap (λ a i. cond (eqb (areaOf h i) a) (f i) 0) (areas h) (h .count)
+      ∙ sum-ext _ f (h .count) (λ i l. sum-pick (λ a. f i) (areas h) (areaOf h i) (kept .record-kept i l .area-there))
+
+  -- ---- UFE
+
+  ties-under : (a : ℕ) → a < areas h → Under (unitsPerKWh *ℤ (tieIn h a -ℤ tieOut h a)) 100000000000
+  ties-under a l = let k = kept .area-kept a l in units-under (u-apart (k .tie-in) (k .tie-out))
+
+  -- An area's UFE is at most 10^12 units in size.
+  pub ufe-under : (a : ℕ) → a < areas h → Under (ufe h a) 1000000000000
+  ufe-under a l = rw (ufe-by-record h a) (u-more 1000000000000 (ties-under a l u+ energy-running a (h .count) (le-refl (h .count))) tt)
+
+  -- its ties, and 2×10^9 for each of its records: each record counts in one area, so that the areas together stay below eight times the above
+  ufe-within : (a : ℕ) → a < areas h → Under (ufe h a) (100000000000 + sumBelow (λ i. cond (eqb (areaOf h i) a) 2000000000 0) (h .count))
+  ufe-within a l = rw (ufe-by-record h a) (ties-under a l u+ total-within _ _ (h .count) (λ i m. u-picked (eqb (areaOf h i) a) (energy-at i m)))
+
+  -- The UFE of all areas together is at most 1.3×10^12 units in size.
+  pub all-ufe-most : sumBelow (λ a. natAbs (ufe h a)) (areas h) ≤ 1300000000000
+  all-ufe-most = omega (
+    arith,
+    sum-mono _ _ (areas h) (λ a l. ufe-within a l .under),
+    sum-add (λ a. 100000000000) (λ a. sumBelow (λ i. cond (eqb (areaOf h i) a) 2000000000 0) (h .count)) (areas h),
+    sum-const 100000000000 (areas h),
+    by-area (λ i. 2000000000),
+    sum-const 2000000000 (h .count),
+    kept .areas-most,
+    kept .count-most,
+  )
+
+  -- ---- shares
+
+  -- All shares together are at most 1.3×10^12 units in size.
+  pub all-shares-most : sumBelow (λ i. natAbs (shareOf h i)) (h .count) ≤ 1300000000000
+  all-shares-most = omega (arith, by-area (λ i. natAbs (shareOf h i)), sum-mono _ (λ a. natAbs (ufe h a)) (areas h) (λ a l. share-sizes-at-most h a), all-ufe-most)
+
+  pub share-under : (i : ℕ) → i < h .count → Under (shareOf h i) 1000000000000
+  share-under i l =
+      let a : ℕ = areaOf h i in
+      let own = sum-at (λ j. cond (eqb (areaOf h j) a) (natAbs (shareOf h j)) 0) (h .count) i l in
+      let u = ufe-under a (kept .record-kept i l .area-there) in
+      record { under = le-trans (rw (eq-eqb a a refl) at own) (le-trans (share-sizes-at-most h a) (u .under)) }
+
+  -- A demand times the size of a UFE is at most 10^17.
+  pub product-most : (i a : ℕ) → i < h .count → a < areas h → demand h i * natAbs (ufe h a) ≤ 100000000000000000
+  product-most i a l m = mul-le-mul (kept .record-kept i l .demand-most) (ufe-under a m .under)
+
+  -- ---- grains and amounts
+
+  pub price-under : (a : ℕ) → a < areas h → Under (price h a) 1000000
+  unfolding price
+  price-under a l = kept .price-in (zoneOf h a) (kept .area-kept a l .zone-there)
+
+  grains-within : (i s : ℕ) → i < h .count → Under (shareOf h i) s → Under (grains h i) (1000000 * (9000000000 + s))
+  unfolding grains
+  grains-within i s l u =
+      let k = kept .record-kept i l in
+      price-under (areaOf h i) (k .area-there) u* (entering-under (k .entry-kept) u+ u)
+
+  pub grains-under : (i : ℕ) → i < h .count → Under (grains h i) 1009000000000000000
+  grains-under i l = grains-within i 1000000000000 l (share-under i l)
+
+  -- A running sum of a member's grains is at most 3.55×10^18 in size, and so is its exact amount.
+  pub amount-running : (m n : ℕ) → n ≤ h .count → Under (totalBelow (λ i. cond (eqb (memberOf h i) m) (grains h i) (pos 0)) n) 3550000000000000000
+  amount-running m n l = u-le (total-within _ (λ i. (9000000000 + natAbs (shareOf h i)) * 1000000) n each) (omega (
+    arith,
+    sum-mul (λ i. 9000000000 + natAbs (shareOf h i)) 1000000 n,
+    sum-add (λ i. 9000000000) (λ i. natAbs (shareOf h i)) n,
+    sum-const 9000000000 n,
+    sum-prefix (λ i. natAbs (shareOf h i)) n (h .count) l,
+    all-shares-most,
+    kept .count-most,
+  ))
+    where
+      each : (i : ℕ) → i < n → Under (cond (eqb (memberOf h i) m) (grains h i) (pos 0)) ((9000000000 + natAbs (shareOf h i)) * 1000000)
+      each i j = u-cond (eqb (memberOf h i) m) (u-le (grains-within i (natAbs (shareOf h i)) (omega arith) (u-lit (shareOf h i))) (omega arith))
+
+  pub amount-under : (m : ℕ) → Under (amount h m) 3550000000000000000
+  unfolding amount
+  amount-under m = amount-running m (h .count) (le-refl (h .count))
+
+  -- Row 7 is never broken.
+  pub row-7-never : badAmount h ≡ none
+  unfolding badAmount
+  row-7-never = none-below _ (members h) (λ m l. le-ltb 4000000000000000000 (natAbs (amount h m)) (let u = amount-under m in omega arith))
+
+  -- No charge is over 355,000,000,000 cents in size.
+  pub charge-under : (m : ℕ) → Under (charge h m) 355000000000
+  unfolding charge cents nearestCent
+  charge-under m = nearest-under (amount h m) 5000000 3550000000000000000 (omega arith) (amount-under m)

@@ -11,13 +11,13 @@ use lib.IntN.{ℤ}
 use lib.ListN.{length, getD}
 use lib.Dec.{eqb}
 use borrow.Author.Tests.{eqb-true, eqb-false}
-use Rattle.whole.proofs.Tests.{split, never}
+use Rattle.whole.proofs.Tests.{split, never-some}
 use Rattle.rules.specs.declared.Answer.{Answer}
 use Rattle.rules.specs.declared.Answer.the-variants.{Accepted, BadLength, BadSum, BadBlock, BadHead, BadRecord, BadArea, BadAmount, OutOfRange, TooNarrow, NotAnAmount, TooShort}
 use Rattle.rules.specs.declared.Settled.{Settled}
 use Rattle.rules.specs.HourFile.{hourly, hourOf}
-use Rattle.rules.specs.Refusals.{Row, row, Verdict, accepted, refusedAt, verdictOf, verdict, layoutRows, wordRows, sumRows, fileRows, hourRows, writeRows}
-use Rattle.rules.specs.Settling.{Buffers, isAccepted, bufferRows, settleRows, filled, ufeFigures, noFigures, settle, write}
+use Rattle.rules.specs.Refusals.{Row, row, Verdict, accepted, refusedAt, verdictOf, verdict, placeZeroIf, layoutRows, wordRows, sumRows, fileRows, hourRows, writeRows}
+use Rattle.rules.specs.Settling.{Buffers, Settlement, isAccepted, bufferRows, settleRows, filled, ufeFigures, noFigures, settle, write}
 use Rattle.rules.specs.Text.{amountField}
 use Rattle.rules.specs.Promises.{Accepts, AllWhole, FirstBrokenRow, Fits, OneResult}
 
@@ -98,6 +98,11 @@ whole-parts [] more = (λ w. (tt, w), λ w. w .1)
 whole-parts (row n o ∷ rows) more = let r = whole-parts rows more in
     (λ w. ((w .0, r .0 (w .1) .0), r .0 (w .1) .1), λ w. (w .0 .0, r .1 (w .0 .1, w .1)))
 
+-- a row whose only place is 0 is whole when its test fails
+pub no-place : (b : Bool) → placeZeroIf b ≡ none → b ≡ false
+no-place true e = never-some e
+no-place false e = refl
+
 -- ---- the tables of document 01
 
 module _ (s : List ℕ) where
@@ -122,7 +127,11 @@ write-numbered width z = omega arith
 module _ (s : List ℕ) (b : Buffers) where
   pub settle-verdict : settle s b .verdict ≡ verdict (settleRows s b)
   unfolding settle
-  settle-verdict = split (isAccepted (verdict (settleRows s b))) (λ e. rw e) (λ e. rw e)
+  settle-verdict = either-way (isAccepted (verdict (settleRows s b))) _ _ refl refl
+    where
+      either-way : (c : Bool) (x y : Settlement) → x .verdict ≡ verdict (settleRows s b) → y .verdict ≡ verdict (settleRows s b) → (cond c x y) .verdict ≡ verdict (settleRows s b)
+      either-way true x y p q = p
+      either-way false x y p q = q
 
   pub settle-accepts : Accepts s b ↔ AllWhole (settleRows s b)
   settle-accepts = let r = accepts-when-whole (settleRows s b) (settle-numbered s b) in

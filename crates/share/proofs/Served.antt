@@ -1,7 +1,7 @@
 -- Units handed out over held remainders: a remainder becomes 0 once it is served, so the first largest number is the first largest of
 -- those that wait, as long as a remainder above 0 waits.
 use mathlib.Core.Path.{_≡_, refl, sym, _∙_, ap}
-use mathlib.Core.Bool.{Bool, true, false, cond, not, _&&_, _||_, or-false}
+use mathlib.Core.Bool.{Bool, true, false, cond, not, _&&_, _||_, or-true, or-false}
 use mathlib.Core.Option.{some}
 use mathlib.Core.List.{List}
 use Prim.Native.Nat.{ℕ, _+_, _<_}
@@ -10,11 +10,11 @@ use native.Mathlib.Numerals.{add-one}
 use native.Mathlib.Omega.{arith}
 use lib.Dec.{ltb, eqb}
 use lib.ListN.{length, set}
-use borrow.Author.Tests.{ltb-true, eqb-true, not-true}
+use borrow.Author.Tests.{ltb-true, eqb-true, eqb-false, eq-eqb, ne-eqb, not-true}
 use Rattle.whole.specs.Below.{oneIf, countBelow}
 use Rattle.whole.proofs.Tests.{split}
 use Rattle.whole.proofs.Sums.{count-mono, count-most, all-count}
-use Rattle.whole.proofs.Buffers.{replacing-set, replacing-same, getD-replacing, length-replacing}
+use Rattle.whole.proofs.Buffers.{replacing-changed, replacing-same, replacing-ext, getD-replacing, length-replacing}
 use Rattle.rules.specs.Share.{firstLargest, isAt, handedOut}
 use Rattle.rules.proofs.Shares.{FirstLargestAt, found, found-there, handed-count}
 use Rattle.share.specs.Shareable.{at, everyone}
@@ -100,28 +100,23 @@ module _ {rests₀ : List ℕ} {units : ℕ} {out₀ : List ℕ} (h : Handing re
         unserved-best : has rests₀ k b ≡ false
         unserved-best = unserved (at rests₀) n k some-left (at rests) held b among
 
-        now-served : (i : ℕ) → has rests₀ (k + 1) i ≡ (has rests₀ k i || eqb i b)
-        now-served = one-more (at rests₀) n k some-left (at rests) held b among
+        -- it alone is served now
+        itself : (i : ℕ) → eqb b i ≡ true → (has rests₀ k i ≡ false) × (has rests₀ (k + 1) i ≡ true)
+        itself i t = let e : b ≡ i = eqb-true b i t in
+            (rw (← e) unserved-best, one-more (at rests₀) n k some-left (at rests) held b among i ∙ rw (eq-eqb i b (sym e)) (or-true (has rests₀ k i)))
 
-        size-there : at out b ≡ at out₀ b
-        size-there = rw (d .grown) (getD-replacing _ n out₀ b 0 best-there ∙ rw unserved-best (add-zero (at out₀ b)))
+        others : (i : ℕ) → eqb b i ≡ false → has rests₀ (k + 1) i ≡ has rests₀ k i
+        others i f = one-more (at rests₀) n k some-left (at rests) held b among i ∙ rw (ne-eqb i b (λ e. eqb-false b i f (sym e))) (or-false (has rests₀ k i))
 
         pub grows : at out b + 1 < 18446744073709551616
-        grows = omega (arith, size-there, h .grow b best-there)
+        grows =
+            let e : at out b ≡ at out₀ b + oneIf (has rests₀ k b) = rw (d .grown) (getD-replacing _ n out₀ b 0 best-there) in
+            omega (arith, rw unserved-best at e, h .grow b best-there)
 
         pub handed-one : Handed rests₀ (k + 1) out₀ (set rests b 0) (set out b (at out b + 1))
         handed-one = record {
-          served = rw (d .served) (replacing-set _ _ n b 0 best-there (λ i l. rw (now-served i) (served-or (has rests₀ k i) (eqb i b) (at rests₀ i))) rests₀);
-          grown = rw size-there (rw (d .grown) (replacing-set _ _ n b (at out₀ b + 1) best-there (λ i l. rw (now-served i) (grown-or i)) out₀));
+          served = rw (d .served) (replacing-changed (λ x. 0) _ n rests₀ b 0 best-there ∙ replacing-ext _ _ n rests₀ (λ i l.
+              split (eqb b i) (λ t. rw (t, itself i t .1)) (λ f. rw (f, others i f))));
+          grown = rw (d .grown) (replacing-changed (λ x. x + 1) _ n out₀ b 0 best-there ∙ replacing-ext _ _ n out₀ (λ i l.
+              split (eqb b i) (λ t. rw (t, itself i t .0, itself i t .1) (omega arith)) (λ f. rw (f, others i f))));
         }
-          where
-            served-or : (x y : Bool) (v : ℕ) → cond (x || y) 0 v ≡ cond y 0 (cond x 0 v)
-            served-or true true v = refl
-            served-or true false v = refl
-            served-or false true v = refl
-            served-or false false v = refl
-
-            grown-or : (i : ℕ) → at out₀ i + oneIf (has rests₀ k i || eqb i b) ≡ cond (eqb i b) (at out₀ b + 1) (at out₀ i + oneIf (has rests₀ k i))
-            grown-or i = split (eqb i b)
-                (λ t. rw t (rw (eqb-true i b t, unserved-best)))
-                (λ f. rw (f, or-false))

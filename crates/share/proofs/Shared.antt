@@ -8,12 +8,12 @@ use lib.Dec.{ltb}
 use lib.ListN.{length}
 use borrow.Author.Tests.{ne-eqb}
 use Rattle.whole.specs.Below.{oneIf, countBelow, replacingFirst}
-use Rattle.whole.proofs.Sums.{count-ext, count-most, all-count}
+use Rattle.whole.proofs.Sums.{count-ext}
 use Rattle.whole.proofs.Buffers.{replacing-ext, replacing-twice, getD-replacing, length-replacing}
 use Rattle.rules.specs.Share.{handedOut, shareSize}
-use Rattle.rules.proofs.Shares.{left-few, handed-ext, nothing-without-demand}
+use Rattle.rules.proofs.Shares.{left-few, left-at-most-takers, handed-ext, nothing-without-demand}
 use Rattle.share.specs.Shareable.{at, everyone, demanded, Shareable, sharesIn}
-use Rattle.share.specs.Steps.{Dividing, Divided, Handing, Handed, wholeOf, restOf, leftOf}
+use Rattle.share.specs.Steps.{Dividing, Divided, Handing, Handed, wholeOf, restOf}
 use Rattle.share.proofs.Parts.{some-demand, whole-small}
 
 -- ---- once the demands are added up
@@ -39,9 +39,6 @@ module _ {demands : List ℕ} {size t : ℕ} {rests₀ out₀ : List ℕ} (d : D
   abbrev n : ℕ
   n = length demands
 
-  few-left : leftOf demands size ≤ countBelow (λ i. ltb 0 (restOf demands size i)) n
-  few-left = left-few everyone (at demands) n size (some-demand d)
-
   module _ {units : ℕ} {rests out : List ℕ} (p : Divided demands size rests₀ out₀ units rests out) where
     as-many : length rests ≡ n
     as-many = ap length (p .remainders) ∙ length-replacing _ n rests₀ (omega (arith, d .places)) ∙ d .places
@@ -54,7 +51,8 @@ module _ {demands : List ℕ} {size t : ℕ} {rests₀ out₀ : List ℕ} (d : D
 
     pub can-hand-out : Handing rests units out
     can-hand-out = record {
-      few = rw (as-many, p .left-over, count-ext (λ i. ltb 0 (at rests i)) (λ i. ltb 0 (restOf demands size i)) n (λ i l. rw (rest-at i l))) few-left;
+      few = rw (as-many, p .left-over, count-ext (λ i. ltb 0 (at rests i)) (λ i. ltb 0 (restOf demands size i)) n (λ i l. rw (rest-at i l)))
+          (left-few everyone (at demands) n size (some-demand d));
       grow = λ i l. let m : i < n = omega (arith, as-many) in omega (arith, whole-at i m, whole-small d i m);
       room = omega (arith, as-many, d .room, ap length (p .whole-parts), length-replacing (wholeOf demands size) n out₀ (d .room));
     }
@@ -63,7 +61,7 @@ module _ {demands : List ℕ} {size t : ℕ} {rests₀ out₀ : List ℕ} (d : D
     size-is : (i : ℕ) → i < n → at out i + oneIf (handedOut (at rests) everyone n units i) ≡ shareSize everyone (at demands) n size i
     unfolding shareSize
     size-is i l =
-        let most : units ≤ countBelow everyone n = omega (arith, p .left-over, few-left, count-most (λ j. ltb 0 (restOf demands size j)) n, all-count n) in
+        let most : units ≤ countBelow everyone n = rw (p .left-over) (left-at-most-takers everyone (at demands) n size (some-demand d)) in
         rw (whole-at i l, handed-ext (at rests) (restOf demands size) everyone n units most rest-at i l, p .left-over, ne-eqb (demanded demands) 0 (λ e. omega (arith, some-demand d)))
 
     pub shared-out : {rests₁ out₁ : List ℕ} → Handed rests units out rests₁ out₁ → out₁ ≡ sharesIn demands size out₀

@@ -1,14 +1,14 @@
 -- Laws of the list of the values f 0, .., f (n - 1), and of a buffer whose first n places hold them.
 use mathlib.Core.Path.{_≡_, refl, sym, _∙_, ap, ap₂}
-use mathlib.Core.List.{List, [], _∷_, _++_}
 use mathlib.Core.Bool.{cond}
+use mathlib.Core.List.{List, [], _∷_, _++_}
 use Prim.Native.Nat.{ℕ, zero, suc, _+_, _-_, _≤_, _<_}
 use native.Mathlib.Nat.{not-suc-le-zero}
 use native.Mathlib.Numerals.{add-one}
 use native.Mathlib.Omega.{arith}
 use lib.Dec.{ltb, eqb}
 use lib.ListN.{length, take, drop, getD, set, length-append, length-drop, length-set, List·getD-append}
-use lib.Seq.{drop-cons, drop-at, take-at, set-at, getD-at, getD-drop, append-snoc, getD-set-same, getD-set-other, set-append-left, ext-getD}
+use lib.Seq.{drop-cons, drop-at, take-at, set-at, getD-at, getD-drop, append-snoc, set-append-left, getD-set-same, getD-set-other, ext-getD}
 use borrow.Author.Tests.{ltb-true, ltb-false, eqb-true, eqb-false}
 use Rattle.whole.specs.Below.{valuesBelow, replacingFirst}
 use Rattle.whole.proofs.Tests.{split, last-or-below}
@@ -89,26 +89,26 @@ module _ {ℓ} {A : Type ℓ} (f : ℕ → A) where
   -- the first n places are replaced again
   pub replacing-twice : (g : ℕ → A) (n : ℕ) (old : List A) → replacingFirst g n (replacingFirst f n old) ≡ replacingFirst g n old
   unfolding replacingFirst
-  replacing-twice g n old = ap (λ (l : List A). valuesBelow g n ++ l) (drop-at (valuesBelow f n) (drop n old) n (length-values n))
+  replacing-twice g n old = ap (λ (l : List A). valuesBelow g n ++ l) (drop-replacing n old)
 
--- a place after one was set
-pub getD-set {ℓ} : {A : Type ℓ} (l : List A) (b i : ℕ) (v d : A) → i < length l → getD (set l b v) i d ≡ cond (eqb i b) v (getD l i d)
-getD-set l b i v d h = split (eqb i b)
-    (λ t. rw t (rw (← eqb-true i b t) (getD-set-same l i v d h)))
-    (λ f. rw f (getD-set-other l b i v d (eqb-false i b f)))
+-- ---- one place changed to g of what it held: what the places then hold
+module _ {ℓ} {A : Type ℓ} where
+  pub getD-changed : (g : A → A) (l : List A) (m i : ℕ) (d : A) → i < length l → getD (set l m (g (getD l m d))) i d ≡ cond (eqb m i) (g (getD l i d)) (getD l i d)
+  getD-changed g l m i d h = split (eqb m i)
+      (λ t. let e : m ≡ i = eqb-true m i t in rw (t, e) (getD-set-same l i (g (getD l i d)) d h))
+      (λ f. rw f (getD-set-other l m i (g (getD l m d)) d (λ e. eqb-false m i f (sym e))))
 
--- one of the first n places is written again
-module _ {ℓ} {A : Type ℓ} (f g : ℕ → A) (n b : ℕ) (v : A) (h : b < n) (differ : (i : ℕ) → i < n → g i ≡ cond (eqb i b) v (f i)) where
-  values-set : set (valuesBelow f n) b v ≡ valuesBelow g n
-  values-set =
-      let m = length-values f n in
-      let e = length-set (valuesBelow f n) b v in
-      ext-getD v _ _ (e ∙ m ∙ sym (length-values g n)) (λ i l.
-      let k : i < n = omega arith in
-      getD-set (valuesBelow f n) b i v v (omega arith) ∙ ap (cond (eqb i b) v) (getD-values f n i v k) ∙ sym (getD-values g n i v k ∙ differ i k))
+  values-changed : (g : A → A) (f : ℕ → A) (n m : ℕ) (d : A) → set (valuesBelow f n) m (g (getD (valuesBelow f n) m d)) ≡ valuesBelow (λ i. cond (eqb m i) (g (f i)) (f i)) n
+  values-changed g f n m d = ext-getD d _ _ (length-set (valuesBelow f n) m _ ∙ length-values f n ∙ sym (length-values _ n)) (λ i l.
+      let k : i < length (valuesBelow f n) = rw length-set at l in
+      let j : i < n = omega (arith, length-values f n) in
+      getD-changed g (valuesBelow f n) m i d k ∙ rw (getD-values f n i d j) (sym (getD-values _ n i d j)))
 
-  pub replacing-set : (old : List A) → set (replacingFirst f n old) b v ≡ replacingFirst g n old
+  pub replacing-changed : (g : A → A) (f : ℕ → A) (n : ℕ) (old : List A) (m : ℕ) (d : A) → m < n →
+      set (replacingFirst f n old) m (g (getD (replacingFirst f n old) m d)) ≡ replacingFirst (λ i. cond (eqb m i) (g (f i)) (f i)) n old
   unfolding replacingFirst
-  replacing-set old =
-      let m = length-values f n in
-      set-append-left (valuesBelow f n) (drop n old) b v (omega arith) ∙ ap (λ (l : List A). l ++ drop n old) values-set
+  replacing-changed g f n old m d h =
+      let k : m < length (valuesBelow f n) = omega (arith, length-values f n) in
+      rw (List·getD-append (valuesBelow f n) (drop n old) d m k) (
+      set-append-left (valuesBelow f n) (drop n old) m (g (getD (valuesBelow f n) m d)) k
+      ∙ ap (λ (l : List A). l ++ drop n old) (values-changed g f n m d))

@@ -1,6 +1,7 @@
 -- Ranges of signed numbers, built as the numbers are: `(ha u* hb) u- (hc u* hd)` bounds `a *ℤ b -ℤ c *ℤ d`.
 use mathlib.Core.Path.{_≡_, refl}
-use Prim.Native.Nat.{ℕ, _+_, _*_, _<_, _≤_, max}
+use mathlib.Core.Bool.{Bool, true, false, cond}
+use Prim.Native.Nat.{ℕ, _+_, _*_, _<_, _≤_, max, zero-le}
 use native.Mathlib.Nat.{le-refl, le-trans, le-of-eq, mul-le-mul}
 use native.Mathlib.Omega.{arith}
 use lib.Dec.{T, ltb, leb, ltb→lt, leb→le}
@@ -110,3 +111,22 @@ u0+ {a} {b} {m} {n} h k = sum-upto a b m n h k
 
 pub u0* : {a b : ℤ} {m n : ℕ} → Upto a m → Upto b n → Upto (a *ℤ b) (m * n)
 u0* {a} {b} h k = upto-under (mul-nonneg {a = a} {b = b} (h .low) (k .low)) (u-upto h u* u-upto k)
+
+apart-upto : (a b : ℤ) (k : ℕ) → Upto a k → Upto b k → Under (a -ℤ b) k
+apart-upto = all2 _ (λ a b. simp zr (omega arith))
+
+pub u-apart : {a b : ℤ} {k : ℕ} → Upto a k → Upto b k → Under (a -ℤ b) k
+u-apart {a} {b} {k} h l = apart-upto a b k h l
+
+-- ---- 0, and a number or 0 by a test
+pub u-zero : {k : ℕ} → Under (pos 0) k
+u-zero = record { under = zero-le }
+
+pub u-cond : (b : Bool) {z : ℤ} {k : ℕ} → Under z k → Under (cond b z (pos 0)) k
+u-cond true h = h
+u-cond false h = u-zero
+
+-- the bound goes with the number
+pub u-picked : (b : Bool) {z : ℤ} {k : ℕ} → Under z k → Under (cond b z (pos 0)) (cond b k 0)
+u-picked true h = h
+u-picked false h = u-zero
