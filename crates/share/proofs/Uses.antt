@@ -1,4 +1,4 @@
--- Both uses of the engine are within what it asks, and no second result meets its contract.
+-- Both uses of the engine are within what it asks; its promise where only some take part; no second result meets it.
 use mathlib.Core.Path.{_≡_, sym, _∙_}
 use mathlib.Core.Bool.{Bool, cond}
 use mathlib.Core.List.{List}
