@@ -1,12 +1,12 @@
 -- How large the numbers of an hour that keeps its ranges can be: deviations, UFE, shares, grains, amounts and charges, and every sum
--- on the way to them. All are far below 2^63, and no amount is over 4×10^18 grains. Document 01, "Units and ranges", "The sums".
+-- on the way to them. All fit 64 bits, and row 7 is never broken. Document 01, "Units and ranges", "The sums".
 use mathlib.Core.Path.{_≡_, refl, _∙_}
 use mathlib.Core.Bool.{cond}
 use mathlib.Core.Option.{none}
 use Prim.Native.Nat.{ℕ, _+_, _*_, _≤_, _<_, zero-le}
 use native.Mathlib.Nat.{le-refl, le-trans, mul-le-mul}
 use native.Mathlib.Omega.{arith}
-use lib.IntN.{ℤ, pos, natAbs, _+ℤ_, _-ℤ_, _*ℤ_}
+use lib.IntN.{ℤ, pos, natAbs, _-ℤ_, _*ℤ_}
 use lib.Dec.{eqb}
 use borrow.Author.Tests.{le-ltb, eq-eqb}
 use Rattle.whole.specs.Below.{sumBelow, totalBelow}
@@ -27,6 +27,8 @@ use Rattle.rules.specs.Charge.{enteringAs, entering, nearestCent, cents,
 use Rattle.rules.specs.Posting.{accountedAs, accounted}
 use Rattle.rules.specs.Refusals.{badAmount}
 use Rattle.rules.specs.Kept.{EntryKept, HourKept}
+use Rattle.rules.proofs.Tariff.{ufe-by-record}
+use Rattle.rules.proofs.Fair.{share-sizes-at-most}
 
 -- ---- a record
 
@@ -112,9 +114,7 @@ module _ {r : Entry} (kept : EntryKept r) where
 
 -- ---- sums over the records
 
-module _ (ufe-by-record : (h : Hour) (a : ℕ) → ufe h a ≡ unitsPerKWh *ℤ (tieIn h a -ℤ tieOut h a) +ℤ totalBelow (λ i. cond (eqb (areaOf h i) a) (accounted (entryOf h i)) (pos 0)) (h .count))
-    (share-sizes-at-most : (h : Hour) (a : ℕ) → sumBelow (λ i. cond (eqb (areaOf h i) a) (natAbs (shareOf h i)) 0) (h .count) ≤ natAbs (ufe h a))
-    {h : Hour} (kept : HourKept h) where
+module _ {h : Hour} (kept : HourKept h) where
   -- A running sum of an area's demands is at most 25,000,000 kWh.
   pub demand-running : (a n : ℕ) → n ≤ h .count → sumBelow (λ i. cond (inArea h a isLoad i) (demand h i) 0) n ≤ 25000000
   demand-running a n l = omega (arith, sum-mono _ (λ i. 100000) n each, sum-const 100000 n, kept .count-most)

@@ -9,7 +9,7 @@ use lib.ListN.{getD}
 use lib.Dec.{ltb, leb, eqb}
 use borrow.Author.Tests.{leb-false, lt-ltb, le-ltb, ne-eqb, not-false}
 use Rattle.whole.specs.Signed.{Under}
-use Rattle.whole.proofs.Tests.{split, never, never-some}
+use Rattle.whole.proofs.Tests.{split, never}
 use Rattle.whole.proofs.Linear.{zo}
 use Rattle.whole.proofs.Ranges.{upto-pos}
 use Rattle.whole.proofs.Search.{first-none}
@@ -19,9 +19,10 @@ use Rattle.rules.specs.declared.Rule.{Rule}
 use Rattle.rules.specs.Record.{Hour, members, zones, areas, zonePrice, zoneOf, tieIn, tieOut, memberOf, areaOf, entry, entryOf, kindOf, signed}
 use Rattle.rules.specs.HourFile.{hourly, lengthBad, blocks, blockWord, recordCount, hourOf}
 use Rattle.rules.specs.Ranges.{firstBroken, mustBeZero, countRule, blockRule, areaRule, headRule, rowOf, recordRule}
-use Rattle.rules.specs.Refusals.{placeZeroIf, isBroken, badLength, badBlock, badHead, badWord, badRecord, layoutRows, wordRows, fileRows}
+use Rattle.rules.specs.Refusals.{isBroken, badLength, badBlock, badHead, badWord, badRecord, layoutRows, wordRows, fileRows}
 use Rattle.rules.specs.Promises.{AllWhole}
 use Rattle.rules.specs.Kept.{EntryKept, RecordKept, AreaKept, HourKept, FileKept}
+use Rattle.rules.proofs.Rows.{no-place}
 use Rattle.rules.proofs.Words.{Holds, holds, length-is-whole}
 
 -- ---- a search that found nothing
@@ -147,10 +148,6 @@ module _ (h : Hour) (head-whole : badHead h ≡ none) (records-whole : badRecord
   }
 
 -- ---- a file
-
-no-place : (b : Bool) → placeZeroIf b ≡ none → b ≡ false
-no-place true e = never-some e
-no-place false e = refl
 
 module _ (s : List ℕ) (length-whole : badLength hourly s ≡ none) (blocks-whole : badBlock hourly s ≡ none) where
   length-good : lengthBad hourly s ≡ false

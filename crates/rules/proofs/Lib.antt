@@ -2,6 +2,8 @@
 pub mod Tariff
 pub mod Posting
 pub mod Shares
+pub mod Digits
+pub mod Parts
 pub mod Text
 pub mod Rows
 pub mod Words

@@ -11,12 +11,12 @@ use lib.IntN.{ℤ}
 use lib.ListN.{length, getD}
 use lib.Dec.{eqb}
 use borrow.Author.Tests.{eqb-true, eqb-false}
-use Rattle.whole.proofs.Tests.{split, never}
+use Rattle.whole.proofs.Tests.{split, never-some}
 use Rattle.rules.specs.declared.Answer.{Answer}
 use Rattle.rules.specs.declared.Answer.the-variants.{Accepted, BadLength, BadSum, BadBlock, BadHead, BadRecord, BadArea, BadAmount, OutOfRange, TooNarrow, NotAnAmount, TooShort}
 use Rattle.rules.specs.declared.Settled.{Settled}
 use Rattle.rules.specs.HourFile.{hourly, hourOf}
-use Rattle.rules.specs.Refusals.{Row, row, Verdict, accepted, refusedAt, verdictOf, verdict, layoutRows, wordRows, sumRows, fileRows, hourRows, writeRows}
+use Rattle.rules.specs.Refusals.{Row, row, Verdict, accepted, refusedAt, verdictOf, verdict, placeZeroIf, layoutRows, wordRows, sumRows, fileRows, hourRows, writeRows}
 use Rattle.rules.specs.Settling.{Buffers, isAccepted, bufferRows, settleRows, filled, ufeFigures, noFigures, settle, write}
 use Rattle.rules.specs.Text.{amountField}
 use Rattle.rules.specs.Promises.{Accepts, AllWhole, FirstBrokenRow, Fits, OneResult}
@@ -97,6 +97,11 @@ pub whole-parts : (rows more : List Row) → AllWhole (rows ++ more) ↔ (AllWho
 whole-parts [] more = (λ w. (tt, w), λ w. w .1)
 whole-parts (row n o ∷ rows) more = let r = whole-parts rows more in
     (λ w. ((w .0, r .0 (w .1) .0), r .0 (w .1) .1), λ w. (w .0 .0, r .1 (w .0 .1, w .1)))
+
+-- a row whose only place is 0 is whole when its test fails
+pub no-place : (b : Bool) → placeZeroIf b ≡ none → b ≡ false
+no-place true e = never-some e
+no-place false e = refl
 
 -- ---- the tables of document 01
 

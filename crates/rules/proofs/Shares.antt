@@ -9,7 +9,7 @@ use mathlib.Core.Bool.{Bool, true, false, not, cond, and-false, _&&_}
 use mathlib.Core.Option.{Option, none, some}
 use lib.IntN.{ℤ, pos, natAbs}
 use lib.Dec.{ltb, eqb}
-use borrow.Author.Tests.{ltb-true, ltb-false, eqb-true, eqb-false, not-true, not-false, lt-ltb, le-ltb, eq-eqb, ne-eqb}
+use borrow.Author.Tests.{ltb-true, ltb-false, eqb-false, not-true, not-false, lt-ltb, le-ltb, ne-eqb}
 use Rattle.whole.specs.Below.{oneIf, countBelow, sumBelow}
 use Rattle.whole.specs.Signed.{withSignOf}
 use Rattle.whole.proofs.Tests.{split, never, both, and-mono, cond-ext, last-or-below}
@@ -78,7 +78,7 @@ module _ (rem : ℕ → ℕ) (waits : ℕ → Bool) where
 
 -- ---- handing out is by rank
 
-pub in-order : (rem : ℕ → ℕ) → Order (ahead rem)
+in-order : (rem : ℕ → ℕ) → Order (ahead rem)
 unfolding ahead
 in-order rem = by-key rem
 
@@ -89,6 +89,10 @@ larger rem j i l = rw (lt-ltb (rem i) (rem j) l)
 not-ahead : (rem : ℕ → ℕ) (j i : ℕ) → rem j ≤ rem i → (j < i → rem j < rem i) → ahead rem j i ≡ false
 unfolding ahead
 not-ahead rem j i l m = split (ahead rem j i) (λ t. why-ahead rem j i t (λ k. absurd (omega arith)) (λ e k. absurd (let s = m k in omega arith))) (λ f. f)
+
+same-ahead : (rem rem′ : ℕ → ℕ) (j i : ℕ) → rem j ≡ rem′ j → rem i ≡ rem′ i → ahead rem j i ≡ ahead rem′ j i
+unfolding ahead
+same-ahead rem rem′ j i e f = rw (e, f)
 
 module _ (rem : ℕ → ℕ) (takes : ℕ → Bool) (n : ℕ) where
   abbrev has : ℕ → ℕ → Bool
@@ -120,18 +124,26 @@ pub handing-is-rank : (rem : ℕ → ℕ) (takes : ℕ → Bool) (n k : ℕ) →
     handedOut rem takes n k i ≡ (takes i && ltb (countBelow (λ j. takes j && ahead rem j i) n) k)
 handing-is-rank rem takes n k h i l = handed (in-order rem) (handing rem takes n) k h i l
 
--- ---- where somebody demands something
+-- ---- whole parts, remainders and units left over
 
--- the sum of whole multiples of t and rests, over takers alone
-cond-parts : (b : Bool) (w t r x : ℕ) → w * t + r ≡ x → cond b w 0 * t + cond b r 0 ≡ cond b x 0
-cond-parts true w t r x e = e
-cond-parts false w t r x e = omega arith
+-- a figure of those that take part, 0 for the others
+abbrev ofTakers : (ℕ → Bool) → (ℕ → ℕ) → ℕ → ℕ
+ofTakers takes f i = cond (takes i) (f i) 0
 
-cond-mul : (b : Bool) (d u : ℕ) → cond b (d * u) 0 ≡ cond b d 0 * u
-cond-mul true d u = refl
-cond-mul false d u = omega arith
+cond-parts : (b : Bool) (w t r d u : ℕ) → w * t + r ≡ d * u → cond b w 0 * t + cond b r 0 ≡ cond b d 0 * u
+cond-parts true w t r d u e = e
+cond-parts false w t r d u e = omega arith
 
-module _ (takes : ℕ → Bool) (D : ℕ → ℕ) (n U : ℕ) (some-demand : 0 < allDemand takes D n) where
+-- a rest below t, against t for each rest that isn't 0
+cond-rest : (b : Bool) (r t : ℕ) → r < t → cond b r 0 ≤ oneIf (b && ltb 0 r) * t
+cond-rest false r t l = zero-le
+cond-rest true r t l = split (ltb 0 r) (λ e. rw e (omega arith)) (λ e. rw e (omega (arith, ltb-false 0 r e)))
+
+cond-unit : (b u : Bool) (w : ℕ) → cond (b && true) (w + oneIf (b && u)) 0 ≡ cond b w 0 + oneIf (b && u)
+cond-unit true u w = refl
+cond-unit false u w = refl
+
+module _ (takes : ℕ → Bool) (D : ℕ → ℕ) (n U : ℕ) where
   abbrev T : ℕ
   T = allDemand takes D n
 
@@ -145,85 +157,77 @@ module _ (takes : ℕ → Bool) (D : ℕ → ℕ) (n U : ℕ) (some-demand : 0 <
   left = unitsLeft takes D n U
 
   abbrev wholeParts : ℕ
-  wholeParts = sumBelow (λ i. cond (takes i) (W i) 0) n
+  wholeParts = sumBelow (ofTakers takes W) n
 
   abbrev remainders : ℕ
-  remainders = sumBelow (λ i. cond (takes i) (R i) 0) n
-
-  parts : (i : ℕ) → W i * T + R i ≡ D i * U
-  unfolding wholePart remainder
-  parts i = div-add-mod' (D i * U) T
-
-  below-T : (i : ℕ) → R i < T
-  unfolding remainder
-  below-T i = mod-lt (D i * U) some-demand
-
-  all-parts : wholeParts * T + remainders ≡ T * U
-  unfolding allDemand
-  all-parts =
-      ap (λ (x : ℕ). x + remainders) (sym (sum-mul (λ i. cond (takes i) (W i) 0) T n))
-      ∙ sym (sum-add (λ i. cond (takes i) (W i) 0 * T) (λ i. cond (takes i) (R i) 0) n)
-      ∙ sum-ext _ _ n (λ i l. cond-parts (takes i) (W i) T (R i) (D i * U) (parts i) ∙ cond-mul (takes i) (D i) U)
-      ∙ sum-mul (λ i. cond (takes i) (D i) 0) U n
-
-  -- The whole parts and the units left over are the size that is shared.
-  pub whole-parts-and-left : left + wholeParts ≡ U
-  unfolding unitsLeft
-  whole-parts-and-left = sub-add-cancel (le-of-mul-le-mul-right {k = T} (omega (arith, all-parts)) some-demand)
-
-  left-are-remainders : left * T ≡ remainders
-  left-are-remainders =
-      let e : wholeParts * T + remainders ≡ T * (left + wholeParts) = rw whole-parts-and-left all-parts in
-      omega arith
-
-  -- No more units are left over than takers have a remainder.
-  pub left-few : left ≤ countBelow (λ j. takes j && ltb 0 (R j)) n
-  left-few = le-of-mul-le-mul-right {k = T} (le-trans (omega (arith, left-are-remainders)) (le-trans
-      (sum-mono (λ i. cond (takes i) (R i) 0) (λ j. oneIf (takes j && ltb 0 (R j)) * T) n (λ j l. one (takes j) (R j) (below-T j)))
-      (omega (arith, sum-mul (λ j. oneIf (takes j && ltb 0 (R j))) T n, ap (λ (x : ℕ). x * T) (sum-one-if (λ j. takes j && ltb 0 (R j)) n))))) some-demand
-    where
-      one : (b : Bool) (r : ℕ) → r < T → cond b r 0 ≤ oneIf (b && ltb 0 r) * T
-      one false r l = zero-le
-      one true r l = split (ltb 0 r) (λ e. rw e (omega arith)) (λ e. rw e (omega (arith, ltb-false 0 r e)))
-
-  left-at-most-takers : left ≤ countBelow takes n
-  left-at-most-takers = le-trans left-few (count-mono _ _ n (λ j l t. both (takes j) (ltb 0 (R j)) t .0))
+  remainders = sumBelow (ofTakers takes R) n
 
   -- how many takers stand ahead of i
   abbrev rank : ℕ → ℕ
   rank i = countBelow (λ j. takes j && ahead R j i) n
 
-  handed-by-rank : (i : ℕ) → i < n → handedOut R takes n left i ≡ (takes i && ltb (rank i) left)
-  handed-by-rank = handing-is-rank R takes n left left-at-most-takers
+  parts : (i : ℕ) → W i * T + R i ≡ D i * U
+  unfolding wholePart remainder
+  parts i = div-add-mod' (D i * U) T
 
-  size-is : (i : ℕ) → i < n → shareSize takes D n U i ≡ cond (takes i) (W i) 0 + oneIf (takes i && ltb (rank i) left)
-  unfolding shareSize
-  size-is i l = rw (ne-eqb T 0 (λ e. omega arith), handed-by-rank i l) (taker (takes i) (W i) (ltb (rank i) left))
-    where
-      taker : (b : Bool) (w : ℕ) (u : Bool) → cond (b && true) (w + oneIf (b && u)) 0 ≡ cond b w 0 + oneIf (b && u)
-      taker true w u = refl
-      taker false w u = refl
+  all-parts : wholeParts * T + remainders ≡ T * U
+  unfolding allDemand
+  all-parts =
+      ap (λ (x : ℕ). x + remainders) (sym (sum-mul (ofTakers takes W) T n))
+      ∙ sym (sum-add (λ i. ofTakers takes W i * T) (ofTakers takes R) n)
+      ∙ sum-ext _ _ n (λ i l. cond-parts (takes i) (W i) T (R i) (D i) U (parts i))
+      ∙ sum-mul (ofTakers takes D) U n
 
-  -- The shares add up to the size that is shared.
-  pub sizes-add-up : sumBelow (shareSize takes D n U) n ≡ U
-  sizes-add-up =
-      sum-ext _ _ n size-is
-      ∙ sum-add (λ i. cond (takes i) (W i) 0) (λ i. oneIf (takes i && ltb (rank i) left)) n
-      ∙ ap (λ (x : ℕ). wholeParts + x) (sum-one-if (λ i. takes i && ltb (rank i) left) n ∙ count-served (ahead R) (in-order R) takes n left left-at-most-takers)
-      ∙ omega (arith, whole-parts-and-left)
+  -- ---- where somebody demands something
+  module _ (some-demand : 0 < allDemand takes D n) where
+    below-T : (i : ℕ) → R i < T
+    unfolding remainder
+    below-T i = mod-lt (D i * U) some-demand
 
-  -- who gets one of the units left over has a remainder
-  has-remainder : (i : ℕ) → rank i < left → 0 < R i
-  has-remainder i h = split (ltb 0 (R i)) (λ e. ltb-true 0 (R i) e) (λ e. absurd (
-      let none : R i ≤ 0 = ltb-false 0 (R i) e in
-      let m = count-mono (λ j. takes j && ltb 0 (R j)) (λ j. takes j && ahead R j i) n (λ j l. and-mono (takes j) _ _ (λ p. larger R j i (omega (arith, ltb-true 0 (R j) p)))) in
-      omega (arith, left-few)))
+    -- The whole parts and the units left over are the size that is shared.
+    pub whole-parts-and-left : left + wholeParts ≡ U
+    unfolding unitsLeft
+    whole-parts-and-left = sub-add-cancel (le-of-mul-le-mul-right {k = T} (omega (arith, all-parts)) some-demand)
 
-  -- Each share is less than a unit from its exact fraction.
-  pub size-near : (i : ℕ) → i < n → takes i ≡ true → (shareSize takes D n U i * T < D i * U + T) × (D i * U < shareSize takes D n U i * T + T)
-  size-near i l t = split (ltb (rank i) left)
-      (λ e. let p = has-remainder i (ltb-true (rank i) left e) in rw (size-is i l, t, e) (omega (arith, parts i, below-T i)))
-      (λ e. rw (size-is i l, t, e) (omega (arith, parts i, below-T i)))
+    left-are-remainders : left * T ≡ remainders
+    left-are-remainders =
+        let e : wholeParts * T + remainders ≡ T * (left + wholeParts) = rw whole-parts-and-left all-parts in
+        omega arith
+
+    -- No more units are left over than takers have a remainder.
+    pub left-few : left ≤ countBelow (λ j. takes j && ltb 0 (R j)) n
+    left-few = le-of-mul-le-mul-right {k = T} (le-trans (omega (arith, left-are-remainders)) (le-trans
+        (sum-mono _ (λ j. oneIf (takes j && ltb 0 (R j)) * T) n (λ j l. cond-rest (takes j) (R j) T (below-T j)))
+        (le-of-eq (sum-mul (λ j. oneIf (takes j && ltb 0 (R j))) T n ∙ ap (λ (x : ℕ). x * T) (sum-one-if (λ j. takes j && ltb 0 (R j)) n))))) some-demand
+
+    -- So no taker gets two.
+    pub left-at-most-takers : left ≤ countBelow takes n
+    left-at-most-takers = le-trans left-few (count-mono _ _ n (λ j l t. both (takes j) (ltb 0 (R j)) t .0))
+
+    handed-by-rank : (i : ℕ) → i < n → handedOut R takes n left i ≡ (takes i && ltb (rank i) left)
+    handed-by-rank = handing-is-rank R takes n left left-at-most-takers
+
+    size-is : (i : ℕ) → i < n → shareSize takes D n U i ≡ ofTakers takes W i + oneIf (takes i && ltb (rank i) left)
+    unfolding shareSize
+    size-is i l = rw (ne-eqb T 0 (λ e. omega arith), handed-by-rank i l) (cond-unit (takes i) (ltb (rank i) left) (W i))
+
+    -- The shares add up to the size that is shared.
+    pub sizes-add-up : sumBelow (shareSize takes D n U) n ≡ U
+    sizes-add-up =
+        sum-ext _ _ n size-is
+        ∙ sum-add (ofTakers takes W) (λ i. oneIf (takes i && ltb (rank i) left)) n
+        ∙ ap (λ (x : ℕ). wholeParts + x) (sum-one-if (λ i. takes i && ltb (rank i) left) n ∙ count-served (ahead R) (in-order R) takes n left left-at-most-takers)
+        ∙ omega (arith, whole-parts-and-left)
+
+    -- without a remainder, all that have one stand ahead, and the units don't suffice
+    no-unit : (i : ℕ) → R i ≡ 0 → ltb (rank i) left ≡ false
+    no-unit i z = le-ltb (rank i) left (le-trans left-few (count-mono _ _ n (λ j l. and-mono (takes j) _ _ (λ p. larger R j i (omega (arith, ltb-true 0 (R j) p))))))
+
+    -- Each share is less than a unit from its exact fraction.
+    pub size-near : (i : ℕ) → i < n → takes i ≡ true → (shareSize takes D n U i * T < D i * U + T) × (D i * U < shareSize takes D n U i * T + T)
+    size-near i l t = split (ltb (rank i) left)
+        (λ e. ⊎-elim (λ z. never e (no-unit i z)) (λ (p : 0 < R i). rw (size-is i l, t, e) (omega (arith, parts i, below-T i))) (eq-zero-or-pos (R i)))
+        (λ e. rw (size-is i l, t, e) (omega (arith, parts i, below-T i)))
 
 -- ---- for every demand
 
@@ -238,6 +242,7 @@ module _ (takes : ℕ → Bool) (D : ℕ → ℕ) (n U i : ℕ) where
       let c = both (takes i) (not (eqb (allDemand takes D n) 0)) t in
       rw (handed-by-rank takes D n U (demanded (allDemand takes D n) (c .1)) i l, c .0))
 
+  -- Who takes no part gets nothing, nor does anybody where nobody demands anything.
   pub nothing-for-others : takes i ≡ false → shareSize takes D n U i ≡ 0
   unfolding shareSize
   nothing-for-others f = rw f
@@ -260,3 +265,91 @@ size-at-most takes D n U i l = le-trans (sum-at (shareSize takes D n U) n i l) (
 pub share-of-zero : (takes : ℕ → Bool) (D : ℕ → ℕ) (n i : ℕ) → share takes D n (pos 0) i ≡ pos 0
 unfolding share shareSize wholePart unitsLeft handedOut
 share-of-zero takes D n i = rw (mul-zero, zero-div, zero-sub) (split (takes i && not (eqb (allDemand takes D n) 0)) (λ t. rw t) (λ f. rw f))
+
+-- ---- who takes no part may as well demand 0
+
+abbrev all : ℕ → Bool
+all j = true
+
+module _ (takes : ℕ → Bool) (D : ℕ → ℕ) (n U : ℕ) where
+  abbrev E : ℕ → ℕ
+  E = ofTakers takes D
+
+  same-whole : (j : ℕ) → wholePart all E n U j ≡ ofTakers takes (wholePart takes D n U) j
+  unfolding wholePart allDemand
+  same-whole j = split (takes j) (λ t. rw t) (λ f. rw (f, zero-mul, zero-div))
+
+  same-remainder : (j : ℕ) → remainder all E n U j ≡ ofTakers takes (remainder takes D n U) j
+  unfolding remainder allDemand
+  same-remainder j = split (takes j) (λ t. rw t) (λ f. rw (f, zero-mul, zero-mod))
+
+  same-left : unitsLeft all E n U ≡ unitsLeft takes D n U
+  unfolding unitsLeft
+  same-left = ap (λ (x : ℕ). U - x) (sum-ext _ _ n (λ j l. same-whole j))
+
+  -- who has a remainder stands behind no demand of 0
+  same-rank : (i : ℕ) → takes i ≡ true → 0 < remainder takes D n U i → rank all E n U i ≡ rank takes D n U i
+  same-rank i t p = count-ext _ _ n (λ j l. split (takes j)
+      (λ s. rw s (same-ahead _ _ j i (same-remainder j ∙ rw s) (same-remainder i ∙ rw t)))
+      (λ f. rw f (behind j (same-remainder j ∙ rw f) (same-remainder i ∙ rw t))))
+    where
+      behind : (j : ℕ) → remainder all E n U j ≡ 0 → remainder all E n U i ≡ remainder takes D n U i → ahead (remainder all E n U) j i ≡ false
+      behind j z e = not-ahead (remainder all E n U) j i (omega arith) (λ l. omega arith)
+
+  same-unit : 0 < allDemand takes D n → (i : ℕ) → ltb (rank all E n U i) (left all E n U) ≡ (takes i && ltb (rank takes D n U i) (left takes D n U))
+  unfolding allDemand
+  same-unit p i = split (takes i)
+      (λ t. rw t (⊎-elim
+      (λ z. no-unit all E n U p i (same-remainder i ∙ rw t z) ∙ sym (no-unit takes D n U p i z))
+      (λ s. rw (same-left, same-rank i t s))
+      (eq-zero-or-pos (remainder takes D n U i))))
+      (λ f. rw f (no-unit all E n U p i (same-remainder i ∙ rw f)))
+
+-- An engine that sees a demand of 0 for those who take no part gives the same shares.
+pub zeros-for-others : (takes : ℕ → Bool) (D : ℕ → ℕ) (n U i : ℕ) → i < n → shareSize takes D n U i ≡ shareSize (λ j. true) (λ j. cond (takes j) (D j) 0) n U i
+unfolding allDemand
+zeros-for-others takes D n U i l = ⊎-elim
+    (λ z. nothing-without-demand takes D n U i z ∙ sym (nothing-without-demand all (ofTakers takes D) n U i z))
+    (λ p. size-is takes D n U p i l
+    ∙ ap₂ (λ (w : ℕ) (u : Bool). w + oneIf u) (sym (same-whole takes D n U i)) (sym (same-unit takes D n U p i))
+    ∙ sym (size-is all (ofTakers takes D) n U p i l))
+    (eq-zero-or-pos (allDemand takes D n))
+
+-- ---- equal demands below n
+
+module _ (D E : ℕ → ℕ) (n U : ℕ) (same : (j : ℕ) → j < n → D j ≡ E j) where
+  equal-T : allDemand all D n ≡ allDemand all E n
+  unfolding allDemand
+  equal-T = sum-ext D E n same
+
+  equal-whole : (j : ℕ) → j < n → wholePart all D n U j ≡ wholePart all E n U j
+  unfolding wholePart
+  equal-whole j l = ap₂ (λ (d t : ℕ). d * U / t) (same j l) equal-T
+
+  equal-remainder : (j : ℕ) → j < n → remainder all D n U j ≡ remainder all E n U j
+  unfolding remainder
+  equal-remainder j l = ap₂ (λ (d t : ℕ). d * U % t) (same j l) equal-T
+
+  equal-left : unitsLeft all D n U ≡ unitsLeft all E n U
+  unfolding unitsLeft
+  equal-left = ap (λ (x : ℕ). U - x) (sum-ext _ _ n equal-whole)
+
+  equal-rank : (i : ℕ) → i < n → rank all D n U i ≡ rank all E n U i
+  equal-rank i l = count-ext _ _ n (λ j m. same-ahead _ _ j i (equal-remainder j m) (equal-remainder i l))
+
+  equal-ranked : (i : ℕ) → i < n → rankedSize all D n U i ≡ rankedSize all E n U i
+  unfolding rankedSize
+  equal-ranked i l = rw (equal-T, equal-whole i l, equal-rank i l, equal-left)
+
+module _ (takes takes′ : ℕ → Bool) (D D′ : ℕ → ℕ) (n : ℕ) (same : (j : ℕ) → j < n → cond (takes j) (D j) 0 ≡ cond (takes′ j) (D′ j) 0) where
+  -- Equal demands of those below n that take part give equal shares.
+  pub size-ext : (U i : ℕ) → i < n → shareSize takes D n U i ≡ shareSize takes′ D′ n U i
+  size-ext U i l =
+      zeros-for-others takes D n U i l
+      ∙ ranked all (ofTakers takes D) n U i l
+      ∙ equal-ranked (ofTakers takes D) (ofTakers takes′ D′) n U same i l
+      ∙ sym (zeros-for-others takes′ D′ n U i l ∙ ranked all (ofTakers takes′ D′) n U i l)
+
+  pub share-ext : (U : ℤ) (i : ℕ) → i < n → share takes D n U i ≡ share takes′ D′ n U i
+  unfolding share
+  share-ext U i l = ap (withSignOf U) (size-ext (natAbs U) i l)

@@ -51,6 +51,14 @@ unfolding countBelow
 all-count zero = refl
 all-count (suc n) = let e = all-count n in omega arith
 
+-- a count of 0 says that no test passed
+pub count-zero : (p : ℕ → Bool) (n : ℕ) → countBelow p n ≡ 0 → (i : ℕ) → i < n → p i ≡ false
+unfolding countBelow
+count-zero p zero e i l = absurd (not-suc-le-zero l)
+count-zero p (suc n) e i l = last-or-below i n l
+    (λ d. split (p n) (λ t. absurd (let k : countBelow p n + 1 ≡ 0 = rw t at e in omega arith)) (λ f. rw d f))
+    (count-zero p n (omega arith) i)
+
 pub count-most : (p : ℕ → Bool) (n : ℕ) → countBelow p n ≤ n
 count-most p n = let e = all-count n in let h = count-mono p (λ i. true) n (λ i l t. refl) in omega arith
 
