@@ -29,6 +29,30 @@ told : (r : Entry) (k : Kind) → r .kind ≡ k → {z : ℤ} → z ≡ accounte
 unfolding accounted
 told r k e f = f ∙ sym (ap (λ (x : Kind). accountedAs x (r .A) (r .H)) e)
 
+returns : tie.Need-returns
+unfolding accountedAs
+returns c = let k = c .before .before .before .before .pre in told _ Generator (c .enum-told .given .1) (stored (metered k :- lost k) tt)
+
+returns-2 : tie.Need-returns-2
+unfolding accountedAs
+returns-2 c = let k = c .before .before .before .before .pre in told _ RealTimeLoad (c .enum-told2 .given .1) (stored (# (pos 0) :- metered k) tt ∙ +ℤ-idl _)
+
+returns-3 : tie.Need-returns-3
+unfolding accountedAs
+returns-3 c = let k = c .before .before .before .before .pre in told _ ProfileLoad (c .enum-told3 .given .1) (stored (# (pos 0) :- metered k) tt ∙ +ℤ-idl _)
+
+returns-4 : tie.Need-returns-4
+unfolding accountedAs
+returns-4 c = let k = c .before .before .before .before .pre in told _ Import (c .enum-told4 .given .1) (stored (# (pos 0) :- lost k) tt ∙ +ℤ-idl _)
+
+returns-5 : tie.Need-returns-5
+unfolding accountedAs
+returns-5 c = told _ Export (c .enum-told5 .given .1) refl
+
+returns-6 : tie.Need-returns-6
+unfolding accountedAs
+returns-6 c = told _ Unknown (c .enum-told6 .given .1) refl
+
 enum-told : tie.Need-enum-told
 enum-told c = c .match .keys1
 
@@ -79,30 +103,6 @@ enum-told-5 c = c .match .keys5
 
 enum-told-6 : tie.Need-enum-told-6
 enum-told-6 c = c .match .keys6
-
-returns : tie.Need-returns
-unfolding accountedAs
-returns c = let k = c .before .before .before .before .pre in told _ Generator (c .enum-told .given .1) (stored (metered k :- lost k) tt)
-
-returns-2 : tie.Need-returns-2
-unfolding accountedAs
-returns-2 c = let k = c .before .before .before .before .pre in told _ RealTimeLoad (c .enum-told2 .given .1) (stored (# (pos 0) :- metered k) tt ∙ +ℤ-idl _)
-
-returns-3 : tie.Need-returns-3
-unfolding accountedAs
-returns-3 c = let k = c .before .before .before .before .pre in told _ ProfileLoad (c .enum-told3 .given .1) (stored (# (pos 0) :- metered k) tt ∙ +ℤ-idl _)
-
-returns-4 : tie.Need-returns-4
-unfolding accountedAs
-returns-4 c = let k = c .before .before .before .before .pre in told _ Import (c .enum-told4 .given .1) (stored (# (pos 0) :- lost k) tt ∙ +ℤ-idl _)
-
-returns-5 : tie.Need-returns-5
-unfolding accountedAs
-returns-5 c = told _ Export (c .enum-told5 .given .1) refl
-
-returns-6 : tie.Need-returns-6
-unfolding accountedAs
-returns-6 c = told _ Unknown (c .enum-told6 .given .1) refl
 
 pub accounted-spec : {M : Type 1} → statement M
 accounted-spec =

@@ -43,6 +43,10 @@ unavailable c =
     let x = room (at-end c) in
     # (pos 10000) :* result (c .least .ensures ∙ ap (minℤ (pos 0)) (stored x tt)) (u-min u-zero (bound x tt))
 
+returns : tie.Need-returns
+unfolding generatorUnavailable generatorDeviation
+returns c = stored (produced (at-end c) :- unavailable c) tt
+
 mul-result : tie.Need-mul-result
 mul-result c = let k = at-sf c .pre in fits (S k :* F k) tt
 
@@ -78,10 +82,6 @@ mul-result-4 c = fits (unavailable c) tt
 
 sub-result-4 : tie.Need-sub-result-4
 sub-result-4 c = fits (produced (at-end c) :- unavailable c) tt
-
-returns : tie.Need-returns
-unfolding generatorUnavailable generatorDeviation
-returns c = stored (produced (at-end c) :- unavailable c) tt
 
 pub generator-deviation-spec : {M : Type 1} → statement M
 generator-deviation-spec =
