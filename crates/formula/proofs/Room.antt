@@ -1,5 +1,4 @@
 -- In an hour that keeps its ranges every posting has room: what the callers of `tallied` and `line_with` show.
-use mathlib.Core.Bool.{cond}
 use Prim.Native.Nat.{ℕ, _+_, _≤_, _<_}
 use native.Mathlib.Omega.{arith}
 use lib.Dec.{eqb}

@@ -153,7 +153,10 @@ le-no x y s t e =
 pub eq-yes : (x y : Num) → T (good x) → T (good y) → x .rd ≡ y .rd → x .z ≡ y .z
 eq-yes x y s t e = sym (stored x s) ∙ e ∙ stored y t
 
--- of a number that may be any i64: a test against 0
+-- of numbers that may be any i64: a test of two, and against 0
+pub le-same : {a b : ℤ} → SFits w64 a → SFits w64 b → leZ a b ≡ leZ (back a) (back b)
+le-same {a} {b} f g = sym (ap₂ leZ (toZ-ofZ w64 a f) (toZ-ofZ w64 b g))
+
 pub below-0 : {z : ℤ} → SFits w64 z → ltZ (back z) (pos 0) ≡ true → z <ℤ pos 0
 below-0 {z} f e = ltZ-yes (subst T (sym (ap (λ (x : ℤ). ltZ x (pos 0)) (sym (toZ-ofZ w64 z f)) ∙ e)) tt)
 

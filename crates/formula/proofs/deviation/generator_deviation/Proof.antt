@@ -5,11 +5,11 @@ use Rattle.whole.specs.Signed.{minℤ}
 use Rattle.whole.proofs.Ranges.{u-zero, u-min}
 use Rattle.whole.proofs.Machine.{Num, #, result, _:-_, _:*_, fits, stored, bound}
 use Rattle.rules.specs.Deviation.{generatorUnavailable, generatorDeviation}
-use Rattle.formula.proofs.Terms.{S, A, J, N, O, M, F, H, adjusted, ancillary}
+use Rattle.formula.proofs.Terms.{S, A, J, N, O, M, F, adjusted, ancillary}
 use Rattle.formula.proofs.deviation.generator_deviation.Statement.{statement}
 use Rattle.formula.proofs.deviation.generator_deviation.Tie as tie
 
--- the entry's ranges, seen from where its letters are read
+-- the function's start, seen from where the entry's letters are read
 abbrev at-sf : tie.After-struct-told → tie.Start
 at-sf c = c .before .before
 

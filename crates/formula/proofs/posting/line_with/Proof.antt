@@ -1,7 +1,6 @@
 -- `formula::posting::line_with` meets its contract. Assumes nothing.
 use mir.Syntax.{w64}
 use mir.Val.{SFits}
-use native.Mathlib.Omega.{arith}
 use borrow.Author.Needs.{sfits-of}
 use Rattle.whole.proofs.Machine.{sum-fits, sum-stored}
 use Rattle.rules.specs.Posting.{lineWith}

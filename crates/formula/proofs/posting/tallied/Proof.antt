@@ -5,7 +5,6 @@ use Prim.Native.Nat.{_*_}
 use lib.IntN.{pos}
 use lib.ListN.{getD}
 use lib.Dec.{lit<}
-use native.Mathlib.Omega.{arith}
 use borrow.Author.Needs.{sfits-of, scaled-fits}
 use Rattle.whole.proofs.Machine.{sum-fits, sum-stored}
 use Rattle.rules.specs.Posting.{tallied}
