@@ -1,0 +1,2 @@
+-- What the contracts of `amount` cite beside the definitions of `rules`.
+pub mod Parts
