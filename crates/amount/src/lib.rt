@@ -3,13 +3,16 @@
 ghost use mathlib.Core.Path.{_≡_};
 ghost use Rattle.rules.specs.Refusals.{verdictOf};
 ghost use Rattle.rules.specs.Settling as Settling;
+
 mod reading;
 mod writing;
+
 use reading::Cursor;
 use reading::Number;
 use reading::Sign;
 use rules::Answer;
 use rules::Reading;
+pub use writing::size;
 
 // Writes an amount of cents into the whole field, whose length is the width.
 pub fn write(cents: i64, field: &mut [u8]) -> Answer

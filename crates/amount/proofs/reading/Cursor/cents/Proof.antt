@@ -106,8 +106,14 @@ add-t9 c = let s = c .before .before .before .before .before .before .before .be
 returns-4 : tie.Need-returns-4
 unfolding centsAt
 returns-4 c = let s = c .before .before .before .before .before .before .before .before .before in
-    rw (point (c .before .before .before .before .before .before), tens (c .before .before .before), ones c, two-digits (s .args .field .now) (s .args .self .at),
-    c .before .before .before .before .before .byte-at2 .ensures, c .before .before .byte-at3 .ensures)
+    rw (
+      point (c .before .before .before .before .before .before),
+      tens (c .before .before .before),
+      ones c,
+      two-digits (s .args .field .now) (s .args .self .at),
+      c .before .before .before .before .before .byte-at2 .ensures,
+      c .before .before .byte-at3 .ensures,
+    )
 
 pub cents-spec : {M : Type 1} → statement M
 cents-spec =

@@ -77,9 +77,9 @@ returns-4 c =
     let s = c .before .before .before .before .before in
     let first = getD (s .args .field .now) (s .args .self .at) 0 in
     let front : (eqb (d .result .count) 1 || not (eqb first 48)) ≡ true = ⊎-elim
-        (λ several. rw (ne-eqb first 48 (λ e. several .2 .left (several .1 .ensures ∙ e))) (or-true (eqb (d .result .count) 1)))
-        (λ single. rw (eq-eqb (d .result .count) 1 (omega (arith, single .left, c .before .before .if1 .left))))
-        (c .if3 .came) in
+    (λ several. rw (ne-eqb first 48 (λ e. several .2 .left (several .1 .ensures ∙ e))) (or-true (eqb (d .result .count) 1)))
+    (λ single. rw (eq-eqb (d .result .count) 1 (omega (arith, single .left, c .before .before .if1 .left))))
+    (c .if3 .came) in
     rw (d .ensures .1) (found (s .args .field .now) (s .args .self .at) (d .result .count) (d .ensures .0) (c .before .if2 .left) (c .before .before .if1 .left) front)
 
 pub dollars-spec : {M : Type 1} → statement M
