@@ -63,7 +63,7 @@ returns-3 c =
     let t = c .before .before .before in
     let d = t .before .before .digits-from in
     let s = t .before .before .before .before in
-    zero-first (s .args .field .now) (s .args .self .at) (d .result .count) (d .ensures .0) (t .if2 .left) (c .before .before .if3 .taken)
+    zero-first (s .args .field .now) (s .args .self .at) (d .result .count) (d .ensures .0) (t .if2 .left) (omega (arith, c .before .before .if3 .taken))
     (sym (c .before .byte-at .ensures) ∙ c .if4 .taken)
 
 add-t9 : tie.Need-add-t9
