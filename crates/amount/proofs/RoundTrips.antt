@@ -8,7 +8,7 @@ use lib.ListN.{length}
 use Rattle.rules.specs.declared.Answer.{Answer}
 use Rattle.rules.specs.declared.Answer.the-variants.{Accepted}
 use Rattle.rules.specs.declared.Reading.{Reading}
-use Rattle.rules.specs.Refusals.{accepted, verdictOf}
+use Rattle.rules.specs.Refusals.{accepted}
 use Rattle.rules.specs.Settling.{Written, ReadAmount, write, read}
 use Rattle.rules.proofs.Rows.{one-answer}
 use Rattle.rules.proofs.Text.{written-read, read-written}

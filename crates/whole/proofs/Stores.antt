@@ -1,11 +1,11 @@
 -- Values stored one after the other from a place on (`sets` of lib.Seq): two runs as one, the last value stored first, and a run that
 -- ends where the list does.
-use mathlib.Core.Path.{_≡_, sym, _∙_, ap}
+use mathlib.Core.Path.{_≡_, _∙_}
 use mathlib.Core.List.{List, [], _∷_, _++_, append-nil}
-use Prim.Native.Nat.{ℕ, suc, _+_, _≤_}
+use Prim.Native.Nat.{ℕ, suc, _+_}
 use native.Mathlib.Nat.{add-zero}
 use native.Mathlib.Omega.{arith}
-use lib.ListN.{length, take, drop, set, drop-of-length-le}
+use lib.ListN.{length, take, set, drop-of-length-le}
 use lib.Seq.{sets, sets-eq, set-comm}
 
 along : (i n : ℕ) → i + suc n ≡ suc i + n

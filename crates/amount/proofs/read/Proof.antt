@@ -22,15 +22,6 @@ use Rattle.amount.specs.Parts.{signPart, numberPart, readAmount}
 use borrow.Author.Needs.{needs}
 use Rattle.amount.proofs.read.Statement.{statement}
 use Rattle.amount.proofs.read.Tie as tie
-use Rattle.amount.proofs.read.Reads as reads
-use Rattle.amount.proofs.read.Lts as lts
-use Rattle.amount.proofs.reading.Cursor.blanks.Reads as blanks-reads
-use Rattle.amount.proofs.reading.Cursor.cents.Reads as cents-reads
-use Rattle.amount.proofs.reading.Cursor.dollars.Reads as dollars-reads
-use Rattle.amount.proofs.reading.Cursor.sign.Reads as sign-reads
-use Rattle.amount.proofs.reading.Cursor.start.Reads as start-reads
-use Rattle.amount.proofs.reading.refused.Reads as refused-reads
-use Rattle.amount.proofs.reading.signed.Reads as signed-reads
 
 -- ---- the answers of the parts, as the parts of `amountIn`
 

@@ -1,21 +1,14 @@
 -- `amount::write` meets its contract: out of range, too narrow, or written; each way answers as `write` of `rules` does.
 use mathlib.Core.Path.{_≡_, refl, _∙_, ap}
 use native.Mathlib.Omega.{arith}
-use Prim.Native.Nat.{_≤_}
 use borrow.Author.Needs.{needs}
 use lib.IntN.{natAbs}
 use lib.ListN.{length}
 use Rattle.whole.proofs.Machine.{read-back}
 use Rattle.rules.specs.Text.{amountText}
-use Rattle.rules.specs.Settling.{Written}
 use Rattle.rules.proofs.Text.{write-out-of-range, write-too-narrow, write-accepted-at}
 use Rattle.amount.proofs.write.Statement.{statement}
 use Rattle.amount.proofs.write.Tie as tie
-use Rattle.amount.proofs.write.Reads as reads
-use Rattle.amount.proofs.write.Lts as lts
-use Rattle.amount.proofs.writing.put.Reads as put-reads
-use Rattle.amount.proofs.writing.size.Reads as size-reads
-use Rattle.amount.proofs.writing.text_length.Reads as text-length-reads
 
 -- the size and the length that the code computes
 sized : (c : tie.After-size) → c .size .result ≡ natAbs (c .before .before .args .cents)

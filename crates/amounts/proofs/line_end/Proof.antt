@@ -4,8 +4,6 @@ use native.Mathlib.Omega.{arith}
 use lib.ListN.{length}
 use Rattle.amounts.proofs.line_end.Statement.{statement}
 use Rattle.amounts.proofs.line_end.Tie as tie
-use Rattle.amounts.proofs.line_end.Reads as reads
-use Rattle.amounts.proofs.line_end.Lts as lts
 
 abbrev Inv-loop : tie.InvT-loop
 Inv-loop text from at₀ at = (from ≤ at) × (at ≤ length text)

@@ -4,9 +4,6 @@ use lib.Seq.{length-take-le}
 use borrow.Author.Needs.{needs}
 use Rattle.amounts.proofs.show_in.Statement.{statement}
 use Rattle.amounts.proofs.show_in.Tie as tie
-use Rattle.amounts.proofs.show_in.Reads as reads
-use Rattle.amounts.proofs.show_in.Lts as lts
-use Rattle.amounts.proofs.show_written.Reads as show-written-reads
 
 array-borrow-prefix-space : tie.Need-array-borrow-prefix-space
 array-borrow-prefix-space c = search needs

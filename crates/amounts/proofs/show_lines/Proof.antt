@@ -5,10 +5,6 @@ use borrow.Author.Needs.{needs}
 use lib.ListN.{length}
 use Rattle.amounts.proofs.show_lines.Statement.{statement}
 use Rattle.amounts.proofs.show_lines.Tie as tie
-use Rattle.amounts.proofs.show_lines.Reads as reads
-use Rattle.amounts.proofs.show_lines.Lts as lts
-use Rattle.amounts.proofs.line_end.Reads as line-end-reads
-use Rattle.amounts.proofs.show_read.Reads as show-read-reads
 
 abbrev Inv-loop : tie.InvT-loop
 Inv-loop text from₀ from = Unit {0}

@@ -4,8 +4,6 @@ use borrow.Author.Needs.{needs}
 use lib.ListN.{List·getD-eq-default}
 use Rattle.amount.proofs.reading.byte_at.Statement.{statement}
 use Rattle.amount.proofs.reading.byte_at.Tie as tie
-use Rattle.amount.proofs.reading.byte_at.Reads as reads
-use Rattle.amount.proofs.reading.byte_at.Lts as lts
 
 shared-slice-read-result : tie.Need-shared-slice-read-result
 shared-slice-read-result c = search needs

@@ -1,20 +1,16 @@
 -- `amount::reading::digits_from` meets its contract: so many of the digits that stand there are passed, and they make the value.
-use Prim.Native.Nat.{ℕ, suc, _+_, _-_, _^_, _≤_, _<_}
-use mathlib.Core.Path.{_≡_, refl, sym, _∙_, ap}
+use Prim.Native.Nat.{ℕ, _+_, _-_, _^_, _≤_, _<_}
+use mathlib.Core.Path.{_≡_, refl, sym, _∙_}
 use mathlib.Core.Bool.{true, false}
 use mathlib.Core.List.{List}
 use native.Mathlib.Nat.{add-zero, zero-add, pow-le-pow-right, lt-of-lt-of-le}
 use native.Mathlib.Omega.{arith}
 use borrow.Author.Tests.{not-true, not-false}
-use lib.ListN.{length, drop, getD, length-drop}
+use lib.ListN.{drop, getD, length-drop}
 use Rattle.rules.specs.Text.{isDigit, digitCount, digitsValue}
 use Rattle.rules.proofs.Digits.{digits-from, digit-range, counted-stand, value-more, value-below-power}
 use Rattle.amount.proofs.reading.digits_from.Statement.{statement}
 use Rattle.amount.proofs.reading.digits_from.Tie as tie
-use Rattle.amount.proofs.reading.digits_from.Reads as reads
-use Rattle.amount.proofs.reading.digits_from.Lts as lts
-use Rattle.amount.proofs.reading.byte_at.Reads as byte-at-reads
-use Rattle.amount.proofs.reading.is_digit.Reads as is-digit-reads
 
 -- n digits are passed: what is counted from there on is the rest
 abbrev Passed : List ℕ → ℕ → ℕ → Type 0

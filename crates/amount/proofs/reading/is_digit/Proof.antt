@@ -2,8 +2,6 @@
 use borrow.Author.Tests.{le-leb, lt-leb}
 use Rattle.amount.proofs.reading.is_digit.Statement.{statement}
 use Rattle.amount.proofs.reading.is_digit.Tie as tie
-use Rattle.amount.proofs.reading.is_digit.Reads as reads
-use Rattle.amount.proofs.reading.is_digit.Lts as lts
 
 returns : tie.Need-returns
 returns c = rw (lt-leb 48 (c .before .args .byte) (c .if1 .taken))

@@ -12,9 +12,6 @@ use Rattle.whole.proofs.Machine.{Num, local, #, _:-_, fits, stored, i64-is}
 use Rattle.rules.specs.Text.{withMinus}
 use Rattle.amount.proofs.reading.signed.Statement.{statement}
 use Rattle.amount.proofs.reading.signed.Tie as tie
-use Rattle.amount.proofs.reading.signed.Reads as reads
-use Rattle.amount.proofs.reading.signed.Lts as lts
-use Rattle.amount.proofs.reading.refused.Reads as refused-reads
 
 -- the size as the code has it, and what is taken from 0
 abbrev minus : (n : ℕ) → n ≤ 999999999999 → Num

@@ -1,11 +1,9 @@
 -- `amount::writing::digits` meets its contract: one digit, or one more than a tenth has. The number itself falls.
-use Prim.Native.Nat.{ℕ, _+_, _/_, _^_, _<_}
-use mathlib.Core.Path.{_≡_, sym, _∙_, ap}
+use Prim.Native.Nat.{ℕ, _+_, _/_, _<_}
+use mathlib.Core.Path.{sym}
 use native.Mathlib.Omega.{arith}
 use borrow.Fn.Kinds.{In}
 use borrow.Fn.PlainCycle.{Measures, is, falls, and}
-use lib.ListN.{length}
-use Rattle.rules.specs.Text.{decimal}
 use Rattle.rules.proofs.Digits.{decimal-at-most-20, decimal-length-last, decimal-length-more}
 use Rattle.amount.proofs.writing.digits.Reads as digits
 use Rattle.amount.proofs.writing.digits.Kinds as digits-kinds

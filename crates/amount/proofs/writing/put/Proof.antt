@@ -13,13 +13,6 @@ use Rattle.rules.specs.Text.{amountField, amountText, decimal, digitByte, signB
 use Rattle.rules.proofs.Text.{text-length}
 use Rattle.amount.proofs.writing.put.Statement.{statement}
 use Rattle.amount.proofs.writing.put.Tie as tie
-use Rattle.amount.proofs.writing.put.Reads as reads
-use Rattle.amount.proofs.writing.put.Lts as lts
-use Rattle.amount.proofs.writing.put_blanks.Reads as put-blanks-reads
-use Rattle.amount.proofs.writing.put_cents.Reads as put-cents-reads
-use Rattle.amount.proofs.writing.put_dollars.Reads as put-dollars-reads
-use Rattle.amount.proofs.writing.sign.Reads as sign-reads
-use Rattle.amount.proofs.writing.size.Reads as size-reads
 
 -- ---- the stores make the field
 

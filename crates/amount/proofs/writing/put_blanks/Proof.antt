@@ -1,14 +1,12 @@
 -- `amount::writing::put_blanks` meets its contract: the places passed are blank, the others as they were.
 use Prim.Native.Nat.{_≤_, _-_}
 use mathlib.Core.Path.{_≡_, refl, _∙_, ap}
-use mathlib.Core.List.{List, _++_}
+use mathlib.Core.List.{_++_}
 use native.Mathlib.Omega.{arith}
 use borrow.Author.Fill.{fill-more}
 use lib.ListN.{length, set, replicate, drop, length-set}
 use Rattle.amount.proofs.writing.put_blanks.Statement.{statement}
 use Rattle.amount.proofs.writing.put_blanks.Tie as tie
-use Rattle.amount.proofs.writing.put_blanks.Reads as reads
-use Rattle.amount.proofs.writing.put_blanks.Lts as lts
 
 abbrev Inv-loop : tie.InvT-loop
 Inv-loop field₀ end at₀ field at = (at ≤ end) × (length field ≡ length field₀) × (field ≡ replicate at 32 ++ drop at field₀)

@@ -1,14 +1,10 @@
 -- `amount::writing::put_cents` meets its contract: three stores, one after the other.
-use Prim.Native.Nat.{_+_}
 use native.Mathlib.Numerals.{towards-suc}
 use native.Mathlib.Omega.{arith}
 use borrow.Author.Needs.{needs}
 use lib.ListN.{length-set}
 use Rattle.amount.proofs.writing.put_cents.Statement.{statement}
 use Rattle.amount.proofs.writing.put_cents.Tie as tie
-use Rattle.amount.proofs.writing.put_cents.Reads as reads
-use Rattle.amount.proofs.writing.put_cents.Lts as lts
-use Rattle.amount.proofs.writing.digit.Reads as digit-reads
 
 slice-write-field : tie.Need-slice-write-field
 slice-write-field c = search needs

@@ -10,8 +10,6 @@ use Rattle.whole.proofs.Machine.{read-back}
 use Rattle.rules.specs.Text.{signByte}
 use Rattle.amount.proofs.writing.sign.Statement.{statement}
 use Rattle.amount.proofs.writing.sign.Tie as tie
-use Rattle.amount.proofs.writing.sign.Reads as reads
-use Rattle.amount.proofs.writing.sign.Lts as lts
 
 minus : (z : ℤ) → ltZ z (pos 0) ≡ true → 45 ≡ signByte z
 minus (pos n) t = absurd (omega (arith, ltb-true n 0 t))

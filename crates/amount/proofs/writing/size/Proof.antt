@@ -4,8 +4,6 @@ use native.Mathlib.Omega.{arith}
 use Rattle.whole.proofs.Machine.{OneLess, one-less, none-less}
 use Rattle.amount.proofs.writing.size.Statement.{statement}
 use Rattle.amount.proofs.writing.size.Tie as tie
-use Rattle.amount.proofs.writing.size.Reads as reads
-use Rattle.amount.proofs.writing.size.Lts as lts
 
 less : (c : tie.Then1) → OneLess (c .before .args .cents)
 less c = one-less (c .before .args .cents) (c .before .fits .cents) (c .if1 .taken)

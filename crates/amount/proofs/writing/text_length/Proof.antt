@@ -11,10 +11,6 @@ use Rattle.rules.proofs.Digits.{decimal-at-most-20}
 use Rattle.rules.proofs.Text.{text-length}
 use Rattle.amount.proofs.writing.text_length.Statement.{statement}
 use Rattle.amount.proofs.writing.text_length.Tie as tie
-use Rattle.amount.proofs.writing.text_length.Reads as reads
-use Rattle.amount.proofs.writing.text_length.Lts as lts
-use Rattle.amount.proofs.writing.digits.Reads as digits-reads
-use Rattle.amount.proofs.writing.size.Reads as size-reads
 
 size-requires : tie.Need-size-requires
 size-requires c κs = search needs

@@ -9,9 +9,6 @@ use Rattle.rules.proofs.Digits.{stands}
 use Rattle.rules.proofs.Parts.{blanks-from}
 use Rattle.amount.proofs.reading.Cursor.blanks.Statement.{statement}
 use Rattle.amount.proofs.reading.Cursor.blanks.Tie as tie
-use Rattle.amount.proofs.reading.Cursor.blanks.Reads as reads
-use Rattle.amount.proofs.reading.Cursor.blanks.Lts as lts
-use Rattle.amount.proofs.reading.byte_at.Reads as byte-at-reads
 
 abbrev Inv-loop : tie.InvT-loop
 Inv-loop field at₀ at = pastBlanks field at ≡ pastBlanks field at₀

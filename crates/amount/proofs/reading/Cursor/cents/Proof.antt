@@ -1,23 +1,18 @@
 -- `amount::reading::Cursor::cents` meets its contract: a point and two digits, or none. None of the three is a 0, so each stands before
 -- the end.
-use Prim.Native.Nat.{ℕ, _+_, _-_, _*_, _≤_, _<_}
-use mathlib.Core.Path.{_≡_, sym, _∙_, ap}
+use Prim.Native.Nat.{ℕ, _+_, _-_, _*_, _<_}
+use mathlib.Core.Path.{_≡_, sym, _∙_}
 use mathlib.Core.Bool.{Bool, true, false, not}
 use mathlib.Core.List.{List}
-use mathlib.Core.Option.{none, some}
 use native.Mathlib.Omega.{arith}
 use borrow.Author.Needs.{needs}
 use borrow.Author.Tests.{not-true, not-false, ne-eqb}
 use lib.ListN.{length, drop, getD}
 use lib.Seq.{getD-drop}
-use Rattle.rules.specs.Text.{Part, isDigit, digitsValue, centsAt}
+use Rattle.rules.specs.Text.{isDigit, digitsValue, centsAt}
 use Rattle.rules.proofs.Digits.{first-byte, digit-range, stands}
 use Rattle.amount.proofs.reading.Cursor.cents.Statement.{statement}
 use Rattle.amount.proofs.reading.Cursor.cents.Tie as tie
-use Rattle.amount.proofs.reading.Cursor.cents.Reads as reads
-use Rattle.amount.proofs.reading.Cursor.cents.Lts as lts
-use Rattle.amount.proofs.reading.byte_at.Reads as byte-at-reads
-use Rattle.amount.proofs.reading.is_digit.Reads as is-digit-reads
 
 digit-stands : (s : List ℕ) (at : ℕ) → isDigit (getD s at 0) ≡ true → at < length s
 digit-stands s at d = let r = digit-range (getD s at 0) d in stands s at (λ z. omega arith)

@@ -10,15 +10,11 @@ use native.Mathlib.Omega.{arith}
 use borrow.Author.Needs.{needs}
 use borrow.Author.Tests.{le-leb, lt-leb, eq-eqb, ne-eqb}
 use lib.Dec.{eqb}
-use lib.ListN.{length, drop, getD, length-drop}
+use lib.ListN.{drop, getD, length-drop}
 use Rattle.rules.specs.Text.{digitCount, digitsValue, dollarsAt}
 use Rattle.rules.proofs.Digits.{counted-stand}
 use Rattle.amount.proofs.reading.Cursor.dollars.Statement.{statement}
 use Rattle.amount.proofs.reading.Cursor.dollars.Tie as tie
-use Rattle.amount.proofs.reading.Cursor.dollars.Reads as reads
-use Rattle.amount.proofs.reading.Cursor.dollars.Lts as lts
-use Rattle.amount.proofs.reading.byte_at.Reads as byte-at-reads
-use Rattle.amount.proofs.reading.digits_from.Reads as digits-from-reads
 
 module _ (s : List ℕ) (at count : ℕ) (counted : count ≡ min 11 (digitCount (drop at s))) where
   no-digit : count ≡ 0 → none ≡ dollarsAt s at

@@ -8,9 +8,6 @@ use Rattle.rules.specs.Text.{signAt}
 use Rattle.rules.proofs.Digits.{stands}
 use Rattle.amount.proofs.reading.Cursor.sign.Statement.{statement}
 use Rattle.amount.proofs.reading.Cursor.sign.Tie as tie
-use Rattle.amount.proofs.reading.Cursor.sign.Reads as reads
-use Rattle.amount.proofs.reading.Cursor.sign.Lts as lts
-use Rattle.amount.proofs.reading.byte_at.Reads as byte-at-reads
 
 byte-at-requires : tie.Need-byte-at-requires
 byte-at-requires c κs = search needs
