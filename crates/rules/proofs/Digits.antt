@@ -191,6 +191,10 @@ no-more-than-room (suc k) n = split (ltb n 10)
     (λ e. rw e (omega arith))
     (λ e. rw (e, length-append) (omega (arith, no-more-than-room k (n / 10))))
 
+pub decimal-digits : (n : ℕ) → n < 10 ^ 20 → DigitsOf n (decimal n)
+unfolding decimal
+decimal-digits n h = written-digits 19 n h
+
 pub decimal-at-most-20 : (n : ℕ) → length (decimal n) ≤ 20
 unfolding decimal
 decimal-at-most-20 n = no-more-than-room 20 n
@@ -198,10 +202,6 @@ decimal-at-most-20 n = no-more-than-room 20 n
 pub decimal-at-least-1 : (n : ℕ) → 1 ≤ length (decimal n)
 unfolding decimal digitsUpTo
 decimal-at-least-1 n = rw length-append (omega arith)
-
-pub decimal-digits : (n : ℕ) → n < 10 ^ 20 → DigitsOf n (decimal n)
-unfolding decimal
-decimal-digits n h = written-digits 19 n h
 
 -- the digits from the right, while nothing but the last is left and while there is more
 pub decimal-last : (n : ℕ) → n / 10 ≡ 0 → decimal n ≡ digitByte (n % 10) ∷ []
