@@ -285,20 +285,19 @@ def ends_everywhere(rng):
 
 
 def largest_amounts(rng):
-    """250 records of one member, all to one side: as near to refusal 7 as an hour can come."""
-    side = rng.choice([1, -1])
-    # the largest deviation of each sign; a load's and an export's enter the amount turned round
-    if side == 1:
-        generator = dict(S=100_000, J=100_000, N=100_000, F=20_000, H=20_000)
+    """250 records of one member and ties all to one side: as near to refusal 7 as was thought of."""
+    if rng.random() < 0.5:
+        ties = [0, MOST_TIE, 0]
         load = dict(A=100_000, J=-100_000, N=100_000)
+        rest = record(GENERATOR, 0, 0, S=100_000, J=100_000, N=100_000, F=20_000, H=20_000)
     else:
-        generator = dict(A=100_000, J=-100_000, M=100_000, F=1, H=20_000)
-        load = dict(S=100_000, J=100_000, A=1)
+        ties = [0, 0, MOST_TIE]
+        load = dict(S=100_000, A=1, J=100_000)
+        rest = record(IMPORT, 0, 0, A=100_000, J=-100_000, F=1, H=20_000)
     areas = rng.choice([1, 8])
-    records = [record(GENERATOR, 0, i % areas, **generator) if i >= areas else
-               record(REAL_TIME_LOAD, 0, i % areas, **load) for i in range(MOST_RECORDS)]
-    ties = [0, MOST_TIE, 0] if side == 1 else [0, 0, MOST_TIE]
-    return Hour(1, 1, [MOST_PRICE * rng.choice([1, -1])], [list(ties) for _ in range(areas)], records)
+    records = [record(REAL_TIME_LOAD, 0, area, **load) for area in range(areas)]
+    records += [{**rest, "area": place % areas} for place in range(MOST_RECORDS - areas)]
+    return Hour(1, 1, [rng.choice([MOST_PRICE, -MOST_PRICE])], [list(ties) for _ in range(areas)], records)
 
 
 HONEST = (printed_case, few_records, ordinary, many_records, no_records, full_file, full_blocks,
@@ -318,13 +317,13 @@ def other(rng, present, values):
 
 
 def unwanted(rng):
-    """A word where a zero belongs."""
-    return rng.choice([1, rng.randint(1, 2**32 - 1), *BIG_WORDS])
+    """A word where a zero belongs: as often as not one that would do elsewhere."""
+    return 1 if rng.random() < 0.5 else rng.choice([rng.randint(1, 2**32 - 1), *BIG_WORDS])
 
 
 def beyond(rng, highest):
     """A word over the highest that is allowed: one more, or far more."""
-    return rng.choice([highest + 1, rng.randint(highest + 1, 2**31), *BIG_WORDS])
+    return highest + 1 if rng.random() < 0.6 else rng.choice([rng.randint(highest + 1, 2**31), *BIG_WORDS])
 
 
 # Faults of the hour's figures, before it is encoded.
@@ -356,50 +355,78 @@ def wrong_position(rng, hour, blocks):
     return 3, place
 
 
-def wrong_count(rng, hour, blocks):
-    place = rng.choice([0, len(blocks) - 1, rng.randrange(len(blocks))])
-    if place == 0:
-        wrong = [0, 1, len(blocks), 25, 26, *BIG_WORDS]
-    elif place < len(blocks) - 1:
-        wrong = [0, 1, 9, 11, *BIG_WORDS]
-    else:
-        wrong = [0, 11, *BIG_WORDS]
-    blocks[place][2] = other(rng, blocks[place][2], wrong)
+def wrong_count_of_blocks(rng, hour, blocks):
+    blocks[0][2] = other(rng, blocks[0][2], [0, len(blocks) - 2, len(blocks), 25, 26, *BIG_WORDS])
+    return 3, 0
+
+
+def wrong_count_before_the_last(rng, hour, blocks):
+    """A block that isn't the last, and holds other than ten."""
+    if len(blocks) < 3:
+        return None
+    place = rng.randint(1, len(blocks) - 2)
+    blocks[place][2] = rng.choice([0, 1, 9, 11, *BIG_WORDS])
     return 3, place
 
 
-def reserved_word(rng, hour, blocks):
-    place = rng.randrange(len(blocks))
-    blocks[place][rng.randint(3, 6)] = unwanted(rng)
-    return 3, place
+def wrong_count_in_the_last(rng, hour, blocks):
+    if len(blocks) == 1:
+        return None
+    blocks[-1][2] = 11 if rng.random() < 0.6 else rng.choice([0, 12, *BIG_WORDS])
+    return 3, len(blocks) - 1
+
+
+def reserved_word(word):
+    """A fault for each of words 3 to 6."""
+    def fault(rng, hour, blocks):
+        place = rng.randrange(len(blocks))
+        blocks[place][word] = unwanted(rng)
+        return 3, place
+    fault.__name__ = f"reserved_word_{word}"
+    return fault
 
 
 def word_past_records(rng, hour, blocks):
-    past = 8 + 12 * blocks[-1][2]
-    if len(blocks) == 1 or past == 128:
+    if len(hour.records) % 10 == 0:
         return None
+    past = 8 + 12 * (len(hour.records) % 10)
     blocks[-1][rng.choice([past, 127, rng.randint(past, 127)])] = unwanted(rng)
     return 3, len(blocks) - 1
 
 
-def wrong_number_of(rng, hour, blocks):
-    """Members, zones or areas that are none or too many."""
-    word, most = rng.choice([(9, 32), (10, 4), (11, 8)])
-    blocks[0][word] = rng.choice([0, beyond(rng, most)])
+def wrong_number(rng, blocks, word, most):
+    blocks[0][word] = rng.choice([0, beyond(rng, most), beyond(rng, most)])
     return 4, word
 
 
-def wrong_price(rng, hour, blocks):
+def wrong_members(rng, hour, blocks):
+    return wrong_number(rng, blocks, 9, 32)
+
+
+def wrong_zones(rng, hour, blocks):
+    return wrong_number(rng, blocks, 10, 4)
+
+
+def wrong_areas(rng, hour, blocks):
+    return wrong_number(rng, blocks, 11, 8)
+
+
+def price_too_high(rng, hour, blocks):
     word = 12 + rng.randrange(len(hour.prices))
-    price = rng.choice([MOST_PRICE + 1, -MOST_PRICE - 1, 2**31 - 1, -2**31])
-    blocks[0][word] = price % 2**32
+    blocks[0][word] = rng.choice([MOST_PRICE + 1, MOST_PRICE + 1, 2**31 - 1])
+    return 4, word
+
+
+def price_too_low(rng, hour, blocks):
+    word = 12 + rng.randrange(len(hour.prices))
+    blocks[0][word] = rng.choice([-MOST_PRICE - 1, -MOST_PRICE - 1, -2**31]) % 2**32
     return 4, word
 
 
 def price_past_zones(rng, hour, blocks):
     if len(hour.prices) == 4:
         return None
-    word = rng.randint(12 + len(hour.prices), 15)
+    word = rng.choice([12 + len(hour.prices), rng.randint(12 + len(hour.prices), 15)])
     blocks[0][word] = unwanted(rng)
     return 4, word
 
@@ -410,8 +437,14 @@ def wrong_zone(rng, hour, blocks):
     return 4, word
 
 
-def wrong_tie(rng, hour, blocks):
-    word = 16 + 4 * rng.randrange(len(hour.areas)) + rng.choice([1, 2])
+def wrong_tie_in(rng, hour, blocks):
+    word = 17 + 4 * rng.randrange(len(hour.areas))
+    blocks[0][word] = beyond(rng, MOST_TIE)
+    return 4, word
+
+
+def wrong_tie_out(rng, hour, blocks):
+    word = 18 + 4 * rng.randrange(len(hour.areas))
     blocks[0][word] = beyond(rng, MOST_TIE)
     return 4, word
 
@@ -425,15 +458,21 @@ def fourth_word_of_an_area(rng, hour, blocks):
 def area_past_areas(rng, hour, blocks):
     if len(hour.areas) == 8:
         return None
-    word = rng.randint(16 + 4 * len(hour.areas), 47)
+    past = 16 + 4 * len(hour.areas)
+    word = rng.choice([past + 1, past + 2, rng.randint(past, 47)])
     blocks[0][word] = unwanted(rng)
     return 4, word
 
 
 def word_past_areas(rng, hour, blocks):
-    word = rng.choice([48, 127, rng.randint(48, 127)])
+    word = rng.choice([48, rng.randint(48, 127)])
     blocks[0][word] = unwanted(rng)
     return 4, word
+
+
+def last_word_of_the_head(rng, hour, blocks):
+    blocks[0][127] = unwanted(rng)
+    return 4, 127
 
 
 def spoil_record(rng, hour, blocks, choose):
@@ -462,18 +501,32 @@ def wrong_area(rng, hour, blocks):
     return spoil_record(rng, hour, blocks, lambda each: (2, beyond(rng, len(hour.areas) - 1)))
 
 
-def field_out_of_range(rng, hour, blocks):
+def field_too_high(letter):
+    """A fault for each letter, so that each end is tried in every round."""
+    def fault(rng, hour, blocks):
+        def choose(each):
+            over = rng.choice([HIGHEST[letter] + 1, HIGHEST[letter] + 1, rng.randint(HIGHEST[letter] + 1, 2**31 - 1)])
+            return (3 + LETTERS.index(letter), over) if letter in USED[each["kind"]] else None
+        return spoil_record(rng, hour, blocks, choose)
+    fault.__name__ = f"{letter}_too_high"
+    return fault
+
+
+def adjustment_too_low(rng, hour, blocks):
+    return spoil_record(rng, hour, blocks, lambda each: (5, rng.choice([LOWEST["J"] - 1, LOWEST["J"] - 1, -2**31])))
+
+
+def field_below_zero(rng, hour, blocks):
+    """A minus sign where the file has none: as a word it is far too high."""
     def choose(each):
-        letter = rng.choice(USED[each["kind"]])
-        below = [LOWEST[letter] - 1] if letter in "JFH" else []
-        over = rng.choice([HIGHEST[letter] + 1, rng.randint(HIGHEST[letter] + 1, 2**31 - 1)])
-        return 3 + LETTERS.index(letter), rng.choice([over, *below, -2**31])
+        letter = rng.choice([letter for letter in USED[each["kind"]] if letter != "J"])
+        return 3 + LETTERS.index(letter), -rng.choice([1, rng.randint(1, 2**31)])
     return spoil_record(rng, hour, blocks, choose)
 
 
 def no_multiplier(rng, hour, blocks):
     def choose(each):
-        return (rng.choice([9, 10]), 0) if each["kind"] in (GENERATOR, IMPORT) else None
+        return (rng.choice([9, 10]), 0) if "F" in USED[each["kind"]] else None
     return spoil_record(rng, hour, blocks, choose)
 
 
@@ -514,6 +567,15 @@ def block_too_many(rng, hour, blocks):
     return 3, 0
 
 
+def last_block_without_records(rng, hour, blocks):
+    """A block that is right in all but that it holds none, after blocks that are full."""
+    if len(hour.records) % 10 != 0 or len(blocks) == 26:
+        return None
+    blocks.append(padded([2, len(blocks)], 128))
+    blocks[0][2] += 1
+    return 3, len(blocks) - 1
+
+
 def block_too_few(rng, hour, blocks):
     if len(blocks) == 1:
         return None
@@ -531,18 +593,29 @@ def blocks_swapped(rng, hour, blocks):
 
 # Faults of the sums, after mending.
 
-def wrong_sum(rng, blocks):
+def add_to_a_word(rng, blocks, step):
     place = rng.randrange(len(blocks))
     word = rng.choice([7, rng.randrange(128)])
-    step = rng.choice([1, 2**31, 2**32 - 1, rng.randint(1, 2**32 - 1)])
     blocks[place][word] = (blocks[place][word] + step) % 2**32
     return 2, place
 
 
+def wrong_sum(rng, blocks):
+    return add_to_a_word(rng, blocks, rng.choice([1, 2**32 - 1, rng.randint(1, 2**32 - 1)]))
+
+
+def wrong_sum_by_its_highest_bit(rng, blocks):
+    return add_to_a_word(rng, blocks, 2**31)
+
+
 # Faults of the length: each is refusal 1 at 0.
 
+def nothing_at_all(rng, data):
+    return b""
+
+
 def cut(rng, data):
-    return data[:rng.choice([0, 1, len(data) - 1, len(data) - rng.randint(1, 511)])]
+    return data[:rng.choice([1, len(data) - 1, len(data) - rng.randint(1, 511)])]
 
 
 def bytes_too_many(rng, data):
@@ -555,14 +628,17 @@ def file_too_long(rng, data):
 
 
 HOUR_FAULTS = (no_demand,)
-WORD_FAULTS = (wrong_mark, wrong_position, wrong_count, reserved_word, word_past_records,
-               wrong_number_of, wrong_price, price_past_zones, wrong_zone, wrong_tie,
-               fourth_word_of_an_area, area_past_areas, word_past_areas,
-               wrong_kind, wrong_member, wrong_area, field_out_of_range, no_multiplier, unused_field,
-               last_word_of_a_record)
-SUM_FAULTS = (wrong_sum,)
-LENGTH_FAULTS = (cut, bytes_too_many, file_too_long)
-LONE_FAULTS = (one_record_more, one_record_fewer, block_too_many, block_too_few, blocks_swapped)
+WORD_FAULTS = (wrong_mark, wrong_position, wrong_count_of_blocks, wrong_count_before_the_last,
+               wrong_count_in_the_last, *map(reserved_word, (3, 4, 5, 6)), word_past_records,
+               wrong_members, wrong_zones, wrong_areas, price_too_high, price_too_low, price_past_zones,
+               wrong_zone, wrong_tie_in, wrong_tie_out, fourth_word_of_an_area, area_past_areas, word_past_areas,
+               last_word_of_the_head,
+               wrong_kind, wrong_member, wrong_area, *map(field_too_high, LETTERS), adjustment_too_low,
+               field_below_zero, no_multiplier, unused_field, last_word_of_a_record)
+SUM_FAULTS = (wrong_sum, wrong_sum_by_its_highest_bit)
+LENGTH_FAULTS = (nothing_at_all, cut, bytes_too_many, file_too_long)
+LONE_FAULTS = (one_record_more, one_record_fewer, block_too_many, last_block_without_records, block_too_few,
+               blocks_swapped)
 FAULTS = HOUR_FAULTS + WORD_FAULTS + SUM_FAULTS + LENGTH_FAULTS
 
 
@@ -647,8 +723,8 @@ def alone(fault):
 
 
 ROUND = ([honest(maker) for maker in HONEST] * 2 + [unforeseen(ends_as_they_fall)] * 2
-         + [alone(fault) for fault in FAULTS + LONE_FAULTS] + [two_faults] * 10
-         + [scattered] * 4 + [words_swapped, junk])
+         + [alone(fault) for fault in FAULTS + LONE_FAULTS] + [two_faults] * 8
+         + [scattered] * 3 + [words_swapped, junk])
 
 
 def made(seed, index):
