@@ -12,6 +12,7 @@ under 4 x 10^18. Refusal 11 comes from the buffers' lengths, not from the hour: 
 Refusals 8 to 10 belong to text amounts.
 """
 
+import itertools
 import random
 import struct
 from collections import namedtuple
@@ -323,7 +324,7 @@ def unwanted(rng):
 
 def beyond(rng, highest):
     """A word over the highest that is allowed: one more, or far more."""
-    return highest + 1 if rng.random() < 0.6 else rng.choice([rng.randint(highest + 1, 2**31), *BIG_WORDS])
+    return highest + 1 if rng.random() < 0.7 else rng.choice([rng.randint(highest + 1, 2**31), *BIG_WORDS])
 
 
 # Faults of the hour's figures, before it is encoded.
@@ -394,21 +395,23 @@ def word_past_records(rng, hour, blocks):
     return 3, len(blocks) - 1
 
 
-def wrong_number(rng, blocks, word, most):
-    blocks[0][word] = rng.choice([0, beyond(rng, most), beyond(rng, most)])
-    return 4, word
+COUNTS = (("members", 9, 32), ("zones", 10, 4), ("areas", 11, 8))
 
 
-def wrong_members(rng, hour, blocks):
-    return wrong_number(rng, blocks, 9, 32)
+def none_of(what, word, most):
+    def fault(rng, hour, blocks):
+        blocks[0][word] = 0
+        return 4, word
+    fault.__name__ = f"no_{what}"
+    return fault
 
 
-def wrong_zones(rng, hour, blocks):
-    return wrong_number(rng, blocks, 10, 4)
-
-
-def wrong_areas(rng, hour, blocks):
-    return wrong_number(rng, blocks, 11, 8)
+def too_many(what, word, most):
+    def fault(rng, hour, blocks):
+        blocks[0][word] = beyond(rng, most)
+        return 4, word
+    fault.__name__ = f"too_many_{what}"
+    return fault
 
 
 def price_too_high(rng, hour, blocks):
@@ -628,18 +631,23 @@ def file_too_long(rng, data):
 
 
 HOUR_FAULTS = (no_demand,)
-WORD_FAULTS = (wrong_mark, wrong_position, wrong_count_of_blocks, wrong_count_before_the_last,
-               wrong_count_in_the_last, *map(reserved_word, (3, 4, 5, 6)), word_past_records,
-               wrong_members, wrong_zones, wrong_areas, price_too_high, price_too_low, price_past_zones,
-               wrong_zone, wrong_tie_in, wrong_tie_out, fourth_word_of_an_area, area_past_areas, word_past_areas,
-               last_word_of_the_head,
-               wrong_kind, wrong_member, wrong_area, *map(field_too_high, LETTERS), adjustment_too_low,
-               field_below_zero, no_multiplier, unused_field, last_word_of_a_record)
+LAYOUT_FAULTS = (wrong_mark, wrong_position, wrong_count_of_blocks, wrong_count_before_the_last,
+                 wrong_count_in_the_last, *map(reserved_word, (3, 4, 5, 6)), word_past_records)
+HEAD_FAULTS = (*itertools.starmap(none_of, COUNTS), *itertools.starmap(too_many, COUNTS), price_too_high,
+               price_too_low, price_past_zones, wrong_zone, wrong_tie_in, wrong_tie_out, fourth_word_of_an_area,
+               area_past_areas, word_past_areas, last_word_of_the_head)
+RECORD_FAULTS = (wrong_kind, wrong_member, wrong_area, *map(field_too_high, LETTERS), adjustment_too_low,
+                 field_below_zero, no_multiplier, unused_field, last_word_of_a_record)
+WORD_FAULTS = LAYOUT_FAULTS + HEAD_FAULTS + RECORD_FAULTS
 SUM_FAULTS = (wrong_sum, wrong_sum_by_its_highest_bit)
 LENGTH_FAULTS = (nothing_at_all, cut, bytes_too_many, file_too_long)
 LONE_FAULTS = (one_record_more, one_record_fewer, block_too_many, last_block_without_records, block_too_few,
                blocks_swapped)
 FAULTS = HOUR_FAULTS + WORD_FAULTS + SUM_FAULTS + LENGTH_FAULTS
+
+# Two faults of a sum, or two of the length, can undo each other.
+PAIRS = [pair for pair in itertools.combinations(FAULTS, 2)
+         if not any(set(pair) <= set(stage) for stage in (SUM_FAULTS, LENGTH_FAULTS))]
 
 
 def spoil(rng, hour, faults):
@@ -671,7 +679,7 @@ def damaged(rng, faults):
 
 
 def two_faults(rng):
-    return damaged(rng, rng.sample(FAULTS, 2))
+    return damaged(rng, rng.choice(PAIRS))
 
 
 def scattered(rng):

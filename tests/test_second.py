@@ -40,6 +40,7 @@ def load_script(path):
 
 
 compare = load_script(HERE / "compare")
+SECOND = (HERE / "second.py").read_text()
 
 
 def answer(hour, lengths=second.USUAL_LENGTHS):
@@ -151,8 +152,7 @@ class Refusals(unittest.TestCase):
                 self.assertEqual(answer(made.data), made.expected, (made.name, turn))
 
     def test_of_two_faults_the_table_decides(self):
-        pairs = [(one, two) for one in hours.FAULTS for two in hours.FAULTS if one is not two]
-        for one, two in pairs:
+        for one, two in hours.PAIRS:
             made = hours.damaged(random.Random(f"{one.__name__} {two.__name__}"), (one, two))
             self.assertEqual(answer(made.data), made.expected, made.name)
 
@@ -387,58 +387,61 @@ class MadeHours(unittest.TestCase):
         self.assertGreater(areas, 10)
 
 
-# Wrong programs: each is the second program with one text changed. The first five are document 01's
-# "Slips to catch"; the hours must show every one of them.
+# Wrong programs: each is the second program with one text changed. Document 01's "Slips to catch" come
+# first; the hours must show every one.
 SLIPS = {
-    "ancillary energy times H": ('multiplier(r["H"]) - r["N"]', 'multiplier(r["H"]) - r["N"] * multiplier(r["H"])'),
-    "adjustment outside the multiplier": ('delivered = (r["A"] - r["J"]) * multiplier(r["H"])',
-                                          'delivered = r["A"] * multiplier(r["H"]) - r["J"]'),
+    "ancillary energy times H": (
+        'multiplier(r["H"]) - r["N"]', 'multiplier(r["H"]) - r["N"] * multiplier(r["H"])'),
+    "adjustment outside the multiplier": (
+        'delivered = (r["A"] - r["J"]) * multiplier(r["H"])', 'delivered = r["A"] * multiplier(r["H"]) - r["J"]'),
     "loads added": ("REAL_TIME_LOAD: -1, PROFILE_LOAD: -1", "REAL_TIME_LOAD: 1, PROFILE_LOAD: 1"),
     "exports added": ("EXPORT: -1}", "EXPORT: 1}"),
     "leftover units to the last load": ("by_remainder[:left]", "[len(sizes) - 1] * left"),
-    "negative grains towards minus infinity": ("size = int(Fraction(abs(grains), GRAINS_IN_A_CENT) + Fraction(1, 2))",
-                                               "return (2 * grains + GRAINS_IN_A_CENT) // (2 * GRAINS_IN_A_CENT)"),
+    "negative grains towards minus infinity": (
+        "size = int(Fraction(abs(grains), GRAINS_IN_A_CENT) + Fraction(1, 2))",
+        "return (2 * grains + GRAINS_IN_A_CENT) // (2 * GRAINS_IN_A_CENT)"),
     "min for the load's unavailable energy": ('unavailable = max(0, (r["O"]', 'unavailable = min(0, (r["O"]'),
-    "later of equal remainders": ("key=remainders.__getitem__, reverse=True", "key=lambda i: (remainders[i], i), reverse=True"),
+    "later of equal remainders": (
+        "key=remainders.__getitem__, reverse=True", "key=lambda i: (remainders[i], i), reverse=True"),
     "smallest remainders": ("key=remainders.__getitem__, reverse=True", "key=remainders.__getitem__"),
-    "losses of imports left out": ("for r in records_of(hour, area, GENERATOR, IMPORT)", "for r in records_of(hour, area, GENERATOR)"),
-    "profile loads left out of the demand": ("LOADS = (REAL_TIME_LOAD, PROFILE_LOAD)", "LOADS = (REAL_TIME_LOAD,)"),
+    "losses of imports left out": ("records_of(hour, area, GENERATOR, IMPORT)", "records_of(hour, area, GENERATOR)"),
+    "imports counted as generation": (
+        "records_of(hour, area, GENERATOR))", "records_of(hour, area, GENERATOR) + records_of(hour, area, IMPORT))"),
+    "profile loads left out": ("LOADS = (REAL_TIME_LOAD, PROFILE_LOAD)", "LOADS = (REAL_TIME_LOAD,)"),
     "import's ancillary energy subtracted": ('multiplier(r["H"]) + r["N"]', 'multiplier(r["H"]) - r["N"]'),
     "export's adjustment added": ('r["S"] - r["A"] - r["J"]', 'r["S"] - r["A"] + r["J"]'),
-    "price of the area's own number": ('hour["prices"][hour["areas"][area]["zone"]]', 'hour["prices"][area % len(hour["prices"])]'),
+    "price of another zone": ('["areas"][area]["zone"]]', '["areas"][area]["zone"] - 1]'),
     "share of a negative UFE positive": ("[-size if ufe < 0 else size for size in sizes]", "sizes"),
-    "layout before sums": ("    check_sums(blocks)\n    check_layout(blocks)", "    check_layout(blocks)\n    check_sums(blocks)"),
-    "sums as plain numbers": ("sum(block) % 2**32 != 0", "sum(block) != 2**32 * (sum(block) // 2**32 > 0) and sum(block) != 0"),
-    "buffers before the sums": ("        figures = work_out(hour)\n        members, records", "        members, records"),
-    "the first area's tie ignored": ('ties["in"] - ties["out"]', 'ties["in"]'),
+    "tie out left out": ('ties["in"] - ties["out"]', 'ties["in"]'),
+    "layout before sums": (
+        "    check_sums(blocks)\n    check_layout(blocks)", "    check_layout(blocks)\n    check_sums(blocks)"),
+    "sums without their highest bit": ("sum(block) % 2**32", "sum(block) % 2**31"),
     "no refusal 6": ("energy != 0 and demand(hour, area) == 0", "False"),
-    "lines short by one accepted": ("min(len(charges), len(lines)) < members", "min(len(charges), len(lines) + 1) < members"),
-    "shares short by one accepted": ("min(len(shares), len(deviations)) < records", "min(len(shares) + 1, len(deviations)) < records"),
+    "lines short by one": ("min(len(charges), len(lines)) <", "min(len(charges), len(lines) + 1) <"),
+    "shares short by one": ("min(len(shares), len(deviations)) <", "min(len(shares) + 1, len(deviations)) <"),
     "record count of the next member": ('r["member"] == member for r', 'r["member"] == member + 1 for r'),
-    "an invented record count": ('hour["members"], len(hour["records"]))\n    for', 'hour["members"], 10 * len(hour["records"]) // 10 + (len(hour["records"]) > 240))\n    for'),
+    "an invented record count": ('hour["members"], len(hour["records"]))\n    for', 'hour["members"], 2)\n    for'),
 }
 
 # Every end of every range one too wide, and one too narrow.
-for constant, low, high in (("PRICE", -1_000_000, 1_000_000), ("TIE", 0, 10_000_000), ("ENERGY", 0, 100_000),
-                            ("ADJUSTMENT", -100_000, 100_000), ("MULTIPLIER", 1, 20_000)):
-    present = next(line for line in (HERE / "second.py").read_text().splitlines() if line.startswith(f"{constant} = "))
-    for from_low, from_high in ((-1, 0), (1, 0), (0, 1), (0, -1)):
-        if low + from_low >= 0 or low < 0:
-            SLIPS[f"{constant} {from_low:+} {from_high:+}"] = (
-                present + "\n", f"{constant} = range({low + from_low}, {high + from_high + 1})\n")
-for what, most in (("members", 32), ("zones", 4), ("areas", 8)):
-    for ends in ((0, most), (2, most), (1, most + 1), (1, most - 1)):
-        SLIPS[f"{what} {ends}"] = (f"range(1, {most + 1})", f"range({ends[0]}, {ends[1] + 1})")
+ENDS = {"PRICE": (-1_000_000, 1_000_000), "TIE": (0, 10_000_000), "ENERGY": (0, 100_000),
+        "ADJUSTMENT": (-100_000, 100_000), "MULTIPLIER": (1, 20_000)}
+STEPS = ((-1, 0), (1, 0), (0, 1), (0, -1))
+for name, (low, high) in ENDS.items():
+    line = next(line for line in SECOND.splitlines() if line.startswith(f"{name} = "))
+    for down, up in STEPS:
+        if low != 0 or down >= 0:  # no word is below 0
+            SLIPS[f"{name} {down:+} {up:+}"] = (line + "\n", f"{name} = range({low + down}, {high + up + 1})\n")
+for most in (32, 4, 8):
+    for down, up in STEPS:
+        SLIPS[f"1 to {most} {down:+} {up:+}"] = (f"range(1, {most + 1})", f"range({1 + down}, {most + up + 1})")
 
 
 def slipped(name):
     """The second program's text with one slip in it."""
     old, new = SLIPS[name]
-    text = (HERE / "second.py").read_text()
-    assert text.count(old) == 1, name
-    if name == "buffers before the sums":
-        text = text.replace("            raise Refused(11)\n", "            raise Refused(11)\n        figures = work_out(hour)\n")
-    return text.replace(old, new)
+    assert SECOND.count(old) == 1, name
+    return SECOND.replace(old, new)
 
 
 class Noticing(unittest.TestCase):
@@ -464,29 +467,27 @@ class Noticing(unittest.TestCase):
             yield Path(folder)
 
     def test_right_programs(self):
-        text = (HERE / "second.py").read_text()
-        with self.stand_ins(text, text) as folder:
-            status, said = self.run_compare("--hours", 30, "--seed", 2, "--programs", folder, "--save", folder / "saved")
+        with self.stand_ins(SECOND, SECOND) as folder:
+            status, said = self.run_compare("--hours", 30, "--programs", folder, "--save", folder / "saved")
             self.assertEqual((status, (folder / "saved").exists()), (0, False), said)
             self.assertIn("every byte agreed", said)
             self.assertNotIn("passed", said)
 
     def test_a_wrong_program(self):
-        text, wrong = (HERE / "second.py").read_text(), slipped("loads added")
-        for programs in ((wrong, text), (text, wrong)):
+        wrong = slipped("loads added")
+        for programs in ((wrong, SECOND), (SECOND, wrong)):
             with self.stand_ins(*programs) as folder:
-                status, said = self.run_compare("--hours", 30, "--seed", 2, "--programs", folder, "--save", folder / "saved")
+                status, said = self.run_compare("--hours", 30, "--programs", folder, "--save", folder / "saved")
                 self.assertEqual(status, 1, said)
                 self.assertIn("---- second program wrote:", said)
                 saved = sorted((folder / "saved").iterdir())
                 self.assertTrue(saved)
                 data = saved[0].read_bytes()
-                self.assertEqual(data, hours.made(2, int(saved[0].stem.split("-")[-1])).data)
+                self.assertEqual(data, hours.made(1, int(saved[0].stem.split("-")[-1])).data)
 
     def test_a_program_that_ends_badly(self):
-        text = (HERE / "second.py").read_text()
         for ending in ("\n    sys.exit(3)\n", "\n    print('oh', file=sys.stderr)\n"):
-            with self.stand_ins(text + ending, text) as folder:
+            with self.stand_ins(SECOND + ending, SECOND) as folder:
                 status, said = self.run_compare("--hours", 2, "--programs", folder, "--save", folder / "saved")
                 self.assertEqual(status, 1, said)
 
@@ -494,15 +495,12 @@ class Noticing(unittest.TestCase):
         with tempfile.TemporaryDirectory() as folder:
             self.assertEqual(self.run_compare("--programs", folder)[0], 2)
 
-    def without_starting(self, command, data):
-        """What a right program writes, for tests of many hours."""
-        at = [Path(word).name for word in command].index(self.program(command))
-        return (second.statement(data) if self.program(command) == "statement"
-                else second.buffers(data, [int(word) for word in command[at + 1:]]))
-
     @staticmethod
-    def program(command):
-        return next(name for name in (Path(word).name for word in command) if name in ("statement", "buffers"))
+    def without_starting(command, data):
+        """What a right program writes, for tests of many hours."""
+        program, *lengths = command
+        return (second.statement(data) if program.name == "statement"
+                else second.buffers(data, [int(length) for length in lengths]))
 
     def test_every_refusal_that_can_occur_is_seen_in_500_hours(self):
         with self.stand_ins("", "") as folder, mock.patch.object(compare, "run", self.without_starting):
