@@ -10,7 +10,6 @@ import contextlib
 import importlib.machinery
 import importlib.util
 import io
-import os
 import random
 import re
 import shutil
@@ -541,6 +540,64 @@ class Noticing(unittest.TestCase):
             program.write_text("#!/bin/sh\n")
             with mock.patch("platform.machine", return_value="aarch64"):
                 self.assertEqual(compare.words_before(program), [])
+
+
+class Pages(unittest.TestCase):
+    """The examples and docs/FORMAT.md say what the programs do."""
+
+    @staticmethod
+    def printed(number):
+        """A number as the pages write it."""
+        return f"{number:,}".replace("-", "\u2212")
+
+    def test_examples(self):
+        make = load_script(ROOT / "examples" / "make.py")
+        for name, hour in make.EXAMPLES.items():
+            data = (ROOT / "examples" / f"{name}.hour").read_bytes()
+            page = (ROOT / "examples" / f"{name}.md").read_text()
+            self.assertEqual(data, hour().encode(), "python3 examples/make.py writes the hours")
+            self.assertTrue(page.endswith(f"```\n{second.statement(data).decode()}```\n"), name)
+            settled = second.settle(data, (5, 5, 8, 8))
+            amounts = [amount for amount, _ in settled.lines]
+            for figure in settled.ufe + settled.deviations + settled.shares + amounts + settled.charges:
+                if figure != second.UNTOUCHED:
+                    self.assertIn(self.printed(figure), page, name)
+
+    def test_the_refusal_that_an_example_tells_of(self):
+        hour = load_script(ROOT / "examples" / "make.py").two_zones()
+        hour.areas[2] = [1, 700, 699]
+        self.assertEqual(answer(hour), (6, 2))
+
+    def test_change_a_byte(self):
+        """Each row of the table in examples/printed.md, done to a copy in turn."""
+        page = (ROOT / "examples" / "printed.md").read_text()
+        data = bytearray((ROOT / "examples" / "printed.hour").read_bytes())
+        rows = re.findall(r"\| `printf '\\(\d+)' \\\| dd of=my.hour bs=1 seek=(\d+) .*\| `([^`]*)`", page)
+        self.assertEqual(len(rows), 4)
+        for byte, place, statement in rows:
+            data[int(place)] = int(byte, 8)
+            self.assertEqual(second.statement(bytes(data)).decode().splitlines()[0], statement)
+
+    def test_the_hex_dump(self):
+        page = (ROOT / "docs" / "FORMAT.md").read_text()
+        data = bytearray(int(re.findall(r"^([0-9a-f]{8})$", page, re.M)[0], 16))
+        for place, line in re.findall(r"^([0-9a-f]{8})  (.+)$", page, re.M):
+            at = int(place, 16)
+            data[at:at + 16] = bytes.fromhex(line)
+        self.assertEqual(bytes(data), (ROOT / "examples" / "printed.hour").read_bytes())
+
+    def test_text_amounts_of_the_format(self):
+        page = (ROOT / "docs" / "FORMAT.md").read_text().replace("\u2212", "-")
+        written = re.findall(r"^\| (-?\d+) \| (\d+) \| (?:`(.*?)` )?\| (?:refused (\d+))?", page, re.M)
+        self.assertEqual(len(written), 7)
+        for cents, width, field, refused in written:
+            due = (int(refused), None) if refused else (0, field.encode())
+            self.assertEqual(second.write_amount(int(cents), int(width)), due)
+        read = re.findall(r"^\| `(.*?)` \| (refused 10|-?\d+) \| ", page, re.M)
+        self.assertEqual(len(read), 15)
+        for field, cents in read:
+            due = (10, 0) if cents == "refused 10" else (0, int(cents))
+            self.assertEqual(second.read_amount(field.encode()), due, field)
 
 
 if __name__ == "__main__":
