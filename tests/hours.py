@@ -736,6 +736,6 @@ ROUND = ([honest(maker) for maker in HONEST] * 2 + [unforeseen(ends_as_they_fall
 
 
 def made(seed, index):
-    """The index-th hour of a seed's list, the same on every machine."""
+    """The index-th hour of a seed's list; seed and index alone decide it."""
     rng = random.Random(f"{seed} {index}")
     return ROUND[index % len(ROUND)](rng)

@@ -390,7 +390,7 @@ def buffers(data, lengths=()):
     return "".join(" ".join(map(str, row)) + "\n" for row in rows).encode()
 
 
-# ---- The unrounded amounts of demand 3 (00, demand 3; document 003, D 2.1 and D 2.2)
+# ---- The unrounded amounts that demand 3 speaks of (document 003, D 2.1 and D 2.2)
 
 def tariff_amounts(hour, ufe):
     """Each member's IEC, zone by zone as D 2.1 writes it, with the exact fractions of the UFE in place
@@ -426,13 +426,13 @@ def pool_total(hour, ufe):
     return total
 
 
-def main(words):
-    if not words or words[0] not in ("statement", "buffers") or len(words) > (1 if words[0] == "statement" else 5):
+def main(name="", *lengths):
+    if len(lengths) > {"statement": 0, "buffers": 4}.get(name, -1):
         sys.exit(__doc__)
     data = sys.stdin.buffer.read()
-    text = statement(data) if words[0] == "statement" else buffers(data, [int(word) for word in words[1:]])
+    text = statement(data) if name == "statement" else buffers(data, [int(length) for length in lengths])
     sys.stdout.buffer.write(text)
 
 
 if __name__ == "__main__":
-    main(sys.argv[1:])
+    main(*sys.argv[1:])
