@@ -12,14 +12,13 @@ use reading::Number;
 use reading::Sign;
 use rules::Answer;
 use rules::Reading;
-pub use writing::size;
 
 // Writes an amount of cents into the whole field, whose length is the width.
 pub fn write(cents: i64, field: &mut [u8]) -> Answer
     ensures verdict { λ r. ⌜ verdictOf r ≡ Settling.write (now (field .entry)) cents .verdict ⌝ }
     ensures field { λ r. ⌜ now (field .exit) ≡ Settling.write (now (field .entry)) cents .field ⌝ }
 {
-    if 999999999999 < writing::size(cents) {
+    if 999999999999 < sign::size_of(cents) {
         return Answer::OutOfRange;
     }
     let length = writing::text_length(cents);

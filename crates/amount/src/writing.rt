@@ -1,23 +1,12 @@
-// The parts of `write`: an amount's size, its sign, how long its text is, and the text in its place at the field's right end.
+// The parts of `write`: an amount's sign, how long its text is, and the text in its place at the field's right end.
 ghost use mathlib.Core.List.{[], _∷_, _++_};
 ghost use mathlib.Core.Path.{_≡_};
 ghost use Prim.Native.Nat.{_+_, _-_, _/_, _%_, _≤_};
-ghost use lib.IntN.{natAbs};
 ghost use lib.ListN.{drop, length, replicate};
 ghost use lib.Seq.{sets};
 ghost use Rattle.rules.specs.Text.{amountField, amountText, decimal, digitByte, signByte};
 
-// The least i64 has a size too: one more than that of the next.
-pub fn size(cents: i64) -> u64
-    ensures { λ r. ⌜ r ≡ natAbs cents ⌝ }
-{
-    if cents < 0 {
-        return (-1 - cents) as u64 + 1;
-    }
-    cents as u64
-}
-
-fn sign(cents: i64) -> u8
+fn sign_byte(cents: i64) -> u8
     ensures { λ r. ⌜ r ≡ signByte cents ⌝ }
 {
     if cents < 0 { b'-' } else { b'+' }
@@ -45,7 +34,7 @@ fn digits(left: u64) -> usize
 pub fn text_length(cents: i64) -> usize
     ensures { λ r. ⌜ r ≡ length (amountText cents) ⌝ }
 {
-    4 + digits(size(cents) / 100)
+    4 + digits(sign::size_of(cents) / 100)
 }
 
 // Blanks before `end`.
@@ -89,10 +78,10 @@ pub fn put(field: &mut [u8], start: usize, cents: i64)
     requires { ⌜ start + length (amountText cents) ≡ length (now field) ⌝ }
     ensures { λ r. ⌜ now (field .exit) ≡ amountField (length (now (field .entry))) cents ⌝ }
 {
-    let size = size(cents);
+    let size = sign::size_of(cents);
     let point = field.len() - 3;
     put_blanks(field, start);
-    field[start] = sign(cents);
+    field[start] = sign_byte(cents);
     put_dollars(field, point, size / 100);
     put_cents(field, point, size);
 }

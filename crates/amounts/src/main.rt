@@ -1,44 +1,22 @@
 // Shows what `write` and `read` answer, a line a case: amounts written into fields of several widths, then each line of the first 4,096
 // bytes of standard input, read as a field. A refused field shows the bytes that it held before.
-ghost use mathlib.Core.Path.{_≡_};
 ghost use Prim.Native.Nat.{_≤_};
 ghost use lib.ListN.{length};
-ghost use Rattle.rules.specs.Refusals.{numberOf};
 use libc::STDIN_FILENO;
 use libc::STDOUT_FILENO;
 use rules::Answer;
-
-// The number of an answer in the table of refusals.
-fn number(answer: Answer) -> u64
-    ensures { λ r. ⌜ r ≡ numberOf answer ⌝ }
-{
-    match answer {
-        Answer::Accepted => 0,
-        Answer::BadLength => 1,
-        Answer::BadSum(_) => 2,
-        Answer::BadBlock(_) => 3,
-        Answer::BadHead(_) => 4,
-        Answer::BadRecord(_) => 5,
-        Answer::BadArea(_) => 6,
-        Answer::BadAmount(_) => 7,
-        Answer::OutOfRange => 8,
-        Answer::TooNarrow => 9,
-        Answer::NotAnAmount => 10,
-        Answer::TooShort => 11,
-    }
-}
 
 fn print_cents(cents: i64) {
     if cents < 0 {
         io::write_all(STDOUT_FILENO, b"-");
     }
-    io::print_decimal(STDOUT_FILENO, amount::size(cents));
+    io::print_decimal(STDOUT_FILENO, sign::size_of(cents));
 }
 
 // Writing and reading refuse at place 0 alone.
 fn print_refusal(answer: Answer) {
     io::write_all(STDOUT_FILENO, b"refused ");
-    io::print_decimal(STDOUT_FILENO, number(answer));
+    io::print_decimal(STDOUT_FILENO, answer::number_of(answer));
     io::write_all(STDOUT_FILENO, b" at 0\n");
 }
 

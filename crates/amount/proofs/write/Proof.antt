@@ -11,14 +11,14 @@ use Rattle.amount.proofs.write.Statement.{statement}
 use Rattle.amount.proofs.write.Tie as tie
 
 -- the size and the length that the code computes
-sized : (c : tie.After-size) → c .size .result ≡ natAbs (c .before .before .args .cents)
-sized c = c .size .ensures ∙ ap natAbs (read-back (c .before .before .fits .cents))
+sized : (c : tie.After-size-of) → c .size-of .result ≡ natAbs (c .before .before .args .cents)
+sized c = c .size-of .ensures ∙ ap natAbs (read-back (c .before .before .fits .cents))
 
 measured : (c : tie.After-text-length) → c .text-length .result ≡ length (amountText (c .before .before .before .before .args .cents))
 measured c = c .text-length .ensures ∙ ap (λ z. length (amountText z)) (read-back (c .before .before .before .before .fits .cents))
 
-size-requires : tie.Need-size-requires
-size-requires c κs = search needs
+size-of-requires : tie.Need-size-of-requires
+size-of-requires c κs = search needs
 
 returns : tie.Need-returns
 returns c =
@@ -53,7 +53,7 @@ pub write-spec : {M : Type 1} → statement M
 write-spec =
     tie.close
     (tie.spec
-    size-requires
+    size-of-requires
     returns
     text-length-requires
     returns-2

@@ -53,11 +53,11 @@ module _ (f : List ℕ) (start : ℕ) (z : ℤ) (fits : start + length (amountTe
 -- ---- the needs
 
 -- the size that the code computes
-sized : (c : tie.After-size) → c .size .result ≡ natAbs (c .before .before .args .cents)
-sized c = c .size .ensures ∙ ap natAbs (read-back (c .before .before .fits .cents))
+sized : (c : tie.After-size-of) → c .size-of .result ≡ natAbs (c .before .before .args .cents)
+sized c = c .size-of .ensures ∙ ap natAbs (read-back (c .before .before .fits .cents))
 
-size-requires : tie.Need-size-requires
-size-requires c κs = search needs
+size-of-requires : tie.Need-size-of-requires
+size-of-requires c κs = search needs
 
 sub-point : tie.Need-sub-point
 sub-point c = omega (arith, text-length (c .before .before .args .cents))
@@ -65,8 +65,8 @@ sub-point c = omega (arith, text-length (c .before .before .args .cents))
 put-blanks-requires : tie.Need-put-blanks-requires
 put-blanks-requires c κs = search needs
 
-sign-requires : tie.Need-sign-requires
-sign-requires c κs = search needs
+sign-byte-requires : tie.Need-sign-byte-requires
+sign-byte-requires c κs = search needs
 
 slice-write-field : tie.Need-slice-write-field
 slice-write-field c = omega (arith, c .before .before .before .put-blanks .kept .0, text-length (c .before .before .before .before .before .before .before .args .cents))
@@ -93,7 +93,7 @@ returns : tie.Need-returns
 returns c =
     let d = c .before .before .before .before .before .before in
     let s = d .before .before .before .before .before .before .before .before .before in
-    let sign : d .before .before .sign .result ≡ signByte (s .args .cents) = d .before .before .sign .ensures ∙ ap signByte (read-back (s .fits .cents)) in
+    let sign : d .before .before .sign-byte .result ≡ signByte (s .args .cents) = d .before .before .sign-byte .ensures ∙ ap signByte (read-back (s .fits .cents)) in
     c .before .before .put-cents .ensures
     ∙ rw (d .put-dollars .ensures, d .before .before .before .before .before .put-blanks .ensures, sign, sized (d .before .before .before .before .before .before .before))
     (whole-field (s .args .field .now) (s .args .start) (s .args .cents) (s .pre))
@@ -102,10 +102,10 @@ pub put-spec : {M : Type 1} → statement M
 put-spec =
     tie.close
     (tie.spec
-    size-requires
+    size-of-requires
     sub-point
     put-blanks-requires
-    sign-requires
+    sign-byte-requires
     slice-write-field
     put-dollars-requires
     put-cents-requires

@@ -1,4 +1,4 @@
--- `amount::writing::sign` meets its contract: a number below zero has a minus, every other a plus.
+-- `amount::writing::sign_byte` meets its contract: a number below zero has a minus, every other a plus.
 use mathlib.Core.Path.{_≡_, refl}
 use mathlib.Core.Bool.{true, false}
 use lib.IntN.{ℤ, pos, negsuc}
@@ -8,8 +8,8 @@ use borrow.Author.Tests.{ltb-true}
 use Rattle.whole.proofs.Tests.{never}
 use Rattle.whole.proofs.Machine.{read-back}
 use Rattle.rules.specs.Text.{signByte}
-use Rattle.amount.proofs.writing.sign.Statement.{statement}
-use Rattle.amount.proofs.writing.sign.Tie as tie
+use Rattle.amount.proofs.writing.sign_byte.Statement.{statement}
+use Rattle.amount.proofs.writing.sign_byte.Tie as tie
 
 minus : (z : ℤ) → ltZ z (pos 0) ≡ true → 45 ≡ signByte z
 minus (pos n) t = absurd (omega (arith, ltb-true n 0 t))
@@ -25,5 +25,5 @@ returns c = minus (c .before .args .cents) (rw (read-back (c .before .fits .cent
 returns-2 : tie.Need-returns-2
 returns-2 c = plus (c .before .args .cents) (rw (read-back (c .before .fits .cents)) at (c .if1 .left))
 
-pub sign-spec : {M : Type 1} → statement M
-sign-spec = tie.close (tie.spec returns returns-2)
+pub sign-byte-spec : {M : Type 1} → statement M
+sign-byte-spec = tie.close (tie.spec returns returns-2)
