@@ -30,8 +30,8 @@ fn examine_named(i: usize) {
 
 fn print_answer(answer: Answer) {
     io::write_all(STDOUT_FILENO, b" ");
-    io::print_decimal(STDOUT_FILENO, hourfile::number_of(answer));
+    io::print_decimal(STDOUT_FILENO, answer::number_of(answer));
     io::write_all(STDOUT_FILENO, b" ");
-    io::print_decimal(STDOUT_FILENO, hourfile::place_of(answer) as u64);
+    io::print_decimal(STDOUT_FILENO, answer::place_of(answer) as u64);
     io::write_all(STDOUT_FILENO, b"\n");
 }

@@ -7,11 +7,8 @@ ghost use Rattle.rules.specs.Record as Record;
 ghost use Rattle.rules.specs.HourFile as HourFile;
 ghost use Rattle.rules.specs.HourFile.{hourly};
 
-mod answers;
 mod refusals;
 
-pub use answers::number_of;
-pub use answers::place_of;
 pub use refusals::examine;
 
 // Where the search of the records stops: at this word of this record, or nowhere.

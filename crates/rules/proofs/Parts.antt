@@ -3,7 +3,7 @@
 use mathlib.Core.Path.{_≡_, refl, sym, _∙_, ap, ap₂}
 use mathlib.Core.Logic.{_↔_}
 use mathlib.Core.Bool.{Bool, true, false, not, cond, _&&_, _||_, or-false}
-use mathlib.Core.Option.{some, bind, Option·some-injective}
+use mathlib.Core.Option.{some, bind, Option·some-injective, bind-eq-some-iff}
 use mathlib.Core.List.{List, [], _∷_, _++_}
 use Prim.Native.Nat.{ℕ, zero, suc, _+_, _-_, _*_, _/_, _%_, _^_, _≤_, _<_}
 use native.Mathlib.Nat.{zero-add, add-zero, pow-le-pow-right, lt-of-lt-of-le, le-trans, le-refl}
@@ -13,7 +13,7 @@ use lib.IntN.{ℤ, pos, negsuc, natAbs}
 use lib.ListN.{length, take, drop, getD, replicate, take-append-drop}
 use lib.Seq.{drop-drop, getD-drop, length-take-le}
 use borrow.Author.Tests.{leb-true, eqb-true, le-leb, eq-eqb}
-use Rattle.whole.proofs.Tests.{split, never, never-some, all-three, if-some, bind-some}
+use Rattle.whole.proofs.Tests.{split, never, never-some, all-three, if-some}
 use Rattle.rules.specs.Text.{digitByte, isDigit, signByte, decimal, Part, blankCount, digitCount, digitsValue, pastBlanks, signAt, dollarsAt, centsAt, withMinus, amountIn}
 use Rattle.rules.proofs.Digits.{first-byte, is-digit, all-counted, make-the-number, no-leading-zero, digits-are-written, digit-range, counted-stand, value-below-power, read-digits, decimal-digits, decimal-at-least-1, decimal-length-at-most}
 
@@ -167,9 +167,9 @@ read-by-parts s z = (to, from)
   where
     to : amountIn s ≡ some z → WasRead s z
     to e =
-        let sign = bind-some (signAt s (pastBlanks s 0)) _ z e in
-        let dollars = bind-some (dollarsAt s (sign .0 .next)) _ z (sign .2) in
-        let cents = bind-some (centsAt s (dollars .0 .next)) _ z (dollars .2) in
+        let sign = bind-eq-some-iff (signAt s (pastBlanks s 0)) _ .0 e in
+        let dollars = bind-eq-some-iff (dollarsAt s (sign .0 .next)) _ .0 (sign .2) in
+        let cents = bind-eq-some-iff (centsAt s (dollars .0 .next)) _ .0 (dollars .2) in
         let end = if-some (eqb (cents .0 .next) (length s)) (withMinus (sign .0 .value) (100 * dollars .0 .value + cents .0 .value)) z (cents .2) in
         record {
           sign = sign .0;

@@ -17,7 +17,7 @@ use Rattle.rules.specs.declared.Answer.the-variants.{Accepted, BadLength
 use Rattle.rules.specs.declared.Settled.{Settled}
 use Rattle.rules.specs.HourFile.{hourly, hourOf}
 use Rattle.rules.specs.Refusals.{Row, row, Verdict, accepted, refusedAt, verdictOf, verdict, placeZeroIf, layoutRows, wordRows, sumRows, fileRows, hourRows, writeRows}
-use Rattle.rules.specs.Settling.{Buffers, isAccepted, bufferRows, settleRows, filled, ufeFigures, noFigures, settle, write}
+use Rattle.rules.specs.Settling.{Buffers, Settlement, isAccepted, bufferRows, settleRows, filled, ufeFigures, noFigures, settle, write}
 use Rattle.rules.specs.Text.{amountField}
 use Rattle.rules.specs.Promises.{Accepts, AllWhole, FirstBrokenRow, Fits, OneResult}
 
@@ -127,7 +127,11 @@ write-numbered width z = omega arith
 module _ (s : List ℕ) (b : Buffers) where
   pub settle-verdict : settle s b .verdict ≡ verdict (settleRows s b)
   unfolding settle
-  settle-verdict = split (isAccepted (verdict (settleRows s b))) (λ e. rw e) (λ e. rw e)
+  settle-verdict = either-way (isAccepted (verdict (settleRows s b))) _ _ refl refl
+    where
+      either-way : (c : Bool) (x y : Settlement) → x .verdict ≡ verdict (settleRows s b) → y .verdict ≡ verdict (settleRows s b) → (cond c x y) .verdict ≡ verdict (settleRows s b)
+      either-way true x y p q = p
+      either-way false x y p q = q
 
   pub settle-accepts : Accepts s b ↔ AllWhole (settleRows s b)
   settle-accepts = let r = accepts-when-whole (settleRows s b) (settle-numbered s b) in

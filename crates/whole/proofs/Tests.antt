@@ -1,12 +1,11 @@
 -- What tests say: a Bool taken apart with its equation, a conjunction that holds, a disjunction that fails, an option that is none, one that was found.
 use mathlib.Core.Path.{_≡_, refl, sym, _∙_}
 use mathlib.Core.Bool.{Bool, true, false, not, cond, _&&_, _||_, true≢false}
-use mathlib.Core.Option.{Option, none, some, bind, Option·some-ne-none}
+use mathlib.Core.Option.{Option, none, some, orElse, Option·some-ne-none}
 use Prim.Native.Nat.{ℕ, _<_, suc}
 use native.Mathlib.Omega.{arith}
 use lib.Dec.{T, eqb}
 use borrow.Author.Tests.{eqb-true, eqb-false}
-use Rattle.whole.specs.Below.{orElse}
 
 -- a test, with what it says
 pub split {ℓ} : {X : Type ℓ} (b : Bool) → (b ≡ true → X) → (b ≡ false → X) → X
@@ -42,6 +41,7 @@ pub never-some {ℓ κ} : {A : Type ℓ} {X : Type κ} {a : A} → some a ≡ no
 never-some {a = a} e = absurd (Option·some-ne-none a e)
 
 pub no-else : (a b : Option ℕ) → orElse a b ≡ none → (a ≡ none) × (b ≡ none)
+unfolding orElse
 no-else none b e = (refl, e)
 no-else (some i) b e = never-some e
 
@@ -54,15 +54,10 @@ pub cond-ext {ℓ} : {A : Type ℓ} (c : Bool) (x y z : A) → (c ≡ true → x
 cond-ext true x y z f = f refl
 cond-ext false x y z f = refl
 
--- what was found: after a test, and one step after another
+-- what was found after a test
 pub if-some {ℓ} : {A : Type ℓ} (b : Bool) (o : Option A) (a : A) → cond b o none ≡ some a → (b ≡ true) × (o ≡ some a)
 if-some true o a e = (refl, e)
 if-some false o a e = never-some (sym e)
-
-pub bind-some {ℓ κ} : {A : Type ℓ} {B : Type κ} (o : Option A) (f : A → Option B) (b : B) → bind o f ≡ some b → (a : A) × (o ≡ some a) × (f a ≡ some b)
-unfolding bind
-bind-some none f b e = never-some (sym e)
-bind-some (some a) f b e = (a, refl, e)
 
 pub all-three : (a b c : Bool) → (a && b && c) ≡ true → (a ≡ true) × (b ≡ true) × (c ≡ true)
 all-three a b c e = let f = both (a && b) c e in let g = both a b (f .0) in (g .0, g .1, f .1)

@@ -2,7 +2,7 @@
 -- passes. Each grows at its end, from n to n + 1, as a loop of the code does.
 use Prim.Native.Nat.{ℕ, zero, suc, _+_, _*_}
 use mathlib.Core.Bool.{Bool, cond}
-use mathlib.Core.Option.{Option, none, some}
+use mathlib.Core.Option.{Option, none, some, orElse}
 use mathlib.Core.List.{List, [], _∷_, _++_}
 use lib.IntN.{ℤ, pos, _+ℤ_}
 use lib.ListN.{drop}
@@ -35,10 +35,6 @@ valuesBelow f (suc n) = valuesBelow f n ++ f n ∷ []
 -- n values in a buffer's first places, and what stood past them
 unfoldable pub replacingFirst {ℓ} : {A : Type ℓ} → (ℕ → A) → ℕ → List A → List A
 replacingFirst f n old = valuesBelow f n ++ drop n old
-
-abbrev pub orElse : Option ℕ → Option ℕ → Option ℕ
-orElse (some i) o = some i
-orElse none o = o
 
 unfoldable pub firstBelow : (ℕ → Bool) → ℕ → Option ℕ
 firstBelow p zero = none

@@ -1,4 +1,4 @@
-// The document's number and place of an answer.
+// An answer's number and place in the table of refusals, for whoever prints them or hands them on.
 ghost use mathlib.Core.Path.{_≡_};
 ghost use Rattle.rules.specs.Refusals.{numberOf, placeOf};
 use rules::Answer;
@@ -22,18 +22,19 @@ pub fn number_of(answer: Answer) -> u64
     }
 }
 
+// 0 where the row has no other place.
 pub fn place_of(answer: Answer) -> usize
     ensures { λ r. ⌜ r ≡ placeOf answer ⌝ }
 {
     match answer {
         Answer::Accepted => 0,
         Answer::BadLength => 0,
-        Answer::BadSum(b) => b,
-        Answer::BadBlock(b) => b,
-        Answer::BadHead(w) => w,
-        Answer::BadRecord(i) => i,
-        Answer::BadArea(a) => a,
-        Answer::BadAmount(m) => m,
+        Answer::BadSum(block) => block,
+        Answer::BadBlock(block) => block,
+        Answer::BadHead(word) => word,
+        Answer::BadRecord(record) => record,
+        Answer::BadArea(area) => area,
+        Answer::BadAmount(member) => member,
         Answer::OutOfRange => 0,
         Answer::TooNarrow => 0,
         Answer::NotAnAmount => 0,

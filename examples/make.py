@@ -1,0 +1,56 @@
+#!/usr/bin/env python3
+"""Writes the example hours beside this file: python3 examples/make.py
+
+What each hour holds is worked out by hand on the page of its name.
+"""
+
+import sys
+from pathlib import Path
+
+HERE = Path(__file__).resolve().parent
+sys.path.insert(0, str(HERE.parent / "tests"))
+sys.dont_write_bytecode = True
+from hours import EXPORT, GENERATOR, IMPORT, PROFILE_LOAD, REAL_TIME_LOAD, Hour, printed_case, record  # noqa: E402
+
+
+def two_zones():
+    """Five growers, two zones, three areas, every kind of record."""
+    return Hour(
+        number=1_400, members=5, prices=[4_200, 3_550],
+        areas=[[0, 500, 200], [1, 330, 10], [1, 700, 700]],
+        records=[
+            record(GENERATOR, 0, 0, S=2_000, A=1_900, M=2_500, F=9_800, H=9_750),
+            record(REAL_TIME_LOAD, 1, 0, S=1_200, A=1_300),
+            record(PROFILE_LOAD, 2, 0, S=800, A=850),
+            record(GENERATOR, 1, 1, S=1_000, A=1_050, J=20, N=50, O=300, M=1_200, F=10_000, H=10_000),
+            record(IMPORT, 3, 1, S=400, A=420, J=10, N=5, F=9_900, H=9_900),
+            record(REAL_TIME_LOAD, 0, 1, S=900, A=880, N=30, O=950),
+            record(PROFILE_LOAD, 3, 1, S=500, A=480),
+            record(EXPORT, 2, 2, S=200, A=180, J=30),
+        ])
+
+
+def left_over():
+    """A negative UFE that does not go into the demands, equal remainders, and half a cent."""
+    return Hour(
+        number=1_401, members=5, prices=[6_500], areas=[[0, 619, 20]],
+        records=[
+            record(PROFILE_LOAD, 2, 0, S=420, A=400),
+            record(REAL_TIME_LOAD, 1, 0, S=690, A=700),
+            record(GENERATOR, 0, 0, S=2_000, A=1_901, M=2_400, F=9_980, H=9_973),
+            record(REAL_TIME_LOAD, 2, 0, S=700, A=700),
+            record(PROFILE_LOAD, 3, 0, S=700, A=700),
+            record(EXPORT, 4, 0, S=40, A=39),
+        ])
+
+
+EXAMPLES = {"printed": printed_case, "two-zones": two_zones, "left-over": left_over}
+
+
+def main():
+    for name, hour in EXAMPLES.items():
+        (HERE / f"{name}.hour").write_bytes(hour().encode())
+
+
+if __name__ == "__main__":
+    main()

@@ -1,0 +1,438 @@
+#!/usr/bin/env python3
+"""The second program: settles an hour as documents 01 and 003 say, apart from the proved programs.
+
+    python3 tests/second.py statement < hour
+    python3 tests/second.py buffers [C [L [S [D]]]] < hour
+
+It is the other opinion that the proved programs are compared with, so it takes nothing from them. It
+works in another way too: energy in kWh and multipliers as exact fractions, as document 003 writes its
+formulas, and units, grains and cents only where document 01 asks for them.
+"""
+
+import re
+import struct
+import sys
+from collections import namedtuple
+from fractions import Fraction
+
+BLOCK_BYTES = 512
+MOST_BLOCKS = 26
+FIRST_RECORD_WORD = 8
+RECORD_WORDS = 12
+RECORDS_IN_A_BLOCK = 10
+
+UNITS_IN_A_KWH = 10_000
+GRAINS_IN_A_CENT = 10_000_000
+MOST_GRAINS = 4 * 10**18
+MOST_CENTS = 999_999_999_999
+UFE_FIGURES = 8
+CHARGE_COLUMNS = 14
+
+# The lengths of the charges, lines, shares and deviations that program `buffers` lends, if not told
+# otherwise; and what it lays in each place before settling, to show which places settling writes.
+USUAL_LENGTHS = (32, 32, 250, 250)
+UNTOUCHED = 77
+
+GENERATOR, REAL_TIME_LOAD, PROFILE_LOAD, IMPORT, EXPORT = 1, 2, 3, 4, 5
+LOADS = (REAL_TIME_LOAD, PROFILE_LOAD)
+
+Answer = namedtuple("Answer", "number place ufe charges shares deviations lines")
+
+
+class Refused(Exception):
+    """A row of document 01's refusal table: its number and its place."""
+
+    def __init__(self, number, place=0):
+        super().__init__(f"refused {number} at {place}")
+        self.number = number
+        self.place = place
+
+
+# ---- The hour file (document 01, "The hour file" and "Units and ranges")
+
+WORD = range(2**32)
+ZERO = range(1)
+PRICE = range(-1_000_000, 1_000_001)
+TIE = range(10_000_001)
+ENERGY = range(100_001)
+ADJUSTMENT = range(-100_000, 100_001)
+MULTIPLIER = range(1, 20_001)
+
+# Words 3 to 10 of a record by document 01's letters, and which of them each kind uses.
+RECORD_RANGES = {"S": ENERGY, "A": ENERGY, "J": ADJUSTMENT, "N": ENERGY,
+                 "O": ENERGY, "M": ENERGY, "F": MULTIPLIER, "H": MULTIPLIER}
+LETTERS_USED = {GENERATOR: "SAJNOMFH", REAL_TIME_LOAD: "SAJNO", PROFILE_LOAD: "SAJNO",
+                IMPORT: "SAJNFH", EXPORT: "SAJ"}
+
+
+def signed(word):
+    """A word read in two's complement."""
+    return word - 2**32 if word >= 2**31 else word
+
+
+def blocks_in(data):
+    """The file as blocks of 128 words; refusal 1 looks at nothing but the length."""
+    if len(data) == 0 or len(data) % BLOCK_BYTES != 0 or len(data) > MOST_BLOCKS * BLOCK_BYTES:
+        raise Refused(1)
+    return list(struct.iter_unpack("<128I", data))
+
+
+def check_sums(blocks):
+    for place, block in enumerate(blocks):
+        if sum(block) % 2**32 != 0:
+            raise Refused(2, place)
+
+
+def layout_holds(blocks, place):
+    """Words 0 to 6 of a block, and the zeros past its records."""
+    block = blocks[place]
+    if place == 0:
+        return block[0:7] == (1, 0, len(blocks) - 1, 0, 0, 0, 0)
+    held = block[2]
+    last = place == len(blocks) - 1
+    if held not in range(1 if last else RECORDS_IN_A_BLOCK, RECORDS_IN_A_BLOCK + 1):
+        return False
+    past = FIRST_RECORD_WORD + RECORD_WORDS * held
+    return block[0:2] == (2, place) and not any(block[3:7]) and not any(block[past:])
+
+
+def check_layout(blocks):
+    for place in range(len(blocks)):
+        if not layout_holds(blocks, place):
+            raise Refused(3, place)
+
+
+def read_head(block):
+    """The first body. Words are looked at in order, so that the counts are known to be in range
+    before a later word leans on them."""
+
+    def word(place, allowed):
+        value = signed(block[place]) if allowed is PRICE else block[place]
+        if value not in allowed:
+            raise Refused(4, place)
+        return value
+
+    head = {"number": word(8, WORD)}
+    head["members"] = word(9, range(1, 33))
+    zones = word(10, range(1, 5))
+    areas = word(11, range(1, 9))
+    prices = [word(12 + zone, PRICE if zone < zones else ZERO) for zone in range(4)]
+    rows = []
+    for area in range(8):
+        counted = area < areas
+        at = 16 + 4 * area
+        rows.append({"zone": word(at, range(zones) if counted else ZERO),
+                     "in": word(at + 1, TIE if counted else ZERO),
+                     "out": word(at + 2, TIE if counted else ZERO)})
+        word(at + 3, ZERO)
+    for place in range(48, 128):
+        word(place, ZERO)
+    head["prices"] = prices[:zones]
+    head["areas"] = rows[:areas]
+    return head
+
+
+def read_record(words):
+    record = {"kind": words[0], "member": words[1], "area": words[2], "last": words[11]}
+    record.update(zip("SAJNOMFH", words[3:11]))
+    record["J"] = signed(record["J"])
+    return record
+
+
+def record_holds(record, members, areas):
+    if record["kind"] not in LETTERS_USED:
+        return False
+    if record["member"] >= members or record["area"] >= areas or record["last"] != 0:
+        return False
+    used = LETTERS_USED[record["kind"]]
+    return all(record[letter] in (allowed if letter in used else ZERO)
+               for letter, allowed in RECORD_RANGES.items())
+
+
+def read_records(blocks, members, areas):
+    records = []
+    for block in blocks[1:]:
+        for held in range(block[2]):
+            at = FIRST_RECORD_WORD + RECORD_WORDS * held
+            record = read_record(block[at:at + RECORD_WORDS])
+            if not record_holds(record, members, areas):
+                raise Refused(5, len(records))
+            records.append(record)
+    return records
+
+
+def read_hour(data):
+    """An hour as dicts, or refusals 1 to 5, each over the whole file before the next."""
+    blocks = blocks_in(data)
+    check_sums(blocks)
+    check_layout(blocks)
+    hour = read_head(blocks[0])
+    hour["records"] = read_records(blocks, hour["members"], len(hour["areas"]))
+    return hour
+
+
+# ---- The sums (document 003, D 2.1 and D 2.2; document 01, "The sums")
+
+def multiplier(ten_thousandths):
+    return Fraction(ten_thousandths, 10_000)
+
+
+def units(kwh):
+    """An energy in units of 1/10,000 kWh; document 01 says that this is exact."""
+    value = kwh * UNITS_IN_A_KWH
+    assert value.denominator == 1
+    return value.numerator
+
+
+def generator_deviation(r):
+    """D 2.1, GenDev: losses scale what was metered less the adjustment, not the ancillary energy."""
+    unavailable = min(0, r["M"] - r["A"] - (r["O"] - r["N"]))
+    delivered = (r["A"] - r["J"]) * multiplier(r["H"]) - r["N"]
+    return r["S"] * multiplier(r["F"]) - delivered - unavailable
+
+
+def load_deviation(r):
+    """D 2.1, LoadDev."""
+    unavailable = max(0, (r["O"] - r["N"]) - r["A"])
+    return r["S"] - ((r["A"] - r["J"]) + r["N"]) - unavailable
+
+
+def import_deviation(r):
+    """D 2.1, ImpDev."""
+    return r["S"] * multiplier(r["F"]) - (r["A"] - r["J"]) * multiplier(r["H"]) + r["N"]
+
+
+def export_deviation(r):
+    """D 2.1, ExpDev."""
+    return r["S"] - r["A"] - r["J"]
+
+
+DEVIATIONS = {GENERATOR: generator_deviation, REAL_TIME_LOAD: load_deviation,
+              PROFILE_LOAD: load_deviation, IMPORT: import_deviation, EXPORT: export_deviation}
+
+# How a record's deviation enters its member's charge (D 2.1, IEC).
+DIRECTION = {GENERATOR: 1, REAL_TIME_LOAD: -1, PROFILE_LOAD: -1, IMPORT: 1, EXPORT: -1}
+
+
+def deviation(record):
+    return units(DEVIATIONS[record["kind"]](record))
+
+
+def records_of(hour, area, *kinds):
+    return [r for r in hour["records"] if r["area"] == area and r["kind"] in kinds]
+
+
+def demand(hour, area):
+    """T: the area's metered demand, in kWh."""
+    return sum(r["A"] for r in records_of(hour, area, *LOADS))
+
+
+def unaccounted_energy(hour, area):
+    """D 2.2, UFE of an area, in units."""
+    ties = hour["areas"][area]
+    generated = sum(r["A"] for r in records_of(hour, area, GENERATOR))
+    losses = sum(r["A"] * (1 - multiplier(r["H"])) for r in records_of(hour, area, GENERATOR, IMPORT))
+    return units(Fraction(ties["in"] - ties["out"] + generated - demand(hour, area)) - losses)
+
+
+def exact_shares(demands, ufe):
+    """Each demand's fraction of the UFE, before any rounding."""
+    whole = sum(demands)
+    return [Fraction(each * ufe, whole) if whole else Fraction(0) for each in demands]
+
+
+def shares_of(demands, ufe):
+    """The UFE in whole units: what is left after the whole parts goes, one unit each, to the largest
+    remainders, on equal remainders to the earlier demand."""
+    exact = [abs(share) for share in exact_shares(demands, ufe)]
+    sizes = [int(share) for share in exact]
+    remainders = [share - size for share, size in zip(exact, sizes)]
+    left = abs(ufe) - sum(sizes) if sum(demands) else 0
+    # sorted keeps the order of equals, and reverse does not change that
+    by_remainder = sorted(range(len(demands)), key=remainders.__getitem__, reverse=True)
+    for place in by_remainder[:left]:
+        sizes[place] += 1
+    return [-size if ufe < 0 else size for size in sizes]
+
+
+def share_out(hour, ufe, sharing=shares_of):
+    """One share a record, in file order: 0 for what is no load."""
+    shares = [0] * len(hour["records"])
+    for area in range(len(hour["areas"])):
+        places = [i for i, r in enumerate(hour["records"]) if r["area"] == area and r["kind"] in LOADS]
+        demands = [hour["records"][i]["A"] for i in places]
+        for place, share in zip(places, sharing(demands, ufe[area])):
+            shares[place] = share
+    return shares
+
+
+def price_of(hour, area):
+    return hour["prices"][hour["areas"][area]["zone"]]
+
+
+def member_amounts(hour, deviations, shares):
+    """Each member's amount in grains; positive means that the member pays."""
+    amounts = [0] * hour["members"]
+    for r, dev, share in zip(hour["records"], deviations, shares):
+        amounts[r["member"]] += price_of(hour, r["area"]) * (DIRECTION[r["kind"]] * dev + share)
+    return amounts
+
+
+def cents(grains):
+    """The nearest cent, halves away from zero."""
+    size = int(Fraction(abs(grains), GRAINS_IN_A_CENT) + Fraction(1, 2))
+    return -size if grains < 0 else size
+
+
+def work_out(hour):
+    """All figures of an hour, or refusals 6 and 7."""
+    ufe = [unaccounted_energy(hour, area) for area in range(len(hour["areas"]))]
+    for area, energy in enumerate(ufe):
+        if energy != 0 and demand(hour, area) == 0:
+            raise Refused(6, area)
+    deviations = [deviation(r) for r in hour["records"]]
+    shares = share_out(hour, ufe)
+    amounts = member_amounts(hour, deviations, shares)
+    for member, amount in enumerate(amounts):
+        if abs(amount) > MOST_GRAINS:
+            raise Refused(7, member)
+    return {"ufe": ufe, "deviations": deviations, "shares": shares, "amounts": amounts,
+            "charges": [cents(amount) for amount in amounts]}
+
+
+# ---- Settling into lent buffers (document 01, "The sums" and "Refusal numbers and their order")
+
+def written_over(figures, buffer):
+    """The figures in the first places of a buffer; the places past them stay as they were."""
+    return figures + buffer[len(figures):]
+
+
+def settle(data, lengths=USUAL_LENGTHS):
+    """What settling answers, and every buffer afterwards. `lengths` are those of the charges, lines,
+    shares and deviations; every number in them is 77 before."""
+    charges, lines, shares, deviations = (
+        [before] * length
+        for before, length in zip((UNTOUCHED, (UNTOUCHED, UNTOUCHED), UNTOUCHED, UNTOUCHED), lengths))
+    no_ufe = [0] * UFE_FIGURES
+    try:
+        hour = read_hour(data)
+        figures = work_out(hour)
+        members, records = hour["members"], len(hour["records"])
+        if min(len(charges), len(lines)) < members or min(len(shares), len(deviations)) < records:
+            raise Refused(11)
+    except Refused as refused:
+        return Answer(refused.number, refused.place, no_ufe, charges, shares, deviations, lines)
+    posted = [sum(r["member"] == member for r in hour["records"]) for member in range(members)]
+    return Answer(0, 0,
+                  written_over(figures["ufe"], no_ufe),
+                  written_over(figures["charges"], charges),
+                  written_over(figures["shares"], shares),
+                  written_over(figures["deviations"], deviations),
+                  written_over(list(zip(figures["amounts"], posted)), lines))
+
+
+# ---- Text amounts (document 01, "Text amounts")
+
+AMOUNT_TEXT = re.compile(rb" *([+-])(0|[1-9][0-9]{0,9})\.([0-9]{2})")
+
+
+def write_amount(amount, width):
+    """(0, the field), or the refusal's number and nothing."""
+    if abs(amount) > MOST_CENTS:
+        return 8, None
+    dollars, rest = divmod(abs(amount), 100)
+    text = b"%c%d.%02d" % (b"-" if amount < 0 else b"+", dollars, rest)
+    if width < len(text):
+        return 9, None
+    return 0, text.rjust(width, b" ")
+
+
+def read_amount(field):
+    """(0, the amount), or refusal 10 and amount 0."""
+    parts = AMOUNT_TEXT.fullmatch(field)
+    if parts is None:
+        return 10, 0
+    sign, dollars, rest = parts.groups()
+    size = 100 * int(dollars) + int(rest)
+    if sign == b"-" and size == 0:
+        return 10, 0
+    return 0, -size if sign == b"-" else size
+
+
+# ---- What the two programs print
+
+def statement(data):
+    """Document 01, "The printed statement"."""
+    try:
+        hour = read_hour(data)
+        charges = work_out(hour)["charges"]
+    except Refused as refused:
+        return b"refused %d at %d\n" % (refused.number, refused.place)
+    text = b"hour %d members %d records %d\n" % (hour["number"], hour["members"], len(hour["records"]))
+    for member, charge in enumerate(charges):
+        number, field = write_amount(charge, CHARGE_COLUMNS)
+        assert number == 0, "4 x 10^18 grains are 4 x 10^11 cents, which fit 14 columns"
+        text += b"%02d %s\n" % (member, field)
+    return text
+
+
+def buffers(data, lengths=()):
+    """The answer and every buffer after settling, as program `buffers` prints them. Lengths that are
+    not given are the usual ones."""
+    lengths = tuple(lengths) + USUAL_LENGTHS[len(lengths):]
+    answer = settle(data, lengths)
+    rows = [["answer", answer.number, "at", answer.place],
+            ["ufe", *answer.ufe],
+            ["charges", *answer.charges],
+            ["shares", *answer.shares],
+            ["deviations", *answer.deviations],
+            ["lines", *(f"{amount}:{records}" for amount, records in answer.lines)]]
+    return "".join(" ".join(map(str, row)) + "\n" for row in rows).encode()
+
+
+# ---- The unrounded amounts that demand 3 speaks of (document 003, D 2.1 and D 2.2)
+
+def tariff_amounts(hour, ufe):
+    """Each member's IEC, zone by zone as D 2.1 writes it, with the exact fractions of the UFE in place
+    of the shares; in grains."""
+    exact = share_out(hour, ufe, exact_shares)
+    posts = [(r["member"], hour["areas"][r["area"]]["zone"], r["kind"], deviation(r), share)
+             for r, share in zip(hour["records"], exact)]
+    return [sum(imbalance_charge([post[2:] for post in posts if post[:2] == (member, zone)], price)
+                for zone, price in enumerate(hour["prices"]))
+            for member in range(hour["members"])]
+
+
+def imbalance_charge(posts, price):
+    """IEC of one member in one zone; a post is a kind, a deviation and a share."""
+
+    def deviations(*kinds):
+        return sum(dev for kind, dev, _ in posts if kind in kinds)
+
+    ufe_charge = sum(share for _, _, share in posts) * price
+    return ((deviations(GENERATOR) - deviations(*LOADS)) * price
+            + deviations(IMPORT) * price - deviations(EXPORT) * price + ufe_charge)
+
+
+def pool_total(hour, ufe):
+    """What the whole pool owes, from schedules and meters alone, without any shares; in grains."""
+    total = 0
+    for area in range(len(hour["areas"])):
+        def deviations(*kinds):
+            return sum(deviation(r) for r in records_of(hour, area, *kinds))
+
+        total += price_of(hour, area) * (deviations(GENERATOR) - deviations(*LOADS)
+                                         + deviations(IMPORT) - deviations(EXPORT) + ufe[area])
+    return total
+
+
+def main(name="", *lengths):
+    if len(lengths) > {"statement": 0, "buffers": 4}.get(name, -1):
+        sys.exit(__doc__)
+    data = sys.stdin.buffer.read()
+    text = statement(data) if name == "statement" else buffers(data, [int(length) for length in lengths])
+    sys.stdout.buffer.write(text)
+
+
+if __name__ == "__main__":
+    main(*sys.argv[1:])

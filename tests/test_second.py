@@ -1,0 +1,605 @@
+"""Tests of the second program, of the maker of hours and of the comparison itself.
+
+    python3 -m unittest tests/test_second.py
+
+Document 01's own figures and printed case, every refusal, text amounts, the three bounds of demand 3 with
+exact fractions, and that tests/compare notices a wrong program.
+"""
+
+import contextlib
+import importlib.machinery
+import importlib.util
+import io
+import random
+import re
+import shutil
+import subprocess
+import sys
+import tempfile
+import types
+import unittest
+from fractions import Fraction
+from pathlib import Path
+from unittest import mock
+
+HERE = Path(__file__).resolve().parent
+ROOT = HERE.parent
+sys.path.insert(0, str(HERE))
+import hours  # noqa: E402
+import second  # noqa: E402
+from hours import EXPORT, GENERATOR, IMPORT, PROFILE_LOAD, REAL_TIME_LOAD, Hour, record  # noqa: E402
+
+
+def load_script(path):
+    """A script without a suffix as a module."""
+    loader = importlib.machinery.SourceFileLoader(path.name, str(path))
+    module = importlib.util.module_from_spec(importlib.util.spec_from_loader(path.name, loader))
+    loader.exec_module(module)
+    return module
+
+
+compare = load_script(HERE / "compare")
+SECOND = (HERE / "second.py").read_text()
+
+
+def answer(hour, lengths=second.USUAL_LENGTHS):
+    """Number and place, of an Hour or of bytes."""
+    data = hour if isinstance(hour, bytes) else hour.encode()
+    return second.settle(data, lengths)[:2]
+
+
+class Figures(unittest.TestCase):
+    """Document 01, "Figures to check by"."""
+
+    def deviation(self, kind, **letters):
+        return second.deviation(record(kind, 0, 0, **letters))
+
+    def test_generators(self):
+        self.assertEqual(self.deviation(GENERATOR, S=1_000, A=900, M=2_000, F=9_800, H=9_800), 980_000)
+        self.assertEqual(self.deviation(GENERATOR, S=1_000, A=1_100, M=2_000, F=9_800, H=9_800), -980_000)
+        self.assertEqual(self.deviation(GENERATOR, S=1_000, A=1_000, F=10_000, H=10_000, M=1_500, O=600), 1_000_000)
+        self.assertEqual(self.deviation(GENERATOR, S=1_000, A=1_000, F=10_000, H=10_000, M=1_500, O=500), 0)
+
+    def test_loads(self):
+        for kind in hours.LOADS:
+            self.assertEqual(self.deviation(kind, S=500, A=450, N=30, O=500), 0)
+            self.assertEqual(self.deviation(kind, S=500, A=450), 500_000)
+
+    def test_imports_and_exports(self):
+        self.assertEqual(self.deviation(IMPORT, S=300, A=300, J=50, F=10_000, H=9_000), 750_000)
+        self.assertEqual(self.deviation(EXPORT, S=200, A=180, J=30), -100_000)
+
+    def test_ancillary_energy_is_not_scaled_by_losses(self):
+        self.assertEqual(self.deviation(GENERATOR, A=100, N=40, M=100, F=1, H=9_000), -500_000)
+        self.assertEqual(self.deviation(IMPORT, A=100, N=40, F=1, H=9_000), -500_000)
+
+    def test_adjustment_is_scaled_by_losses(self):
+        self.assertEqual(self.deviation(GENERATOR, A=100, J=-10, M=100, F=1, H=9_000), -990_000)
+        self.assertEqual(self.deviation(IMPORT, A=100, J=-10, F=1, H=9_000), -990_000)
+
+    def test_deviations_in_units_as_document_01_writes_them(self):
+        rng = random.Random(1)
+        for _ in range(2_000):
+            r = hours.record_at_ends(rng, 1, 1) if rng.random() < 0.5 else hours.random_record(rng, 1, 1, 100_000)
+            s, a, j, n, o, m, f, h = (r[letter] for letter in hours.LETTERS)
+            load = 10_000 * (s - ((a - j) + n) - max(0, (o - n) - a))
+            units = {GENERATOR: s * f - ((a - j) * h - 10_000 * n) - 10_000 * min(0, m - a - (o - n)),
+                     REAL_TIME_LOAD: load, PROFILE_LOAD: load,
+                     IMPORT: s * f - (a - j) * h + 10_000 * n,
+                     EXPORT: 10_000 * (s - a - j)}
+            self.assertEqual(second.deviation(r), units[r["kind"]], r)
+
+    def test_shares(self):
+        self.assertEqual(second.shares_of([1, 1, 1], 10), [4, 3, 3])
+        self.assertEqual(second.shares_of([1, 1, 1], -10), [-4, -3, -3])
+        self.assertEqual(second.shares_of([2, 1], 5), [3, 2])
+        self.assertEqual(second.shares_of([0, 5], 7), [0, 7])
+        self.assertEqual(second.shares_of([0, 0], 0), [0, 0])
+
+    def test_cents(self):
+        for grains, cents in ((4_999_999, 0), (5_000_000, 1), (-4_999_999, 0), (-5_000_000, -1),
+                              (14_999_999, 1), (15_000_000, 2), (-15_000_000, -2), (0, 0)):
+            self.assertEqual(second.cents(grains), cents)
+
+    def test_lengths(self):
+        longest = hours.full_file(random.Random(1)).encode()
+        self.assertEqual(len(longest), 13_312)
+        self.assertEqual(answer(longest), (0, 0))
+        self.assertEqual(answer(longest + bytes(512)), (1, 0))
+
+    def test_price_at_its_end(self):
+        hour = hours.printed_case()
+        for price, due in ((1_000_000, (0, 0)), (1_000_001, (4, 12)), (-1_000_000, (0, 0)), (-1_000_001, (4, 12))):
+            hour.prices = [price]
+            self.assertEqual(answer(hour), due)
+
+
+class PrintedCase(unittest.TestCase):
+    def test_statement(self):
+        self.assertEqual(second.statement(hours.printed_case().encode()),
+                         b"hour 7 members 2 records 2\n00          +5.00\n01          -5.00\n")
+
+    def test_buffers(self):
+        self.assertEqual(second.buffers(hours.printed_case().encode(), [3, 2, 4, 3]).decode(),
+                         "answer 0 at 0\n"
+                         "ufe 300000 0 0 0 0 0 0 0\n"
+                         "charges 500 -500 77\n"
+                         "shares 0 300000 77 77\n"
+                         "deviations 1000000 1300000 77\n"
+                         "lines 5000000000:1 -5000000000:1\n")
+
+    def test_buffers_of_a_refusal(self):
+        self.assertEqual(second.buffers(b"", [1, 2, 0]).split(b"deviations")[0].decode(),
+                         "answer 1 at 0\nufe 0 0 0 0 0 0 0 0\ncharges 77\nshares\n")
+
+    def test_as_a_command(self):
+        data = hours.printed_case().encode()
+        for words, text in ((["statement"], second.statement(data)),
+                            (["buffers"], second.buffers(data)),
+                            (["buffers", "2", "1"], second.buffers(data, [2, 1]))):
+            ended = subprocess.run([sys.executable, HERE / "second.py", *words], input=data, capture_output=True)
+            self.assertEqual((ended.returncode, ended.stdout), (0, text))
+
+
+class Refusals(unittest.TestCase):
+    """Document 01, "Refusal numbers and their order"."""
+
+    def test_each_fault_alone_is_refused_with_its_number_and_place(self):
+        for fault in hours.FAULTS + hours.LONE_FAULTS:
+            for turn in range(25):
+                made = hours.damaged(random.Random(f"{fault.__name__} {turn}"), (fault,))
+                self.assertEqual(answer(made.data), made.expected, (made.name, turn))
+
+    def test_of_two_faults_the_table_decides(self):
+        for one, two in hours.PAIRS:
+            made = hours.damaged(random.Random(f"{one.__name__} {two.__name__}"), (one, two))
+            self.assertEqual(answer(made.data), made.expected, made.name)
+
+    def test_faults_of_every_number_taken_away_one_by_one(self):
+        hour = hours.printed_case()
+        hour.areas[0][1] = 5
+        hour.records[1]["A"] = 0
+        blocks = hour.blocks()
+        blocks[0][127] = 1                 # 4 at word 127
+        blocks[1][8 + 12 + 8] = 1          # 5 at record 1: a load has no maximum
+        blocks[1][6] = 1                   # 3 at block 1
+        for block in blocks:
+            hours.mend(block)
+        blocks[1][7] ^= 1                  # 2 at block 1
+        data = hours.to_bytes(blocks)
+        short = (1, 1, 1, 1)
+        self.assertEqual(answer(data + b"\0", short), (1, 0))
+        self.assertEqual(answer(data, short), (2, 1))
+        blocks[1][7] ^= 1
+        self.assertEqual(answer(hours.to_bytes(blocks), short), (3, 1))
+        blocks[1][6] = 0
+        hours.mend(blocks[1])
+        self.assertEqual(answer(hours.to_bytes(blocks), short), (4, 127))
+        blocks[0][127] = 0
+        hours.mend(blocks[0])
+        self.assertEqual(answer(hours.to_bytes(blocks), short), (5, 1))
+        self.assertEqual(answer(hour, short), (6, 0))
+        hour.records[1]["A"] = 870
+        self.assertEqual(answer(hour, short), (11, 0))
+        self.assertEqual(answer(hour), (0, 0))
+
+    def test_first_such_place(self):
+        hour = Hour(0, 1, [1], [[0, 5, 5]] * 3 + [[0, 1, 0], [0, 0, 1]], [record(EXPORT, 0, 0)] * 12)
+        self.assertEqual(answer(hour), (6, 3))
+        blocks = hour.blocks()
+        blocks[2][8] = blocks[2][8 + 12] = 6
+        hours.mend(blocks[2])
+        self.assertEqual(answer(hours.to_bytes(blocks)), (5, 10))
+
+    def test_short_buffers(self):
+        data = Hour(1, 3, [1], [[0, 0, 0]], [record(EXPORT, 0, 0)] * 5).encode()
+        self.assertEqual(answer(data, (3, 3, 5, 5)), (0, 0))
+        for short in ((2, 3, 5, 5), (3, 2, 5, 5), (3, 3, 4, 5), (3, 3, 5, 4), (0, 0, 0, 0)):
+            settled = second.settle(data, short)
+            self.assertEqual(settled[:3], (11, 0, [0] * 8))
+            self.assertEqual(settled.charges + settled.shares + settled.deviations,
+                             [77] * (short[0] + short[2] + short[3]))
+            self.assertEqual(settled.lines, [(77, 77)] * short[1])
+
+    def test_a_refusal_changes_nothing(self):
+        for index in range(200):
+            made = hours.made("refused", index)
+            settled = second.settle(made.data)
+            if settled.number:
+                self.assertEqual(settled[2:], ([0] * 8, [77] * 32, [77] * 250, [77] * 250, [(77, 77)] * 32))
+
+    def test_every_word_of_a_small_file_is_looked_at(self):
+        """One more is accepted in the words that hold a figure with room above it, and in no other."""
+        blocks = hours.printed_case().blocks()
+        figures = {(0, word) for word in (8, 9, 10, 11, 12, 17, 18)}
+        figures |= {(1, 8 + word) for word in (1, *range(3, 11))}
+        figures |= {(1, 20 + word) for word in (0, *range(3, 8))}
+        for block in range(2):
+            for word in set(range(128)) - {7}:
+                changed = [list(each) for each in blocks]
+                changed[block][word] += 1
+                hours.mend(changed[block])
+                number = answer(hours.to_bytes(changed))[0]
+                self.assertEqual(number == 0, (block, word) in figures, (block, word))
+
+    def test_seven_cannot_occur(self):
+        """The bound that tests/hours.py works out, and the largest amounts that were thought of."""
+        self.assertLess(10**6 * (250 * 9 * 10**9 + 8 * 10**11 + 250 * 2 * 10**9), second.MOST_GRAINS)
+        for turn in range(8):
+            settled = second.settle(hours.largest_amounts(random.Random(turn)).encode())
+            self.assertEqual(settled.number, 0)
+            self.assertGreater(abs(settled.lines[0][0]), 8 * 10**17)
+
+    def test_seven_by_a_lower_limit(self):
+        with mock.patch.object(second, "MOST_GRAINS", 5_000_000_000):
+            self.assertEqual(answer(hours.printed_case()), (0, 0))
+        with mock.patch.object(second, "MOST_GRAINS", 4_999_999_999):
+            self.assertEqual(answer(hours.printed_case()), (7, 0))
+
+
+class TextAmounts(unittest.TestCase):
+    """Document 01, "Text amounts"."""
+
+    def test_figures(self):
+        self.assertEqual(second.write_amount(-123, 7), (0, b"  -1.23"))
+        self.assertEqual(second.write_amount(-123, 5), (0, b"-1.23"))
+        self.assertEqual(second.write_amount(-123, 4), (9, None))
+        self.assertEqual(second.write_amount(0, 5), (0, b"+0.00"))
+        self.assertEqual(second.write_amount(-5, 5), (0, b"-0.05"))
+
+    def test_range(self):
+        self.assertEqual(second.write_amount(999_999_999_999, 14), (0, b"+9999999999.99"))
+        self.assertEqual(second.write_amount(-999_999_999_999, 13), (9, None))
+        self.assertEqual(second.write_amount(10**12, 99), (8, None))
+        self.assertEqual(second.write_amount(-10**12, 0), (8, None))
+
+    def test_good(self):
+        for field, amount in ((b"+0.00", 0), (b"   -0.01", -1), (b"+10.00", 1_000), (b"-1.23", -123),
+                              (b" +9999999999.99", 999_999_999_999), (b"-9999999999.99", -999_999_999_999)):
+            self.assertEqual(second.read_amount(field), (0, amount))
+
+    def test_bad(self):
+        for field in (b"", b"   ", b"-0.00", b"0.00", b"1.23", b"+", b"+.50", b"+01.00", b"+00.10", b"+1.2",
+                      b"+1.234", b"+1.23 ", b"+1.23\n", b"+1,23", b"+ 1.23", b"\t+1.23", b"+1", b"+1.",
+                      b"+10000000000.00", b"+99999999999.99", b"--1.00", b"+1.2x", b"+1.23+1.23", b"\xa0+1.23",
+                      b"+\xb2.00", b"-00.00"):
+            self.assertEqual(second.read_amount(field), (10, 0), field)
+
+    def test_written_and_read_again(self):
+        rng = random.Random(3)
+        for _ in range(3_000):
+            amount = rng.randint(-10**rng.randint(0, 12), 10**rng.randint(0, 12))
+            amount = max(-999_999_999_999, min(999_999_999_999, amount))
+            width = rng.randint(0, 20)
+            number, field = second.write_amount(amount, width)
+            if number == 0:
+                self.assertEqual(len(field), width)
+                self.assertEqual(second.read_amount(field), (0, amount))
+            else:
+                self.assertEqual(number, 9)
+                self.assertEqual(second.write_amount(amount, width + 14)[0], 0)
+
+    def test_read_and_written_again(self):
+        """Whatever is read is exactly what is written at the same width."""
+        rng = random.Random(4)
+        read = 0
+        for _ in range(20_000):
+            field = bytearray(second.write_amount(rng.randint(-10**6, 10**6), rng.randint(9, 12))[1])
+            for _ in range(rng.randint(0, 2)):
+                field[rng.randrange(len(field))] = rng.choice(b" +-.0123456789x")
+            number, amount = second.read_amount(bytes(field))
+            if number == 0:
+                read += 1
+                self.assertEqual(second.write_amount(amount, len(field)), (0, bytes(field)))
+        self.assertGreater(read, 5_000)
+
+
+class DemandThree(unittest.TestCase):
+    """The three bounds of demand 3, with exact fractions, on 300 accepted hours."""
+
+    def test_bounds(self):
+        index = accepted = 0
+        while accepted < 300:
+            made = hours.made("demand 3", index)
+            index += 1
+            if second.settle(made.data).number == 0:
+                accepted += 1
+                hour = second.read_hour(made.data)
+                self.check_shares(hour)
+                self.check_charges(hour)
+
+    def check_shares(self, hour):
+        figures = second.work_out(hour)
+        for area, ufe in enumerate(figures["ufe"]):
+            own = [(r["A"], share) for r, share in zip(hour["records"], figures["shares"])
+                   if r["area"] == area and r["kind"] in second.LOADS]
+            self.assertEqual(sum(share for _, share in own), ufe)
+            total = sum(demand for demand, _ in own)
+            for demand, share in own:
+                exact = Fraction(demand * ufe, total) if total else 0
+                self.assertLess(abs(share - exact), 1)
+
+    def check_charges(self, hour):
+        figures = second.work_out(hour)
+        half_cent = Fraction(second.GRAINS_IN_A_CENT, 2)
+        charges = [charge * second.GRAINS_IN_A_CENT for charge in figures["charges"]]
+        for member, tariff in enumerate(second.tariff_amounts(hour, figures["ufe"])):
+            units = sum(abs(second.price_of(hour, r["area"])) for r in hour["records"]
+                        if r["member"] == member and r["kind"] in second.LOADS)
+            self.assertLessEqual(abs(charges[member] - tariff), half_cent + units)
+        self.assertLessEqual(abs(sum(charges) - second.pool_total(hour, figures["ufe"])),
+                             half_cent * hour["members"])
+
+
+class MadeHours(unittest.TestCase):
+    """The maker says what it made, and its hours reach what they are made for."""
+
+    def test_answers_are_the_ones_foreseen(self):
+        for index in range(6 * len(hours.ROUND)):
+            made = hours.made("foreseen", index)
+            if made.expected:
+                self.assertEqual(answer(made.data), made.expected, (index, made.name))
+
+    def test_the_same_seed_makes_the_same_hours(self):
+        for index in range(0, 60, 7):
+            self.assertEqual(hours.made(5, index), hours.made("5", index))
+            self.assertNotEqual(hours.made(5, index + 1).data, hours.made(6, index + 1).data)
+
+    def test_most_units_left(self):
+        for turn in range(6):
+            hour = second.read_hour(hours.most_units_left(random.Random(turn)).encode())
+            ufe = second.unaccounted_energy(hour, 0)
+            whole = [r["A"] * abs(ufe) // second.demand(hour, 0) for r in hour["records"]]
+            self.assertEqual((len(whole), abs(ufe) - sum(whole)), (250, 249))
+
+    def test_the_earlier_of_equal_remainders(self):
+        decided = 0
+        for turn in range(60):
+            hour = second.read_hour(hours.equal_remainders(random.Random(turn)).encode())
+            ufe, total = abs(second.unaccounted_energy(hour, 0)), second.demand(hour, 0)
+            rests = sorted((r["A"] * ufe % total for r in second.records_of(hour, 0, *second.LOADS)), reverse=True)
+            left = sum(rests) // total
+            decided += 0 < left < len(rests) and rests[left - 1] == rests[left]
+        self.assertGreater(decided, 30)
+
+    def test_halves(self):
+        exact = 0
+        for turn in range(20):
+            settled = second.settle(hours.halves(random.Random(turn)).encode())
+            exact += sum(abs(amount) % 10**7 == 5 * 10**6 for amount, _ in settled.lines)
+        self.assertGreater(exact, 50)
+
+    def test_both_unavailable_terms_are_at_work(self):
+        generators = loads = 0
+        for turn in range(20):
+            for r in hours.unavailable_energy(random.Random(turn)).records:
+                generators += r["kind"] == GENERATOR and r["M"] - r["A"] - (r["O"] - r["N"]) < 0
+                loads += r["kind"] in hours.LOADS and r["O"] - r["N"] - r["A"] > 0
+        self.assertGreater(min(generators, loads), 30)
+
+    def test_no_demand_and_no_ufe(self):
+        areas = 0
+        for turn in range(20):
+            hour = second.read_hour(hours.no_demand_no_ufe(random.Random(turn)).encode())
+            for area in range(len(hour["areas"])):
+                areas += second.demand(hour, area) == 0 and bool(second.records_of(hour, area, *second.LOADS))
+        self.assertGreater(areas, 10)
+
+
+# Wrong programs: each is the second program with one text changed. Document 01's "Slips to catch" come
+# first; the hours must show every one.
+SLIPS = {
+    "ancillary energy times H": (
+        'multiplier(r["H"]) - r["N"]', 'multiplier(r["H"]) - r["N"] * multiplier(r["H"])'),
+    "adjustment outside the multiplier": (
+        'delivered = (r["A"] - r["J"]) * multiplier(r["H"])', 'delivered = r["A"] * multiplier(r["H"]) - r["J"]'),
+    "loads added": ("REAL_TIME_LOAD: -1, PROFILE_LOAD: -1", "REAL_TIME_LOAD: 1, PROFILE_LOAD: 1"),
+    "exports added": ("EXPORT: -1}", "EXPORT: 1}"),
+    "leftover units to the last load": ("by_remainder[:left]", "[len(sizes) - 1] * left"),
+    "negative grains towards minus infinity": (
+        "size = int(Fraction(abs(grains), GRAINS_IN_A_CENT) + Fraction(1, 2))",
+        "return (2 * grains + GRAINS_IN_A_CENT) // (2 * GRAINS_IN_A_CENT)"),
+    "min for the load's unavailable energy": ('unavailable = max(0, (r["O"]', 'unavailable = min(0, (r["O"]'),
+    "later of equal remainders": (
+        "key=remainders.__getitem__, reverse=True", "key=lambda i: (remainders[i], i), reverse=True"),
+    "smallest remainders": ("key=remainders.__getitem__, reverse=True", "key=remainders.__getitem__"),
+    "losses of imports left out": ("records_of(hour, area, GENERATOR, IMPORT)", "records_of(hour, area, GENERATOR)"),
+    "imports counted as generation": (
+        "records_of(hour, area, GENERATOR))", "records_of(hour, area, GENERATOR) + records_of(hour, area, IMPORT))"),
+    "profile loads left out": ("LOADS = (REAL_TIME_LOAD, PROFILE_LOAD)", "LOADS = (REAL_TIME_LOAD,)"),
+    "import's ancillary energy subtracted": ('multiplier(r["H"]) + r["N"]', 'multiplier(r["H"]) - r["N"]'),
+    "export's adjustment added": ('r["S"] - r["A"] - r["J"]', 'r["S"] - r["A"] + r["J"]'),
+    "price of another zone": ('["areas"][area]["zone"]]', '["areas"][area]["zone"] - 1]'),
+    "share of a negative UFE positive": ("[-size if ufe < 0 else size for size in sizes]", "sizes"),
+    "tie out left out": ('ties["in"] - ties["out"]', 'ties["in"]'),
+    "layout before sums": (
+        "    check_sums(blocks)\n    check_layout(blocks)", "    check_layout(blocks)\n    check_sums(blocks)"),
+    "sums without their highest bit": ("sum(block) % 2**32", "sum(block) % 2**31"),
+    "no refusal 6": ("energy != 0 and demand(hour, area) == 0", "False"),
+    "lines short by one": ("min(len(charges), len(lines)) <", "min(len(charges), len(lines) + 1) <"),
+    "shares short by one": ("min(len(shares), len(deviations)) <", "min(len(shares) + 1, len(deviations)) <"),
+    "record count of the next member": ('r["member"] == member for r', 'r["member"] == member + 1 for r'),
+    "an invented record count": ('hour["members"], len(hour["records"]))\n    for', 'hour["members"], 2)\n    for'),
+}
+
+# Every end of every range one too wide, and one too narrow.
+ENDS = {"PRICE": (-1_000_000, 1_000_000), "TIE": (0, 10_000_000), "ENERGY": (0, 100_000),
+        "ADJUSTMENT": (-100_000, 100_000), "MULTIPLIER": (1, 20_000)}
+STEPS = ((-1, 0), (1, 0), (0, 1), (0, -1))
+for name, (low, high) in ENDS.items():
+    line = next(line for line in SECOND.splitlines() if line.startswith(f"{name} = "))
+    for down, up in STEPS:
+        if low != 0 or down >= 0:  # no word is below 0
+            SLIPS[f"{name} {down:+} {up:+}"] = (line + "\n", f"{name} = range({low + down}, {high + up + 1})\n")
+for most in (32, 4, 8):
+    for down, up in STEPS:
+        SLIPS[f"1 to {most} {down:+} {up:+}"] = (f"range(1, {most + 1})", f"range({1 + down}, {most + up + 1})")
+
+
+def slipped(name):
+    """The second program's text with one slip in it."""
+    old, new = SLIPS[name]
+    assert SECOND.count(old) == 1, name
+    return SECOND.replace(old, new)
+
+
+class Noticing(unittest.TestCase):
+    """tests/compare notices a wrong program, and the hours show every slip."""
+
+    def run_compare(self, *words):
+        """tests/compare within this process: its status and what it printed."""
+        said = io.StringIO()
+        with mock.patch.object(sys, "argv", ["compare", *map(str, words)]), contextlib.redirect_stdout(said), \
+                contextlib.redirect_stderr(said):
+            status = compare.main()
+        return status, said.getvalue()
+
+    @contextlib.contextmanager
+    def stand_ins(self, statement, buffers):
+        """A folder with programs `statement` and `buffers` that are these Python texts."""
+        with tempfile.TemporaryDirectory() as folder:
+            for name, text in (("statement", statement), ("buffers", buffers)):
+                program = Path(folder, name)
+                Path(folder, name + ".py").write_text(text)
+                program.write_text(f'#!/bin/sh\nexec "{sys.executable}" "$0.py" {name} "$@"\n')
+                program.chmod(0o755)
+            yield Path(folder)
+
+    def test_right_programs(self):
+        with self.stand_ins(SECOND, SECOND) as folder:
+            status, said = self.run_compare("--hours", 30, "--programs", folder, "--save", folder / "saved")
+            self.assertEqual((status, (folder / "saved").exists()), (0, False), said)
+            self.assertIn("every byte agreed", said)
+            self.assertNotIn("passed", said)
+
+    def test_a_wrong_program(self):
+        wrong = slipped("loads added")
+        for programs in ((wrong, SECOND), (SECOND, wrong)):
+            with self.stand_ins(*programs) as folder:
+                status, said = self.run_compare("--hours", 30, "--programs", folder, "--save", folder / "saved")
+                self.assertEqual(status, 1, said)
+                self.assertIn("---- second program wrote:", said)
+                saved = sorted((folder / "saved").iterdir())
+                self.assertTrue(saved)
+                data = saved[0].read_bytes()
+                self.assertEqual(data, hours.made(1, int(saved[0].stem.split("-")[-1])).data)
+
+    def test_a_program_that_ends_badly(self):
+        for ending in ("\n    sys.exit(3)\n", "\n    print('oh', file=sys.stderr)\n"):
+            with self.stand_ins(SECOND + ending, SECOND) as folder:
+                status, said = self.run_compare("--hours", 2, "--programs", folder, "--save", folder / "saved")
+                self.assertEqual(status, 1, said)
+
+    def test_no_programs(self):
+        with tempfile.TemporaryDirectory() as folder:
+            self.assertEqual(self.run_compare("--programs", folder)[0], 2)
+
+    @staticmethod
+    def without_starting(command, data):
+        """What a right program writes, for tests of many hours."""
+        program, *lengths = command
+        return (second.statement(data) if program.name == "statement"
+                else second.buffers(data, [int(length) for length in lengths]))
+
+    def test_every_refusal_that_can_occur_is_seen_in_500_hours(self):
+        with self.stand_ins("", "") as folder, mock.patch.object(compare, "run", self.without_starting):
+            for seed in range(2):
+                status, said = self.run_compare("--hours", 500, "--seed", seed, "--programs", folder)
+                self.assertEqual(status, 0, said)
+
+    def test_it_says_if_a_refusal_never_occurred(self):
+        only = [hours.honest(hours.few_records)]
+        with self.stand_ins("", "") as folder, mock.patch.object(compare, "run", self.without_starting), \
+                mock.patch.object(hours, "ROUND", only):
+            status, said = self.run_compare("--hours", 500, "--programs", folder)
+            self.assertEqual(status, 1)
+            self.assertIn("never answered in 500 hours: 1, 2, 3, 4, 5, 6\n", said)
+
+    def test_the_hours_show_every_slip(self):
+        cases = [compare.case_of(1, index) for index in range(500)]
+        cases.sort(key=lambda case: len(case.hour.data))  # most slips show in small hours, which are quick
+        for name in SLIPS:
+            wrong = types.ModuleType("wrong")
+            exec(compile(slipped(name), name, "exec"), wrong.__dict__)
+            with self.subTest(name):
+                self.assertTrue(any(wrong.statement(case.hour.data) != case.statement
+                                    or wrong.buffers(case.hour.data, case.lengths) != case.buffers
+                                    for case in cases))
+
+    @unittest.skipUnless(shutil.which("rt"), "asks rt where the kit is")
+    def test_built_programs_run_under_the_emulator_on_arm(self):
+        with tempfile.TemporaryDirectory() as folder:
+            program = Path(folder, "statement")
+            program.write_bytes(b"\x7fELF")
+            with mock.patch("platform.machine", return_value="aarch64"):
+                emulator, loader, option, libraries = compare.words_before(program)
+            self.assertEqual((emulator.name, option), ("qemu-x86_64", "--library-path"))
+            for path in (loader, libraries):
+                self.assertIn("aarch64", str(path))
+            with mock.patch("platform.machine", return_value="x86_64"):
+                self.assertEqual(compare.words_before(program), [])
+            program.write_text("#!/bin/sh\n")
+            with mock.patch("platform.machine", return_value="aarch64"):
+                self.assertEqual(compare.words_before(program), [])
+
+
+class Pages(unittest.TestCase):
+    """The examples and docs/FORMAT.md say what the programs do."""
+
+    @staticmethod
+    def printed(number):
+        """A number as the pages write it."""
+        return f"{number:,}".replace("-", "\u2212")
+
+    def test_examples(self):
+        make = load_script(ROOT / "examples" / "make.py")
+        for name, hour in make.EXAMPLES.items():
+            data = (ROOT / "examples" / f"{name}.hour").read_bytes()
+            page = (ROOT / "examples" / f"{name}.md").read_text()
+            self.assertEqual(data, hour().encode(), "python3 examples/make.py writes the hours")
+            self.assertTrue(page.endswith(f"```\n{second.statement(data).decode()}```\n"), name)
+            settled = second.settle(data, (5, 5, 8, 8))
+            amounts = [amount for amount, _ in settled.lines]
+            for figure in settled.ufe + settled.deviations + settled.shares + amounts + settled.charges:
+                if figure != second.UNTOUCHED:
+                    self.assertIn(self.printed(figure), page, name)
+
+    def test_the_refusal_that_an_example_tells_of(self):
+        hour = load_script(ROOT / "examples" / "make.py").two_zones()
+        hour.areas[2] = [1, 700, 699]
+        self.assertEqual(answer(hour), (6, 2))
+
+    def test_change_a_byte(self):
+        """Each row of the table in examples/printed.md, done to a copy in turn."""
+        page = (ROOT / "examples" / "printed.md").read_text()
+        data = bytearray((ROOT / "examples" / "printed.hour").read_bytes())
+        rows = re.findall(r"\| `printf '\\(\d+)' \\\| dd of=my.hour bs=1 seek=(\d+) .*\| `([^`]*)`", page)
+        self.assertEqual(len(rows), 4)
+        for byte, place, statement in rows:
+            data[int(place)] = int(byte, 8)
+            self.assertEqual(second.statement(bytes(data)).decode().splitlines()[0], statement)
+
+    def test_the_hex_dump(self):
+        page = (ROOT / "docs" / "FORMAT.md").read_text()
+        data = bytearray(int(re.findall(r"^([0-9a-f]{8})$", page, re.M)[0], 16))
+        for place, line in re.findall(r"^([0-9a-f]{8})  (.+)$", page, re.M):
+            at = int(place, 16)
+            data[at:at + 16] = bytes.fromhex(line)
+        self.assertEqual(bytes(data), (ROOT / "examples" / "printed.hour").read_bytes())
+
+    def test_text_amounts_of_the_format(self):
+        page = (ROOT / "docs" / "FORMAT.md").read_text().replace("\u2212", "-")
+        written = re.findall(r"^\| (-?\d+) \| (\d+) \| (?:`(.*?)` )?\| (?:refused (\d+))?", page, re.M)
+        self.assertEqual(len(written), 7)
+        for cents, width, field, refused in written:
+            due = (int(refused), None) if refused else (0, field.encode())
+            self.assertEqual(second.write_amount(int(cents), int(width)), due)
+        read = re.findall(r"^\| `(.*?)` \| (refused 10|-?\d+) \| ", page, re.M)
+        self.assertEqual(len(read), 15)
+        for field, cents in read:
+            due = (10, 0) if cents == "refused 10" else (0, int(cents))
+            self.assertEqual(second.read_amount(field.encode()), due, field)
+
+
+if __name__ == "__main__":
+    unittest.main()
