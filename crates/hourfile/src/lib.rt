@@ -11,12 +11,6 @@ mod refusals;
 
 pub use refusals::examine;
 
-// Where the search of the records stops: at this word of this record, or nowhere.
-pub enum Fault {
-    Word(usize, usize),
-    Nowhere,
-}
-
 // ---- blocks
 
 // Refusal 1: whether the length is not that of 1 to 26 whole blocks.

@@ -12,7 +12,6 @@ ghost use Rattle.rules.specs.Ranges as Ranges;
 ghost use Rattle.rules.specs.Refusals as Refusals;
 ghost use Rattle.rules.specs.Refusals.{foundAt};
 ghost use Rattle.hourfile.specs.Fault.{faultAt};
-use crate::Fault;
 use rules::Answer;
 use rules::Found;
 
@@ -164,7 +163,13 @@ fn bad_head(file: &[u8]) -> Found
 
 // ---- refusal 5: the records
 
-// Record `i`, a part of the file itself: 48 bytes, ten to a block.
+// Where the search stops: at this word of this record, or nowhere.
+enum Fault {
+    Word(usize, usize),
+    Nowhere,
+}
+
+// Record `i`, a part of the file itself: 48 bytes, from byte 544 on; the 32 bytes of a block's own words lie before every ten.
 fn record(file: &[u8], i: usize) -> &[u8]
     requires { ⌜ 592 + 48 * i + 32 * (i / 10) ≤ length (now file) ⌝ }
     ensures { λ r. ⌜ now r ≡ take 48 (drop (544 + 48 * i + 32 * (i / 10)) (now (file .entry))) ⌝ }
