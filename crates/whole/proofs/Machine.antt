@@ -153,9 +153,23 @@ le-no x y s t e =
 pub eq-yes : (x y : Num) → T (good x) → T (good y) → x .rd ≡ y .rd → x .z ≡ y .z
 eq-yes x y s t e = sym (stored x s) ∙ e ∙ stored y t
 
+-- of a number that may be any i64: a test against 0
+pub below-0 : {z : ℤ} → SFits w64 z → ltZ (back z) (pos 0) ≡ true → z <ℤ pos 0
+below-0 {z} f e = ltZ-yes (subst T (sym (ap (λ (x : ℤ). ltZ x (pos 0)) (sym (toZ-ofZ w64 z f)) ∙ e)) tt)
+
+pub from-0 : {z : ℤ} → SFits w64 z → ltZ (back z) (pos 0) ≡ false → pos 0 ≤ℤ z
+from-0 {z} f e = ltZ-no (subst (λ (b : Bool). T (not b)) (sym (ap (λ (x : ℤ). ltZ x (pos 0)) (sym (toZ-ofZ w64 z f)) ∙ e)) tt)
+
 -- a fact of the number that is meant, as one of what is read back
 pub told : (P : ℤ → Type 0) (x : Num) → T (good x) → P (x .z) → P (x .rd)
 told P x t h = subst P (sym (stored x t)) h
+
+-- a sum that is known to fit, of two numbers that fit: its need, and what is read back of it
+pub sum-fits : {a b : ℤ} → SFits w64 a → SFits w64 b → SFits w64 (a +ℤ b) → SFits w64 (back a +ℤ back b)
+sum-fits {a} {b} f g h = rw (toZ-ofZ w64 a f, toZ-ofZ w64 b g) h
+
+pub sum-stored : {a b : ℤ} → SFits w64 a → SFits w64 b → SFits w64 (a +ℤ b) → back (back a +ℤ back b) ≡ a +ℤ b
+sum-stored {a} {b} f g h = rw (toZ-ofZ w64 a f, toZ-ofZ w64 b g) (toZ-ofZ w64 (a +ℤ b) h)
 
 -- what a callee asks of an argument: its range
 pub gives : (n : ℕ) (x : Num) → T (good x) → T (leb (x .k) n) → Under (x .rd) n

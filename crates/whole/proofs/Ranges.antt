@@ -6,11 +6,11 @@ use native.Mathlib.Nat.{le-refl, le-trans, le-of-eq, mul-le-mul}
 use native.Mathlib.Omega.{arith}
 use lib.Dec.{T, ltb, leb, ltb→lt, leb→le}
 use lib.IntN.{ℤ, pos, negsuc, negℤ, natAbs, _+ℤ_, _-ℤ_, _*ℤ_}
-use lib.Signed.{_≤ℤ_}
+use lib.Signed.{_≤ℤ_, _<ℤ_}
 use mir.Syntax.{w64}
 use mir.Val.{SFits}
 use Rattle.whole.specs.Signed.{Under, Upto, maxℤ, minℤ, withSignOf}
-use Rattle.whole.proofs.Linear.{zr, all1, all2, all3, le↑, mul-nonneg, abs-minus, abs-mul}
+use Rattle.whole.proofs.Linear.{zr, all1, all2, all3, le↓, lt↓, le↑, mul-nonneg, abs-minus, abs-mul}
 
 -- ---- −k ≤ z ≤ k
 infixl 6 _u+_ _u-_
@@ -79,6 +79,14 @@ abs-with-sign (negsuc u) n = abs-minus n
 
 pub u-with-sign : (z : ℤ) (n : ℕ) → Under (withSignOf z n) n
 u-with-sign z n = record { under = le-of-eq (abs-with-sign z n) }
+
+pub with-sign-below : (z : ℤ) (n : ℕ) → z <ℤ pos 0 → withSignOf z n ≡ negℤ (pos n)
+with-sign-below (pos u) n l = absurd (omega (arith, lt↓ l))
+with-sign-below (negsuc u) n l = refl
+
+pub with-sign-from-0 : (z : ℤ) (n : ℕ) → pos 0 ≤ℤ z → withSignOf z n ≡ pos n
+with-sign-from-0 (pos u) n l = refl
+with-sign-from-0 (negsuc u) n l = absurd (omega (arith, le↓ l))
 
 -- ---- 0 ≤ z ≤ k
 size-under : (z : ℤ) (k : ℕ) → Upto z k → Under z k

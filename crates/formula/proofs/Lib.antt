@@ -1,0 +1,2 @@
+-- Laws that several proofs of `formula` share.
+pub mod Terms

@@ -1,0 +1,38 @@
+-- `formula::cents::with_sign_of` meets its contract. Assumes nothing.
+use mathlib.Core.Path.{sym, _∙_}
+use native.Mathlib.Omega.{arith}
+use lib.IntN.{pos, +ℤ-idl}
+use Rattle.whole.specs.Signed.{Upto}
+use Rattle.whole.proofs.Ranges.{u-upto, upto-pos, with-sign-below, with-sign-from-0}
+use Rattle.whole.proofs.Machine.{Num, #, at0, local, _:-_, fits, stored, i64-is, below-0, from-0}
+use Rattle.formula.proofs.cents.with_sign_of.Statement.{statement}
+use Rattle.formula.proofs.cents.with_sign_of.Tie as tie
+
+module _ (c : tie.Start) where
+  in-range : Upto (pos (c .args .size)) 9223372036854775807
+  in-range = upto-pos (c .args .size) 9223372036854775807 (omega arith)
+
+  abbrev size : Num
+  size = local (i64-is (c .pre)) (u-upto in-range)
+
+cast-result : tie.Need-cast-result
+cast-result c = fits (at0 (in-range (c .before))) tt
+
+sub-result : tie.Need-sub-result
+sub-result c = fits (# (pos 0) :- size (c .before)) tt
+
+cast-result-2 : tie.Need-cast-result-2
+cast-result-2 c = fits (at0 (in-range (c .before))) tt
+
+returns : tie.Need-returns
+returns c =
+    let s = c .before in
+    stored (# (pos 0) :- size s) tt ∙ +ℤ-idl _ ∙ sym (with-sign-below (s .args .ufe) (s .args .size) (below-0 (s .fits .ufe) (c .if1 .taken)))
+
+returns-2 : tie.Need-returns-2
+returns-2 c =
+    let s = c .before in
+    stored (size s) tt ∙ sym (with-sign-from-0 (s .args .ufe) (s .args .size) (from-0 (s .fits .ufe) (c .if1 .left)))
+
+pub with-sign-of-spec : {M : Type 1} → statement M
+with-sign-of-spec = tie.close (tie.spec cast-result sub-result cast-result-2 returns returns-2)

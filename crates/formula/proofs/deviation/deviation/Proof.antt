@@ -1,0 +1,89 @@
+-- `formula::deviation::deviation` meets its contract: each kind has its formula. Assumes nothing.
+use mathlib.Core.Path.{_≡_, refl, sym, _∙_, ap}
+use lib.IntN.{ℤ}
+use Rattle.whole.proofs.Machine.{result, stored, back}
+use Rattle.rules.specs.declared.Kind.{Kind}
+use Rattle.rules.specs.Record.{Entry}
+use Rattle.rules.specs.Deviation.{deviationAs, deviation}
+use Rattle.rules.specs.Kept.{EntryKept}
+use Rattle.rules.proofs.Bounds.{deviation-under}
+use Rattle.formula.proofs.deviation.deviation.Statement.{statement}
+use Rattle.formula.proofs.deviation.deviation.Tie as tie
+
+-- what the call for the entry's kind gave is the entry's deviation, and it is read back whole
+told : (r : Entry) → EntryKept r → (k : Kind) → r .kind ≡ k → (d : ℤ) → d ≡ deviationAs r k → back d ≡ deviation r
+unfolding deviation
+told r kept k e d f = stored (result (f ∙ sym (ap (deviationAs r) e)) (deviation-under kept)) tt
+
+enum-told : tie.Need-enum-told
+enum-told c = c .match .keys1
+
+generator-deviation-requires : tie.Need-generator-deviation-requires
+generator-deviation-requires c κs = c .before .before .pre
+
+enum-told-2 : tie.Need-enum-told-2
+enum-told-2 c = c .match .keys2
+
+load-deviation-requires : tie.Need-load-deviation-requires
+load-deviation-requires c κs = c .before .before .pre
+
+enum-told-3 : tie.Need-enum-told-3
+enum-told-3 c = c .match .keys3
+
+load-deviation-requires-2 : tie.Need-load-deviation-requires-2
+load-deviation-requires-2 c κs = c .before .before .pre
+
+enum-told-4 : tie.Need-enum-told-4
+enum-told-4 c = c .match .keys4
+
+import-deviation-requires : tie.Need-import-deviation-requires
+import-deviation-requires c κs = c .before .before .pre
+
+enum-told-5 : tie.Need-enum-told-5
+enum-told-5 c = c .match .keys5
+
+export-deviation-requires : tie.Need-export-deviation-requires
+export-deviation-requires c κs = c .before .before .pre
+
+enum-told-6 : tie.Need-enum-told-6
+enum-told-6 c = c .match .keys6
+
+returns : tie.Need-returns
+returns c = told _ (c .before .before .before .pre) _ (c .before .enum-told .given .1) _ (c .generator-deviation .ensures)
+
+returns-2 : tie.Need-returns-2
+returns-2 c = told _ (c .before .before .before .pre) _ (c .before .enum-told2 .given .1) _ (c .load-deviation .ensures)
+
+returns-3 : tie.Need-returns-3
+returns-3 c = told _ (c .before .before .before .pre) _ (c .before .enum-told3 .given .1) _ (c .load-deviation2 .ensures)
+
+returns-4 : tie.Need-returns-4
+returns-4 c = told _ (c .before .before .before .pre) _ (c .before .enum-told4 .given .1) _ (c .import-deviation .ensures)
+
+returns-5 : tie.Need-returns-5
+returns-5 c = told _ (c .before .before .before .pre) _ (c .before .enum-told5 .given .1) _ (c .export-deviation .ensures)
+
+returns-6 : tie.Need-returns-6
+returns-6 c = told _ (c .before .before .pre) _ (c .enum-told6 .given .1) _ refl
+
+pub deviation-spec : {M : Type 1} → statement M
+deviation-spec =
+    tie.close
+    (tie.spec
+    enum-told
+    generator-deviation-requires
+    enum-told-2
+    load-deviation-requires
+    enum-told-3
+    load-deviation-requires-2
+    enum-told-4
+    import-deviation-requires
+    enum-told-5
+    export-deviation-requires
+    enum-told-6
+    returns
+    returns-2
+    returns-3
+    returns-4
+    returns-5
+    returns-6)

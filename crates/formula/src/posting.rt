@@ -1,0 +1,48 @@
+// The hour's tally and a member's line, as values that go in and come back with one record more.
+ghost use mathlib.Core.Path.{_≡_};
+ghost use Rattle.rules.specs.Posting as Posting;
+ghost use Rattle.formula.specs.Room.{TallyRoom, LineRoom};
+use rules::Line;
+use rules::Tally;
+
+pub fn empty_tally() -> Tally
+    ensures { λ t. ⌜ t ≡ Posting.emptyTally ⌝ }
+{
+    Tally {
+        records: 0,
+        demand: [0u64; 8],
+        energy: [0i64; 8],
+    }
+}
+
+// A record of an area, with its demand and its energy, brings the tally up to date.
+pub fn tallied(t: Tally, area: usize, demand: u64, energy: i64) -> Tally
+    requires { ⌜ TallyRoom t area demand energy ⌝ }
+    ensures { λ u. ⌜ u ≡ Posting.tallied t area demand energy ⌝ }
+{
+    let mut next = t;
+    next.records = t.records + 1;
+    next.demand[area] = t.demand[area] + demand;
+    next.energy[area] = t.energy[area] + energy;
+    next
+}
+
+pub fn empty_line() -> Line
+    ensures { λ l. ⌜ l ≡ Posting.emptyLine ⌝ }
+{
+    Line {
+        amount: 0,
+        records: 0,
+    }
+}
+
+// A member's line with one record more, of so many grains.
+pub fn line_with(l: Line, grains: i64) -> Line
+    requires { ⌜ LineRoom l grains ⌝ }
+    ensures { λ m. ⌜ m ≡ Posting.lineWith l grains ⌝ }
+{
+    Line {
+        amount: l.amount + grains,
+        records: l.records + 1,
+    }
+}
