@@ -22,11 +22,11 @@ use Rattle.rules.specs.Promises.{ahead, rankedSize}
 -- ---- the first largest of those that wait
 
 module _ (rem : ℕ → ℕ) (waits : ℕ → Bool) where
-  record FirstLargestAt (m b : ℕ) : Type 0 where
-    there : b < m
-    waiting : waits b ≡ true
-    largest : (j : ℕ) → j < m → waits j ≡ true → rem j ≤ rem b
-    first : (j : ℕ) → j < b → waits j ≡ true → rem j < rem b
+  pub record FirstLargestAt (m b : ℕ) : Type 0 where
+    pub there : b < m
+    pub waiting : waits b ≡ true
+    pub largest : (j : ℕ) → j < m → waits j ≡ true → rem j ≤ rem b
+    pub first : (j : ℕ) → j < b → waits j ≡ true → rem j < rem b
 
   abbrev Chosen : Option ℕ → ℕ → Type 0
   Chosen none m = (j : ℕ) → j < m → waits j ≡ false
@@ -73,8 +73,27 @@ module _ (rem : ℕ → ℕ) (waits : ℕ → Bool) where
   none-waits : (m : ℕ) → firstLargest rem waits m ≡ none → (j : ℕ) → j < m → waits j ≡ false
   none-waits m e = subst (λ (o : Option ℕ). Chosen o m) e (chosen m)
 
-  found : (m b : ℕ) → firstLargest rem waits m ≡ some b → FirstLargestAt m b
+  pub found : (m b : ℕ) → firstLargest rem waits m ≡ some b → FirstLargestAt m b
   found m b e = subst (λ (o : Option ℕ). Chosen o m) e (chosen m)
+
+  -- no other place is so
+  only-one : (m b d : ℕ) → FirstLargestAt m b → FirstLargestAt m d → b ≡ d
+  only-one m b d p q =
+      let x = p .largest d (q .there) (q .waiting) in
+      let y = q .largest b (p .there) (p .waiting) in
+      split (ltb b d)
+      (λ t. let z = q .first b (ltb-true b d t) (p .waiting) in absurd (omega arith))
+      (λ s. let l = ltb-false b d s in split (ltb d b)
+      (λ t. let z = p .first d (ltb-true d b t) (q .waiting) in absurd (omega arith))
+      (λ f. let m = ltb-false d b f in omega arith))
+
+  -- which place is so is which is found
+  pub found-there : (m b : ℕ) → FirstLargestAt m b → firstLargest rem waits m ≡ some b
+  found-there m b p = only (firstLargest rem waits m) (chosen m)
+    where
+      only : (o : Option ℕ) → Chosen o m → o ≡ some b
+      only none c = never (p .waiting) (c b (p .there))
+      only (some d) c = ap some (only-one m d b c p)
 
 -- ---- handing out is by rank
 
@@ -123,6 +142,19 @@ module _ (rem : ℕ → ℕ) (takes : ℕ → Bool) (n : ℕ) where
 pub handing-is-rank : (rem : ℕ → ℕ) (takes : ℕ → Bool) (n k : ℕ) → k ≤ countBelow takes n → (i : ℕ) → i < n →
     handedOut rem takes n k i ≡ (takes i && ltb (countBelow (λ j. takes j && ahead rem j i) n) k)
 handing-is-rank rem takes n k h i l = handed (in-order rem) (handing rem takes n) k h i l
+
+-- So many have one.
+pub handed-count : (rem : ℕ → ℕ) (takes : ℕ → Bool) (n k : ℕ) → k ≤ countBelow takes n → countBelow (handedOut rem takes n k) n ≡ k
+handed-count rem takes n k h = count-ext _ _ n (handing-is-rank rem takes n k h) ∙ count-served (ahead rem) (in-order rem) takes n k h
+
+-- Only the remainders of the n places count.
+pub handed-ext : (rem other : ℕ → ℕ) (takes : ℕ → Bool) (n k : ℕ) → k ≤ countBelow takes n → ((j : ℕ) → j < n → rem j ≡ other j) → (i : ℕ) → i < n →
+    handedOut rem takes n k i ≡ handedOut other takes n k i
+unfolding ahead
+handed-ext rem other takes n k h same i l =
+    handing-is-rank rem takes n k h i l
+    ∙ ap (λ (r : ℕ). takes i && ltb r k) (count-ext _ (λ j. takes j && ahead other j i) n (λ j m. rw (same i l, same j m)))
+    ∙ sym (handing-is-rank other takes n k h i l)
 
 -- ---- whole parts, remainders and units left over
 

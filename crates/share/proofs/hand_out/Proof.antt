@@ -1,0 +1,98 @@
+-- `share::hand_out` meets its contract: after k rounds, k units are handed out. Assumes nothing.
+use mathlib.Core.Path.{_≡_, _∙_, ap}
+use Prim.Native.Nat.{ℕ, _+_, _-_, _≤_, _<_}
+use native.Mathlib.Omega.{arith}
+use lib.ListN.{length}
+use Rattle.share.specs.Steps.{Handed}
+use Rattle.share.proofs.Served.{none-yet, some-place, rests-length, out-length, best-there, grows, handed-one}
+use Rattle.share.proofs.hand_out.Statement.{statement}
+use Rattle.share.proofs.hand_out.Tie as tie
+
+abbrev Inv-loop : tie.InvT-loop
+Inv-loop rests₀ units out₀ k₀ rests out k = (k ≤ units) × Handed rests₀ k out₀ rests out
+
+abbrev μ-loop : tie.MeasureT-loop
+μ-loop rests₀ units out₀ k₀ rests out k = units - k
+
+-- the round's largest remainder has its place, and its size can grow
+module _ (c : tie.After-largest Inv-loop μ-loop) where
+  best-in : c .largest .result < length (c .before .before .before .before .before .before .args .rests .now)
+  best-in =
+      best-there (c .before .before .before .before .before .before .pre) (c .before .before .before .loop .inv .1) (omega arith) (c .largest .result) (c .largest .ensures)
+
+  in-rests : c .largest .result < length (c .before .before .before .loop .rests)
+  in-rests = omega (arith, best-in, rests-length (c .before .before .before .before .before .before .pre) (c .before .before .before .loop .inv .1))
+
+  in-out : c .largest .result < length (c .before .before .before .loop .out)
+  in-out =
+      let start = c .before .before .before .before .before .before in
+      omega (arith, best-in, out-length (start .pre) (c .before .before .before .loop .inv .1), start .pre .room)
+
+loop-holds : tie.Need-loop-holds Inv-loop μ-loop
+loop-holds c = (omega arith, none-yet (c .before .before .pre))
+
+largest-requires : tie.Need-largest-requires Inv-loop μ-loop
+largest-requires c κs = some-place (c .before .before .before .before .before .pre) (c .before .before .loop .inv .1) (omega arith)
+
+mul-rests : tie.Need-mul-rests Inv-loop μ-loop
+mul-rests c = omega (arith, best-in c, c .before .before .before .before .before .before .good .0 .1)
+
+slice-write-rests : tie.Need-slice-write-rests Inv-loop μ-loop
+slice-write-rests c = in-rests c
+
+mul-out : tie.Need-mul-out Inv-loop μ-loop
+mul-out c = mul-rests c
+
+slice-read-out : tie.Need-slice-read-out Inv-loop μ-loop
+slice-read-out c = in-out (c .before)
+
+add-out : tie.Need-add-out Inv-loop μ-loop
+add-out c =
+    let start = c .before .before .before .before .before .before .before in
+    omega (arith, grows (start .pre) (c .before .before .before .before .loop .inv .1) (omega arith) (c .before .largest .result) (c .before .largest .ensures))
+
+slice-write-out : tie.Need-slice-write-out Inv-loop μ-loop
+slice-write-out c = in-out (c .before)
+
+add-k : tie.Need-add-k Inv-loop μ-loop
+add-k c = omega arith
+
+loop-less : tie.Need-loop-less Inv-loop μ-loop
+loop-less c = omega arith
+
+loop-again : tie.Need-loop-again Inv-loop μ-loop
+loop-again c =
+    let start = c .before .before .before .before .before .before .before in
+    (omega arith, handed-one (start .pre) (c .before .before .before .before .loop .inv .1) (omega arith) (c .before .largest .result) (c .before .largest .ensures))
+
+same-length : tie.Need-same-length Inv-loop μ-loop
+same-length c = rests-length (c .before .before .before .before .pre) (c .before .loop .inv .1)
+
+same-length-2 : tie.Need-same-length-2 Inv-loop μ-loop
+same-length-2 c = out-length (c .before .before .before .before .pre) (c .before .loop .inv .1)
+
+returns : tie.Need-returns Inv-loop μ-loop
+returns c =
+    let e : c .before .loop .k ≡ c .before .before .before .before .args .units = omega arith in
+    rw (← e) (c .before .loop .inv .1)
+
+pub hand-out-spec : {M : Type 1} → statement M
+hand-out-spec =
+    tie.close
+    (tie.spec
+    Inv-loop
+    μ-loop
+    loop-holds
+    largest-requires
+    mul-rests
+    slice-write-rests
+    mul-out
+    slice-read-out
+    add-out
+    slice-write-out
+    add-k
+    loop-less
+    loop-again
+    same-length
+    same-length-2
+    returns)
