@@ -1,0 +1,3 @@
+-- The laws behind settling, in the order of the sums.
+pub mod Wide
+pub mod Tallies

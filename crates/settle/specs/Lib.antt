@@ -1,0 +1,3 @@
+-- What the contracts of `settle` cite beside `rules`.
+pub mod Hour
+pub mod Posted

@@ -1,0 +1,3 @@
+// Settling.
+pub mod hour;
+pub mod tally;
