@@ -2,8 +2,6 @@ use mathlib.Core.Path.{_≡_, refl, sym, _∙_, ap}
 use Prim.Native.Nat.{_-_, _≤_}
 use native.Mathlib.Omega.{arith}
 use Rattle.rules.specs.Posting.{tallyAfter}
-use Rattle.rules.proofs.Words.{record-count}
-use Rattle.rules.specs.HourFile.{hourly}
 use Rattle.settle.specs.Hour.{hourIn}
 use Rattle.settle.proofs.tally.tally_of.Statement.{statement}
 use Rattle.settle.proofs.tally.tally_of.Tie as tie
@@ -36,7 +34,6 @@ loop-holds c = (omega arith, c .empty-tally .ensures)
 tally-with-requires : tie.Need-tally-with-requires Inv-loop μ-loop
 tally-with-requires c κs = 
     let start = c .before .before .before .before .before in
-    let e = c .before .before .before .records .ensures ∙ sym (record-count hourly (start .args .file .now)) in
     record { kept = start .pre; there = omega arith; posted = c .before .loop .inv .1 }
 
 -- src/tally.rt:36:9
@@ -55,7 +52,6 @@ loop-again c = (omega arith, c .tally-with .ensures)
 returns : tie.Need-returns Inv-loop μ-loop
 returns c = 
     let start = c .before .before .before .before .before in
-    let e = c .before .before .before .records .ensures ∙ sym (record-count hourly (start .args .file .now)) in
     let all : c .before .loop .i ≡ hourIn (start .args .file .now) .count = omega arith in
     c .before .loop .inv .1 ∙ ap (tallyAfter (hourIn (start .args .file .now))) all
 
