@@ -12,7 +12,7 @@ pub fn size_of(z: i64) -> u64
     if z < 0 { -(z + 1) as u64 + 1 } else { z as u64 }
 }
 
-// The share takes the UFE's sign.
+// A share: its size, with the UFE's sign.
 pub fn with_sign_of(ufe: i64, size: u64) -> i64
     requires { ⌜ size < 9223372036854775808 ⌝ }
     ensures { λ r. ⌜ r ≡ withSignOf ufe size ⌝ }

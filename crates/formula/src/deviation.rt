@@ -64,7 +64,7 @@ pub fn deviation(r: Entry) -> i64
     }
 }
 
-// A deviation as it enters an amount: added for generators and imports, taken off for loads and exports.
+// A deviation, already worked, as it enters an amount: added for generators and imports, taken off for loads and exports.
 pub fn entering(kind: Kind, deviation: i64) -> i64
     requires { ⌜ Under deviation 9000000000 ⌝ }
     ensures { λ e. ⌜ e ≡ enteringAs kind deviation ⌝ }
@@ -85,13 +85,13 @@ pub fn accounted(r: Entry) -> i64
     ensures { λ e. ⌜ e ≡ Posting.accounted (meant r) ⌝ }
 {
     let kind = r.kind;
-    let a = r.a;
-    let h = r.h;
+    let metered = 10000 * r.a;
+    let lost = r.a * (10000 - r.h);
     match kind {
-        Kind::Generator => 10000 * a - a * (10000 - h),
-        Kind::RealTimeLoad => -(10000 * a),
-        Kind::ProfileLoad => -(10000 * a),
-        Kind::Import => -(a * (10000 - h)),
+        Kind::Generator => metered - lost,
+        Kind::RealTimeLoad => -metered,
+        Kind::ProfileLoad => -metered,
+        Kind::Import => -lost,
         Kind::Export => 0,
         Kind::Unknown => 0,
     }

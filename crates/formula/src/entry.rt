@@ -16,7 +16,7 @@ pub struct Entry {
     pub h: i64,
 }
 
-// A record's word 0 as a kind.
+// A record's word 0 as a kind; Unknown where it names none of the five.
 pub fn kind_of(word: u32) -> Kind
     ensures { λ k. ⌜ k ≡ kindOf word ⌝ }
 {

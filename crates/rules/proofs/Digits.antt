@@ -8,7 +8,7 @@ use native.Mathlib.Nat.{not-suc-le-zero, le-of-suc-le-suc, pow-suc, pow-le-pow-r
 use native.Mathlib.Numerals.{add-one}
 use native.Mathlib.Omega.{arith}
 use lib.Dec.{ltb, leb, eqb}
-use lib.ListN.{length, take, drop, getD, length-append}
+use lib.ListN.{length, take, drop, getD, length-append, List·getD-eq-default}
 use lib.Seq.{getD-append-seam, getD-drop, drop-drop, take-suc}
 use borrow.Author.Tests.{ltb-true, ltb-false, leb-true, leb-false, eqb-false, lt-ltb, le-ltb, le-leb, ne-eqb, not-true}
 use Rattle.whole.proofs.Tests.{split, both}
@@ -39,6 +39,16 @@ digits-from s at = rw (← first-byte s at, ← drop-drop 1 at s) (first-digit (
     first-digit : (t : List ℕ) → digitCount t ≡ cond (isDigit (getD t 0 0)) (suc (digitCount (drop 1 t))) 0
     first-digit [] = refl
     first-digit (c ∷ t) = refl
+
+pub value-more : (s : List ℕ) (at n : ℕ) → digitsValue (drop at s) (n + 1) ≡ 10 * digitsValue (drop at s) n + (getD s (at + n) 0 - 48)
+unfolding digitsValue
+value-more s at n = rw (add-one n, ← getD-drop at s n 0)
+
+-- what is no 0 stands before the end
+pub stands : (s : List ℕ) (at : ℕ) → (getD s at 0 ≡ 0 → ⊥) → at < length s
+stands s at f = split (ltb at (length s))
+    (λ t. ltb-true at (length s) t)
+    (λ t. absurd (f (List·getD-eq-default s 0 (ltb-false at (length s) t))))
 
 -- ---- the digits of a number: one, or those of a number that isn't 0 and one more
 
@@ -192,6 +202,24 @@ decimal-at-most-20 n = no-more-than-room 20 n
 pub decimal-at-least-1 : (n : ℕ) → 1 ≤ length (decimal n)
 unfolding decimal digitsUpTo
 decimal-at-least-1 n = rw length-append (omega arith)
+
+-- the digits from the right, while nothing but the last is left and while there is more
+pub decimal-last : (n : ℕ) → n / 10 ≡ 0 → decimal n ≡ digitByte (n % 10) ∷ []
+unfolding decimal
+decimal-last n e = rw (digits-last 19 n (omega arith), small)
+  where
+    small : n % 10 ≡ n
+    small = omega arith
+
+pub decimal-more : (n : ℕ) → n < 10 ^ 20 → (n / 10 ≡ 0 → ⊥) → decimal n ≡ decimal (n / 10) ++ digitByte (n % 10) ∷ []
+unfolding decimal
+decimal-more n h f = rw (digits-more 19 n (omega arith), room-changes-nothing 19 20 (n / 10) (omega arith) (omega arith) (omega arith) (omega arith))
+
+pub decimal-length-last : (n : ℕ) → n / 10 ≡ 0 → length (decimal n) ≡ 1
+decimal-length-last n e = rw (decimal-last n e)
+
+pub decimal-length-more : (n : ℕ) → n < 10 ^ 20 → (n / 10 ≡ 0 → ⊥) → length (decimal n) ≡ length (decimal (n / 10)) + 1
+decimal-length-more n h f = rw (decimal-more n h f) (length-append (decimal (n / 10)) (digitByte (n % 10) ∷ []))
 
 -- a number below 10^(k + 1) has at most k + 1 digits
 pub decimal-length-at-most : (n k : ℕ) → n < 10 ^ suc k → length (decimal n) ≤ suc k

@@ -147,14 +147,13 @@ handing-is-rank rem takes n k h i l = handed (in-order rem) (handing rem takes n
 pub handed-count : (rem : ℕ → ℕ) (takes : ℕ → Bool) (n k : ℕ) → k ≤ countBelow takes n → countBelow (handedOut rem takes n k) n ≡ k
 handed-count rem takes n k h = count-ext _ _ n (handing-is-rank rem takes n k h) ∙ count-served (ahead rem) (in-order rem) takes n k h
 
--- Only the remainders of the n places count.
-pub handed-ext : (rem other : ℕ → ℕ) (takes : ℕ → Bool) (n k : ℕ) → k ≤ countBelow takes n → ((j : ℕ) → j < n → rem j ≡ other j) → (i : ℕ) → i < n →
-    handedOut rem takes n k i ≡ handedOut other takes n k i
-unfolding ahead
-handed-ext rem other takes n k h same i l =
+-- Who has one depends on the remainders below n alone.
+pub handed-ext : (rem rem′ : ℕ → ℕ) (takes : ℕ → Bool) (n k : ℕ) → k ≤ countBelow takes n → ((j : ℕ) → j < n → rem j ≡ rem′ j) → (i : ℕ) → i < n →
+    handedOut rem takes n k i ≡ handedOut rem′ takes n k i
+handed-ext rem rem′ takes n k h same i l =
     handing-is-rank rem takes n k h i l
-    ∙ ap (λ (r : ℕ). takes i && ltb r k) (count-ext _ (λ j. takes j && ahead other j i) n (λ j m. rw (same i l, same j m)))
-    ∙ sym (handing-is-rank other takes n k h i l)
+    ∙ ap (λ (r : ℕ). takes i && ltb r k) (count-ext _ _ n (λ j m. ap (λ (b : Bool). takes j && b) (same-ahead rem rem′ j i (same j m) (same i l))))
+    ∙ sym (handing-is-rank rem′ takes n k h i l)
 
 -- ---- whole parts, remainders and units left over
 

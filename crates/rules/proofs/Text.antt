@@ -35,7 +35,7 @@ text-by-parts z d w e l = rw (dollars, tens, ones)
     ones : natAbs z % 10 ≡ w % 10
     ones = omega arith
 
-text-length : (z : ℤ) → length (amountText z) ≡ length (decimal (natAbs z / 100)) + 4
+pub text-length : (z : ℤ) → length (amountText z) ≡ length (decimal (natAbs z / 100)) + 4
 unfolding amountText
 text-length z = rw length-append (omega arith)
 

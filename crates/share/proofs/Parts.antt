@@ -2,7 +2,7 @@
 use mathlib.Core.Path.{_≡_, refl, sym, _∙_, ap, ap₂}
 use mathlib.Core.List.{List}
 use Prim.Native.Nat.{ℕ, _+_, _-_, _*_, _/_, _%_, _≤_, _<_}
-use native.Mathlib.Nat.{le-refl}
+use native.Mathlib.Nat.{div-le-self}
 use native.Mathlib.Omega.{arith}
 use lib.ListN.{length}
 use Rattle.whole.specs.Below.{sumBelow}
@@ -10,33 +10,34 @@ use Rattle.whole.proofs.Sums.{sum-add-one, sum-prefix}
 use Rattle.rules.specs.Share.{allDemand, wholePart, remainder, unitsLeft}
 use Rattle.rules.proofs.Shares.{whole-parts-and-left}
 use Rattle.share.specs.Shareable.{at, everyone, demanded}
-use Rattle.share.specs.Steps.{Dividing}
+use Rattle.share.specs.Steps.{Dividing, wholeOf, restOf, leftOf}
 
-pub demanded-is : (l : List ℕ) → demanded l ≡ sumBelow (at l) (length l)
+pub demanded-is : (demands : List ℕ) → demanded demands ≡ sumBelow (at demands) (length demands)
 unfolding allDemand
-demanded-is l = refl
+demanded-is demands = refl
 
-module _ {l : List ℕ} {size t : ℕ} {rests out : List ℕ} (d : Dividing l size t rests out) where
-  abbrev W : ℕ → ℕ
-  W = wholePart everyone (at l) (length l) size
+module _ {demands : List ℕ} {size t : ℕ} {rests out : List ℕ} (d : Dividing demands size t rests out) where
+  pub some-demand : 0 < demanded demands
+  some-demand = omega (arith, d .sum-is, d .some)
 
-  pub whole-is : (i : ℕ) → at l i * size / t ≡ W i
+  pub whole-is : (i : ℕ) → at demands i * size / t ≡ wholeOf demands size i
   unfolding wholePart
   whole-is i = rw (d .sum-is)
 
-  pub rest-is : (i : ℕ) → at l i * size % t ≡ remainder everyone (at l) (length l) size i
+  pub rest-is : (i : ℕ) → at demands i * size % t ≡ restOf demands size i
   unfolding remainder
   rest-is i = rw (d .sum-is)
 
+  pub whole-small : (i : ℕ) → i < length demands → wholeOf demands size i < 10000000000000000000
+  whole-small i l = rw (← whole-is i) (omega (arith, div-le-self (at demands i * size) t, d .products-fit i l))
+
   -- the whole parts of the first demands, and of all
-  pub handed-within : (i : ℕ) → i ≤ length l → sumBelow W i ≤ size
-  handed-within i h =
-      let some : 0 < demanded l = omega (arith, d .sum-is, d .some) in
-      omega (arith, sum-prefix W i (length l) h, whole-parts-and-left everyone (at l) (length l) size some)
+  pub handed-within : (i : ℕ) → i ≤ length demands → sumBelow (wholeOf demands size) i ≤ size
+  handed-within i h = omega (arith, sum-prefix (wholeOf demands size) i (length demands) h, whole-parts-and-left everyone (at demands) (length demands) size some-demand)
 
-  pub handed-more : (i handed : ℕ) → handed ≡ sumBelow W i → handed + at l i * size / t ≡ sumBelow W (i + 1)
-  handed-more i handed e = ap₂ (λ (a b : ℕ). a + b) e (whole-is i) ∙ sym (sum-add-one W i)
+  pub handed-more : (i handed : ℕ) → handed ≡ sumBelow (wholeOf demands size) i → handed + at demands i * size / t ≡ sumBelow (wholeOf demands size) (i + 1)
+  handed-more i handed e = ap₂ (λ (a b : ℕ). a + b) e (whole-is i) ∙ sym (sum-add-one (wholeOf demands size) i)
 
-  pub handed-all : (i handed : ℕ) → i ≡ length l → handed ≡ sumBelow W i → size - handed ≡ unitsLeft everyone (at l) (length l) size
+  pub handed-all : (i handed : ℕ) → i ≡ length demands → handed ≡ sumBelow (wholeOf demands size) i → size - handed ≡ leftOf demands size
   unfolding unitsLeft
-  handed-all i handed e h = ap (λ (x : ℕ). size - x) (h ∙ ap (sumBelow W) e)
+  handed-all i handed e h = ap (λ (x : ℕ). size - x) (h ∙ ap (sumBelow (wholeOf demands size)) e)

@@ -1,71 +1,24 @@
 -- Units handed out over held remainders: a remainder becomes 0 once it is served, so the first largest number is the first largest of
 -- those that wait, as long as a remainder above 0 waits.
 use mathlib.Core.Path.{_≡_, refl, sym, _∙_, ap}
-use mathlib.Core.Bool.{Bool, true, false, cond, not, _&&_, _||_, or-false}
+use mathlib.Core.Bool.{Bool, true, false, cond, not, _&&_, _||_, or-true, or-false}
 use mathlib.Core.Option.{some}
 use mathlib.Core.List.{List}
-use Prim.Native.Nat.{ℕ, _+_, _-_, _≤_, _<_, zero-le}
-use native.Mathlib.Nat.{le-refl, le-of-lt, add-zero}
+use Prim.Native.Nat.{ℕ, _+_, _<_}
+use native.Mathlib.Nat.{le-refl, add-zero}
 use native.Mathlib.Numerals.{add-one}
 use native.Mathlib.Omega.{arith}
 use lib.Dec.{ltb, eqb}
 use lib.ListN.{length, set}
-use borrow.Author.Tests.{ltb-true, eqb-true, eqb-false, not-true}
-use Rattle.whole.specs.Below.{oneIf, countBelow, replacingFirst}
+use borrow.Author.Tests.{ltb-true, eqb-true, eqb-false, eq-eqb, ne-eqb, not-true}
+use Rattle.whole.specs.Below.{oneIf, countBelow}
 use Rattle.whole.proofs.Tests.{split}
 use Rattle.whole.proofs.Sums.{count-mono, count-most, all-count}
-use Rattle.whole.proofs.Buffers.{replacing-set, replacing-same, getD-replacing, length-replacing}
+use Rattle.whole.proofs.Buffers.{replacing-changed, replacing-same, replacing-ext, getD-replacing, length-replacing}
 use Rattle.rules.specs.Share.{firstLargest, isAt, handedOut}
 use Rattle.rules.proofs.Shares.{FirstLargestAt, found, found-there, handed-count}
 use Rattle.share.specs.Shareable.{at, everyone}
 use Rattle.share.specs.Steps.{Handing, Handed, has}
-
--- ---- the search for the first largest, from the last place down
-
--- of the places from i on, b has the first largest number
-pub record LargestFrom (f : ℕ → ℕ) (n i b : ℕ) : Type 0 where
-  pub from : i ≤ b
-  pub there : b < n
-  pub largest : (j : ℕ) → i ≤ j → j < n → f j ≤ f b
-  pub first : (j : ℕ) → i ≤ j → j < b → f j < f b
-
-here-or-past {ℓ} : {X : Type ℓ} (i j : ℕ) → i - 1 ≤ j → (j ≡ i - 1 → X) → (i ≤ j → X) → X
-here-or-past i j l here past = split (eqb j (i - 1)) (λ t. here (eqb-true j (i - 1) t)) (λ t. past (omega (arith, eqb-false j (i - 1) t)))
-
-module _ (f : ℕ → ℕ) (n : ℕ) where
-  pub begins : 0 < n → LargestFrom f n (n - 1) (n - 1)
-  begins h = record {
-    from = omega arith;
-    there = omega arith;
-    largest = λ j l m. let e : j ≡ n - 1 = omega arith in rw e (le-refl (f (n - 1)));
-    first = λ j l m. absurd (omega arith);
-  }
-
-  module _ (i b : ℕ) (h : 0 < i) (c : LargestFrom f n i b) where
-    -- one place further: it is as large, or less
-    pub taken : f b ≤ f (i - 1) → LargestFrom f n (i - 1) (i - 1)
-    taken t = record {
-      from = omega arith;
-      there = omega (arith, c .from, c .there);
-      largest = λ j l m. here-or-past i j l (λ e. rw e (le-refl (f (i - 1)))) (λ k. omega (arith, c .largest j k m));
-      first = λ j l m. absurd (omega arith);
-    }
-
-    pub left : f (i - 1) < f b → LargestFrom f n (i - 1) b
-    left t = record {
-      from = omega (arith, c .from);
-      there = c .there;
-      largest = λ j l m. here-or-past i j l (λ e. rw e (le-of-lt t)) (λ k. c .largest j k m);
-      first = λ j l m. here-or-past i j l (λ e. rw e t) (λ k. c .first j k m);
-    }
-
-  pub found-at : (b : ℕ) → LargestFrom f n 0 b → firstLargest f everyone n ≡ some b
-  found-at b c = found-there f everyone n b (record {
-    there = c .there;
-    waiting = refl;
-    largest = λ j l w. c .largest j zero-le l;
-    first = λ j l w. c .first j zero-le l;
-  })
 
 -- ---- one round
 
@@ -108,12 +61,6 @@ module _ (rem : ℕ → ℕ) (n k : ℕ) (more : k < countBelow (λ i. ltb 0 (re
 
 -- ---- a round in the buffers
 
-served-or : (x y : Bool) (v : ℕ) → cond (x || y) 0 v ≡ cond y 0 (cond x 0 v)
-served-or true true v = refl
-served-or true false v = refl
-served-or false true v = refl
-served-or false false v = refl
-
 module _ {rests₀ : List ℕ} {units : ℕ} {out₀ : List ℕ} (h : Handing rests₀ units out₀) where
   abbrev n : ℕ
   n = length rests₀
@@ -136,35 +83,40 @@ module _ {rests₀ : List ℕ} {units : ℕ} {out₀ : List ℕ} (h : Handing re
     pub some-place : k < units → 0 < length rests
     some-place less = omega (arith, rests-length, h .few, count-most (λ i. ltb 0 (at rests₀ i)) n)
 
-    module _ (less : k < units) (b : ℕ) (e : firstLargest (at rests) everyone (length rests) ≡ some b) where
-      some-left : k < countBelow (λ i. ltb 0 (at rests₀ i)) n
-      some-left = omega (arith, h .few)
-
-      held : (i : ℕ) → i < n → at rests i ≡ cond (has rests₀ k i) 0 (at rests₀ i)
-      held i l = rw (d .served) (getD-replacing _ n rests₀ i 0 l)
-
+    module _ (b : ℕ) (e : firstLargest (at rests) everyone (length rests) ≡ some b) where
       among : firstLargest (at rests) everyone n ≡ some b
       among = rw rests-length at e
 
       pub best-there : b < n
       best-there = found (at rests) everyone n b among .there
 
-      unserved-best : has rests₀ k b ≡ false
-      unserved-best = unserved (at rests₀) n k some-left (at rests) held b among
+      module _ (less : k < units) where
+        some-left : k < countBelow (λ i. ltb 0 (at rests₀ i)) n
+        some-left = omega (arith, h .few)
 
-      size-there : at out b ≡ at out₀ b
-      size-there = rw (d .grown) (getD-replacing _ n out₀ b 0 best-there ∙ rw unserved-best (omega arith))
+        held : (i : ℕ) → i < n → at rests i ≡ cond (has rests₀ k i) 0 (at rests₀ i)
+        held i l = rw (d .served) (getD-replacing _ n rests₀ i 0 l)
 
-      pub grows : at out b + 1 < 18446744073709551616
-      grows = omega (arith, size-there, h .grow b best-there)
+        unserved-best : has rests₀ k b ≡ false
+        unserved-best = unserved (at rests₀) n k some-left (at rests) held b among
 
-      pub handed-one : Handed rests₀ (k + 1) out₀ (set rests b 0) (set out b (at out b + 1))
-      handed-one = record {
-        served = rw (d .served) (replacing-set _ _ n b 0 best-there (λ i l. rw (one-more (at rests₀) n k some-left (at rests) held b among i) (served-or (has rests₀ k i) (eqb i b) (at rests₀ i))) rests₀);
-        grown = rw size-there (rw (d .grown) (replacing-set _ _ n b (at out₀ b + 1) best-there (λ i l. rw (one-more (at rests₀) n k some-left (at rests) held b among i) (grown-or i)) out₀));
-      }
-        where
-          grown-or : (i : ℕ) → at out₀ i + oneIf (has rests₀ k i || eqb i b) ≡ cond (eqb i b) (at out₀ b + 1) (at out₀ i + oneIf (has rests₀ k i))
-          grown-or i = split (eqb i b)
-              (λ t. rw t (rw (eqb-true i b t, unserved-best)))
-              (λ f. rw (f, or-false))
+        -- it alone is served now
+        itself : (i : ℕ) → eqb b i ≡ true → (has rests₀ k i ≡ false) × (has rests₀ (k + 1) i ≡ true)
+        itself i t = let e : b ≡ i = eqb-true b i t in
+            (rw (← e) unserved-best, one-more (at rests₀) n k some-left (at rests) held b among i ∙ rw (eq-eqb i b (sym e)) (or-true (has rests₀ k i)))
+
+        others : (i : ℕ) → eqb b i ≡ false → has rests₀ (k + 1) i ≡ has rests₀ k i
+        others i f = one-more (at rests₀) n k some-left (at rests) held b among i ∙ rw (ne-eqb i b (λ e. eqb-false b i f (sym e))) (or-false (has rests₀ k i))
+
+        pub grows : at out b + 1 < 18446744073709551616
+        grows =
+            let e : at out b ≡ at out₀ b + oneIf (has rests₀ k b) = rw (d .grown) (getD-replacing _ n out₀ b 0 best-there) in
+            omega (arith, rw unserved-best at e, h .grow b best-there)
+
+        pub handed-one : Handed rests₀ (k + 1) out₀ (set rests b 0) (set out b (at out b + 1))
+        handed-one = record {
+          served = rw (d .served) (replacing-changed (λ x. 0) _ n rests₀ b 0 best-there ∙ replacing-ext _ _ n rests₀ (λ i l.
+              split (eqb b i) (λ t. rw (t, itself i t .1)) (λ f. rw (f, others i f))));
+          grown = rw (d .grown) (replacing-changed (λ x. x + 1) _ n out₀ b 0 best-there ∙ replacing-ext _ _ n out₀ (λ i l.
+              split (eqb b i) (λ t. rw (t, itself i t .0, itself i t .1) (omega arith)) (λ f. rw (f, others i f))));
+        }

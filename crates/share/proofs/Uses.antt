@@ -1,12 +1,17 @@
--- Both uses of the engine are within what it asks, and no second result meets its contract.
+-- Both uses of the engine are within what it asks; its promise where only some take part; no second result meets it.
 use mathlib.Core.Path.{_≡_, sym, _∙_}
+use mathlib.Core.Bool.{Bool, cond}
 use mathlib.Core.List.{List}
 use Prim.Native.Nat.{ℕ, _*_, _≤_, _<_}
 use native.Mathlib.Nat.{mul-le-mul}
 use native.Mathlib.Omega.{arith}
 use lib.ListN.{length}
+use Rattle.whole.specs.Below.{replacingFirst}
 use Rattle.whole.proofs.Sums.{sum-mono, sum-const, sum-at}
-use Rattle.share.specs.Shareable.{at, demanded, Shareable, sharesIn}
+use Rattle.whole.proofs.Buffers.{replacing-ext}
+use Rattle.rules.specs.Share.{shareSize}
+use Rattle.rules.proofs.Shares.{size-ext}
+use Rattle.share.specs.Shareable.{at, everyone, demanded, Shareable, sharesIn}
 use Rattle.share.proofs.Parts.{demanded-is}
 
 -- a product of two bounded numbers
@@ -35,3 +40,10 @@ module _ (demands : List ℕ) (size : ℕ) (out : List ℕ) (room : length deman
 -- No second result meets what `shares` promises of its buffer.
 pub one-result : (demands : List ℕ) (size : ℕ) (out a b : List ℕ) → a ≡ sharesIn demands size out → b ≡ sharesIn demands size out → a ≡ b
 one-result demands size out a b p q = p ∙ sym q
+
+-- Where demands of 0 stand for those who take no part, the shares are those of the others.
+pub shares-of-takers : (takes : ℕ → Bool) (D : ℕ → ℕ) (demands : List ℕ) (size : ℕ) (out : List ℕ) →
+    ((i : ℕ) → i < length demands → at demands i ≡ cond (takes i) (D i) 0) →
+    sharesIn demands size out ≡ replacingFirst (shareSize takes D (length demands) size) (length demands) out
+shares-of-takers takes D demands size out zeros =
+    replacing-ext _ _ (length demands) out (size-ext everyone takes (at demands) D (length demands) zeros size)

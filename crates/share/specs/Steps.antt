@@ -19,11 +19,21 @@ pub record Dividing (demands : List ℕ) (size t : ℕ) (rests out : List ℕ) :
   pub places : length rests ≡ length demands
   pub room : length demands ≤ length out
 
+-- a demand's whole part, its remainder, and the units left over
+abbrev pub wholeOf : List ℕ → ℕ → ℕ → ℕ
+wholeOf demands size = wholePart everyone (at demands) (length demands) size
+
+abbrev pub restOf : List ℕ → ℕ → ℕ → ℕ
+restOf demands size = remainder everyone (at demands) (length demands) size
+
+abbrev pub leftOf : List ℕ → ℕ → ℕ
+leftOf demands size = unitsLeft everyone (at demands) (length demands) size
+
 -- each whole part in `out`, each remainder in `rests`, and how many units are left over
 pub record Divided (demands : List ℕ) (size : ℕ) (rests₀ out₀ : List ℕ) (units : ℕ) (rests out : List ℕ) : Type 0 where
-  pub left-over : units ≡ unitsLeft everyone (at demands) (length demands) size
-  pub remainders : rests ≡ replacingFirst (remainder everyone (at demands) (length demands) size) (length demands) rests₀
-  pub whole-parts : out ≡ replacingFirst (wholePart everyone (at demands) (length demands) size) (length demands) out₀
+  pub left-over : units ≡ leftOf demands size
+  pub remainders : rests ≡ replacingFirst (restOf demands size) (length demands) rests₀
+  pub whole-parts : out ≡ replacingFirst (wholeOf demands size) (length demands) out₀
 
 -- ---- handing out
 

@@ -41,8 +41,8 @@ fn divide(demands: &[u64], size: u64, t: u64, rests: &mut [u64], out: &mut [u64]
     size - handed
 }
 
-// The place of the largest remainder, of equal ones the first. It goes from the last place down, which takes the fewest instructions:
-// an equal remainder further up the list takes the place of the one found.
+// The place of the largest remainder, of equal ones the first. It goes from the last place down, which takes the fewest instructions,
+// so an equal remainder at an earlier place replaces the one found.
 fn largest(rests: &[u64]) -> usize
     requires { ⌜ 0 < length (now rests) ⌝ }
     ensures { λ r. ⌜ firstLargest (at (now (rests .entry))) everyone (length (now (rests .entry))) ≡ some r ⌝ }

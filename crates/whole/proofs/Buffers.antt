@@ -8,7 +8,7 @@ use native.Mathlib.Numerals.{add-one}
 use native.Mathlib.Omega.{arith}
 use lib.Dec.{ltb, eqb}
 use lib.ListN.{length, take, drop, getD, set, length-append, length-drop, length-set, List·getD-append}
-use lib.Seq.{drop-length, drop-cons, drop-at, take-at, set-at, getD-at, getD-drop, append-snoc, getD-set-same, getD-set-other, set-append-left, ext-getD}
+use lib.Seq.{drop-length, drop-cons, drop-at, take-at, set-at, getD-at, getD-drop, append-snoc, set-append-left, getD-set-same, getD-set-other, ext-getD}
 use borrow.Author.Tests.{ltb-true, ltb-false, eqb-true, eqb-false}
 use Rattle.whole.specs.Below.{valuesBelow, replacingFirst}
 use Rattle.whole.proofs.Tests.{split, last-or-below}
@@ -89,29 +89,7 @@ module _ {ℓ} {A : Type ℓ} (f : ℕ → A) where
   -- the first n places are replaced again
   pub replacing-twice : (g : ℕ → A) (n : ℕ) (old : List A) → replacingFirst g n (replacingFirst f n old) ≡ replacingFirst g n old
   unfolding replacingFirst
-  replacing-twice g n old = ap (λ (l : List A). valuesBelow g n ++ l) (drop-at (valuesBelow f n) (drop n old) n (length-values n))
-
--- a place after one was set
-pub getD-set {ℓ} : {A : Type ℓ} (l : List A) (b i : ℕ) (v d : A) → i < length l → getD (set l b v) i d ≡ cond (eqb i b) v (getD l i d)
-getD-set l b i v d h = split (eqb i b)
-    (λ t. rw t (rw (← eqb-true i b t) (getD-set-same l i v d h)))
-    (λ f. rw f (getD-set-other l b i v d (eqb-false i b f)))
-
--- one of the first n places is written again
-module _ {ℓ} {A : Type ℓ} (f g : ℕ → A) (n b : ℕ) (v : A) (h : b < n) (differ : (i : ℕ) → i < n → g i ≡ cond (eqb i b) v (f i)) where
-  values-set : set (valuesBelow f n) b v ≡ valuesBelow g n
-  values-set =
-      let m = length-values f n in
-      let e = length-set (valuesBelow f n) b v in
-      ext-getD v _ _ (e ∙ m ∙ sym (length-values g n)) (λ i l.
-      let k : i < n = omega arith in
-      getD-set (valuesBelow f n) b i v v (omega arith) ∙ ap (cond (eqb i b) v) (getD-values f n i v k) ∙ sym (getD-values g n i v k ∙ differ i k))
-
-  pub replacing-set : (old : List A) → set (replacingFirst f n old) b v ≡ replacingFirst g n old
-  unfolding replacingFirst
-  replacing-set old =
-      let m = length-values f n in
-      set-append-left (valuesBelow f n) (drop n old) b v (omega arith) ∙ ap (λ (l : List A). l ++ drop n old) values-set
+  replacing-twice g n old = ap (λ (l : List A). valuesBelow g n ++ l) (drop-replacing n old)
 
 -- ---- one place changed to g of what it held: what the places then hold
 module _ {ℓ} {A : Type ℓ} where

@@ -6,6 +6,7 @@ pub mod Sums
 pub mod Totals
 pub mod Search
 pub mod Buffers
+pub mod Stores
 pub mod Division
 pub mod Rank
 pub mod Handing

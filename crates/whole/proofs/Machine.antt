@@ -4,18 +4,22 @@
 --     kept           what is read back of a stored result, which is the result since k is below 2 ^ 63
 --     Num            an expression of the code, with all that: `at (c .pre .a-in) :* at0 (c .pre .b-in)`
 --     fits, stored   of a `Num`: the need of the operation that makes it, and that what is stored is the number meant
+--     OneLess        what is computed of the size of any number below zero, also of the least, which no `Num` is
 use mathlib.Core.Path.{_≡_, refl, sym, _∙_, ap, ap₂, subst}
-use Prim.Native.Nat.{ℕ, _+_, _*_, _<_, _≤_}
+use Prim.Native.Nat.{ℕ, suc, _+_, _-_, _*_, _<_, _≤_}
 use mathlib.Core.Bool.{Bool, true, false, not, _&&_}
+use native.Mathlib.Numerals.{add-one}
 use native.Mathlib.Omega.{arith}
 use lib.Dec.{T, leb, ltb, ltb→lt}
 use lib.Signed.{_≤ℤ_, _<ℤ_, ltZ, leZ, ltZ-yes, ltZ-no, leZ-yes, quotZ, remZ, nonNeg, yes-nonNeg}
-use lib.IntN.{ℤ, pos, natAbs, _+ℤ_, _-ℤ_, _*ℤ_}
+use lib.IntN.{ℤ, pos, negsuc, natAbs, _+ℤ_, _-ℤ_, _*ℤ_}
 use mir.Syntax.{w64}
 use mir.Val.{Fits, SFits, toZ, ofZ}
 use mir.ValLaws.{toZ-ofZ, toZ-pos}
 use mir.Facts.{and-yes}
 use Rattle.whole.specs.Signed.{Under, Upto}
+use borrow.Author.Tests.{ltb-true, le-ltb}
+use Rattle.whole.proofs.Tests.{never}
 use Rattle.whole.proofs.Linear.{leZ-no}
 use Rattle.whole.proofs.Ranges.{_u+_, _u-_, _u*_, u-lit, u-upto, u-fits, u-more}
 use Rattle.whole.proofs.Division.{quot-under, rem-under}
@@ -153,7 +157,10 @@ le-no x y s t e =
 pub eq-yes : (x y : Num) → T (good x) → T (good y) → x .rd ≡ y .rd → x .z ≡ y .z
 eq-yes x y s t e = sym (stored x s) ∙ e ∙ stored y t
 
--- of a number that may be any i64: a test against 0
+-- of numbers that may be any i64: a test of two, and against 0
+pub le-same : {a b : ℤ} → SFits w64 a → SFits w64 b → leZ a b ≡ leZ (back a) (back b)
+le-same {a} {b} f g = sym (ap₂ leZ (toZ-ofZ w64 a f) (toZ-ofZ w64 b g))
+
 pub below-0 : {z : ℤ} → SFits w64 z → ltZ (back z) (pos 0) ≡ true → z <ℤ pos 0
 below-0 {z} f e = ltZ-yes (subst T (sym (ap (λ (x : ℤ). ltZ x (pos 0)) (sym (toZ-ofZ w64 z f)) ∙ e)) tt)
 
@@ -193,3 +200,38 @@ u64-is x t = ap natAbs (stored x t)
 -- what `n as i64` reads back as
 pub i64-is : {n : ℕ} → n < 9223372036854775808 → toZ w64 n ≡ pos n
 i64-is {n} h = toZ-pos w64 n h
+
+-- ---- the size of any signed number of 64 bits: below zero it is one more than −1 − z
+pub read-back : {z : ℤ} → SFits w64 z → back z ≡ z
+read-back {z} f = toZ-ofZ w64 z f
+
+pub record OneLess (z : ℤ) : Type 0 where
+  pub less-fits : SFits w64 (negsuc 0 -ℤ back z)
+  pub casts : T (nonNeg (back (negsuc 0 -ℤ back z))) × Fits w64 (natAbs (back (negsuc 0 -ℤ back z)))
+  pub size-is : natAbs (back (negsuc 0 -ℤ back z)) + 1 ≡ natAbs z
+  pub size-fits : Fits w64 (natAbs z)
+
+minus-one : (n : ℕ) → negsuc 0 -ℤ negsuc n ≡ pos n
+minus-one n = rw (le-ltb (suc n) 1 (omega arith)) (ap pos last)
+  where
+    last : suc n - 1 ≡ n
+    last = omega arith
+
+pub one-less : (z : ℤ) → SFits w64 z → ltZ (back z) (pos 0) ≡ true → OneLess z
+one-less (pos n) f t = absurd (let l : n < 0 = ltb-true n 0 (rw (read-back f) at t) in omega arith)
+one-less (negsuc n) f t = record {
+  less-fits = rw (read-back f, minus-one n) g;
+  casts = rw less (tt, record { fits = omega (arith, f .sfits) });
+  size-is = rw less (add-one n);
+  size-fits = record { fits = omega (arith, f .sfits) };
+}
+  where
+    g : SFits w64 (pos n)
+    g = record { sfits = f .sfits }
+
+    less : back (negsuc 0 -ℤ back (negsuc n)) ≡ pos n
+    less = rw (read-back f, minus-one n, read-back g)
+
+pub none-less : (z : ℤ) → SFits w64 z → ltZ (back z) (pos 0) ≡ false → T (nonNeg (back z)) × Fits w64 (natAbs (back z))
+none-less (pos n) f t = rw (read-back f) (tt, record { fits = omega (arith, f .sfits) })
+none-less (negsuc n) f t = never refl (rw (read-back f) at t)

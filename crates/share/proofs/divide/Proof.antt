@@ -1,28 +1,20 @@
 -- `share::divide` meets its contract: after i demands, the first i places of both buffers and the sum of the whole parts are the
 -- definitions'. Assumes nothing.
-use mathlib.Core.Path.{_≡_, sym, _∙_, ap, ap₂}
-use mathlib.Core.List.{List}
-use Prim.Native.Nat.{ℕ, _+_, _-_, _≤_}
+use mathlib.Core.Path.{_≡_, sym, _∙_, ap}
+use Prim.Native.Nat.{_+_, _-_, _≤_}
 use native.Mathlib.Omega.{arith}
 use lib.ListN.{length}
 use Rattle.whole.specs.Below.{sumBelow, replacingFirst}
 use Rattle.whole.proofs.Sums.{sum-none}
 use Rattle.whole.proofs.Buffers.{replacing-none, replacing-next, length-replacing}
-use Rattle.rules.specs.Share.{wholePart, remainder}
-use Rattle.share.specs.Shareable.{at, everyone}
+use Rattle.share.specs.Steps.{wholeOf, restOf}
 use Rattle.share.proofs.Parts.{whole-is, rest-is, handed-within, handed-more, handed-all}
 use Rattle.share.proofs.divide.Statement.{statement}
 use Rattle.share.proofs.divide.Tie as tie
 
-abbrev W : List ℕ → ℕ → ℕ → ℕ
-W demands size = wholePart everyone (at demands) (length demands) size
-
-abbrev R : List ℕ → ℕ → ℕ → ℕ
-R demands size = remainder everyone (at demands) (length demands) size
-
 abbrev Inv-loop : tie.InvT-loop
 Inv-loop demands size t rests₀ out₀ handed₀ i₀ rests out handed i =
-    (i ≤ length demands) × (handed ≡ sumBelow (W demands size) i) × (rests ≡ replacingFirst (R demands size) i rests₀) × (out ≡ replacingFirst (W demands size) i out₀)
+    (i ≤ length demands) × (handed ≡ sumBelow (wholeOf demands size) i) × (rests ≡ replacingFirst (restOf demands size) i rests₀) × (out ≡ replacingFirst (wholeOf demands size) i out₀)
 
 abbrev μ-loop : tie.MeasureT-loop
 μ-loop demands size t rests₀ out₀ handed₀ i₀ rests out handed i = length demands - i

@@ -3,7 +3,7 @@ use mathlib.Core.Path.{_≡_}
 use native.Mathlib.Omega.{arith}
 use lib.ListN.{length}
 use Rattle.share.specs.Shareable.{at}
-use Rattle.share.proofs.Served.{LargestFrom, begins, taken, left, found-at}
+use Rattle.share.proofs.Search.{LargestFrom, begins, taken, left, found-at}
 use Rattle.share.proofs.largest.Statement.{statement}
 use Rattle.share.proofs.largest.Tie as tie
 

@@ -19,18 +19,6 @@ module _ (c : tie.Start) where
   abbrev above : Num
   above = grains :+ # (pos 5000000)
 
-sub-result : tie.Need-sub-result
-sub-result c = fits (below (c .before)) tt
-
-div-result : tie.Need-div-result
-div-result c = (lit< tt, fits (below (c .before) :/ 10000000) tt)
-
-add-result : tie.Need-add-result
-add-result c = fits (above (c .before)) tt
-
-div-result-2 : tie.Need-div-result-2
-div-result-2 c = (lit< tt, fits (above (c .before) :/ 10000000) tt)
-
 returns : tie.Need-returns
 unfolding nearestCent cents
 returns c =
@@ -42,6 +30,18 @@ unfolding nearestCent cents
 returns-2 c =
     let s = c .before in
     stored (above s :/ 10000000) tt ∙ nearest-pos (s .args .grains) 5000000 (lt-no (grains s) (# (pos 0)) tt tt (c .if1 .left))
+
+sub-result : tie.Need-sub-result
+sub-result c = fits (below (c .before)) tt
+
+div-result : tie.Need-div-result
+div-result c = (lit< tt, fits (below (c .before) :/ 10000000) tt)
+
+add-result : tie.Need-add-result
+add-result c = fits (above (c .before)) tt
+
+div-result-2 : tie.Need-div-result-2
+div-result-2 c = (lit< tt, fits (above (c .before) :/ 10000000) tt)
 
 pub cents-spec : {M : Type 1} → statement M
 cents-spec = tie.close (tie.spec sub-result div-result add-result div-result-2 returns returns-2)

@@ -46,6 +46,12 @@ negative c = below-0 (c .before .fits .z) (c .if1 .taken)
 abbrev positive : (c : tie.Else1) → Upto (c .before .args .z) 9223372036854775807
 positive c = in-range (c .before .args .z) (c .before .fits .z) (from-0 (c .before .fits .z) (c .if1 .left))
 
+returns : tie.Need-returns
+returns c = size (c .before .fits .z) (negative c)
+
+returns-2 : tie.Need-returns-2
+returns-2 c = u64-is (at0 (positive c)) tt
+
 add-result : tie.Need-add-result
 add-result c = fits (next (c .before .fits .z) (negative c)) tt
 
@@ -60,12 +66,6 @@ add-result-2 c = let f = c .before .fits .z in record { fits = rw (size f (negat
 
 cast-result-2 : tie.Need-cast-result-2
 cast-result-2 c = to-u64 (at0 (positive c)) tt (positive c .low)
-
-returns : tie.Need-returns
-returns c = size (c .before .fits .z) (negative c)
-
-returns-2 : tie.Need-returns-2
-returns-2 c = u64-is (at0 (positive c)) tt
 
 pub size-of-spec : {M : Type 1} → statement M
 size-of-spec = tie.close (tie.spec add-result sub-result cast-result add-result-2 cast-result-2 returns returns-2)

@@ -15,15 +15,6 @@ module _ (c : tie.Start) where
   abbrev size : Num
   size = local (i64-is (c .pre)) (u-upto in-range)
 
-cast-result : tie.Need-cast-result
-cast-result c = fits (at0 (in-range (c .before))) tt
-
-sub-result : tie.Need-sub-result
-sub-result c = fits (# (pos 0) :- size (c .before)) tt
-
-cast-result-2 : tie.Need-cast-result-2
-cast-result-2 c = fits (at0 (in-range (c .before))) tt
-
 returns : tie.Need-returns
 returns c =
     let s = c .before in
@@ -33,6 +24,15 @@ returns-2 : tie.Need-returns-2
 returns-2 c =
     let s = c .before in
     stored (size s) tt ∙ sym (with-sign-from-0 (s .args .ufe) (s .args .size) (from-0 (s .fits .ufe) (c .if1 .left)))
+
+cast-result : tie.Need-cast-result
+cast-result c = fits (at0 (in-range (c .before))) tt
+
+sub-result : tie.Need-sub-result
+sub-result c = fits (# (pos 0) :- size (c .before)) tt
+
+cast-result-2 : tie.Need-cast-result-2
+cast-result-2 c = fits (at0 (in-range (c .before))) tt
 
 pub with-sign-of-spec : {M : Type 1} → statement M
 with-sign-of-spec = tie.close (tie.spec cast-result sub-result cast-result-2 returns returns-2)

@@ -15,6 +15,24 @@ told : (r : Entry) → EntryKept r → (k : Kind) → r .kind ≡ k → (d : ℤ
 unfolding deviation
 told r kept k e d f = stored (result (f ∙ sym (ap (deviationAs r) e)) (deviation-under kept)) tt
 
+returns : tie.Need-returns
+returns c = told _ (c .before .before .before .pre) _ (c .before .enum-told .given .1) _ (c .generator-deviation .ensures)
+
+returns-2 : tie.Need-returns-2
+returns-2 c = told _ (c .before .before .before .pre) _ (c .before .enum-told2 .given .1) _ (c .load-deviation .ensures)
+
+returns-3 : tie.Need-returns-3
+returns-3 c = told _ (c .before .before .before .pre) _ (c .before .enum-told3 .given .1) _ (c .load-deviation2 .ensures)
+
+returns-4 : tie.Need-returns-4
+returns-4 c = told _ (c .before .before .before .pre) _ (c .before .enum-told4 .given .1) _ (c .import-deviation .ensures)
+
+returns-5 : tie.Need-returns-5
+returns-5 c = told _ (c .before .before .before .pre) _ (c .before .enum-told5 .given .1) _ (c .export-deviation .ensures)
+
+returns-6 : tie.Need-returns-6
+returns-6 c = told _ (c .before .before .pre) _ (c .enum-told6 .given .1) _ refl
+
 enum-told : tie.Need-enum-told
 enum-told c = c .match .keys1
 
@@ -47,24 +65,6 @@ export-deviation-requires c κs = c .before .before .pre
 
 enum-told-6 : tie.Need-enum-told-6
 enum-told-6 c = c .match .keys6
-
-returns : tie.Need-returns
-returns c = told _ (c .before .before .before .pre) _ (c .before .enum-told .given .1) _ (c .generator-deviation .ensures)
-
-returns-2 : tie.Need-returns-2
-returns-2 c = told _ (c .before .before .before .pre) _ (c .before .enum-told2 .given .1) _ (c .load-deviation .ensures)
-
-returns-3 : tie.Need-returns-3
-returns-3 c = told _ (c .before .before .before .pre) _ (c .before .enum-told3 .given .1) _ (c .load-deviation2 .ensures)
-
-returns-4 : tie.Need-returns-4
-returns-4 c = told _ (c .before .before .before .pre) _ (c .before .enum-told4 .given .1) _ (c .import-deviation .ensures)
-
-returns-5 : tie.Need-returns-5
-returns-5 c = told _ (c .before .before .before .pre) _ (c .before .enum-told5 .given .1) _ (c .export-deviation .ensures)
-
-returns-6 : tie.Need-returns-6
-returns-6 c = told _ (c .before .before .pre) _ (c .enum-told6 .given .1) _ refl
 
 pub deviation-spec : {M : Type 1} → statement M
 deviation-spec =

@@ -12,6 +12,24 @@ module _ (c : tie.Start) where
   abbrev taken-off : Num
   taken-off = # (pos 0) :- added
 
+returns : tie.Need-returns
+returns c = rw (c .enum-told .given .1) (stored (added (c .before .before)) tt)
+
+returns-2 : tie.Need-returns-2
+returns-2 c = rw (c .enum-told2 .given .1) (stored (taken-off (c .before .before)) tt ∙ +ℤ-idl _)
+
+returns-3 : tie.Need-returns-3
+returns-3 c = rw (c .enum-told3 .given .1) (stored (taken-off (c .before .before)) tt ∙ +ℤ-idl _)
+
+returns-4 : tie.Need-returns-4
+returns-4 c = rw (c .enum-told4 .given .1) (stored (added (c .before .before)) tt)
+
+returns-5 : tie.Need-returns-5
+returns-5 c = rw (c .enum-told5 .given .1) (stored (taken-off (c .before .before)) tt ∙ +ℤ-idl _)
+
+returns-6 : tie.Need-returns-6
+returns-6 c = rw (c .enum-told6 .given .1)
+
 enum-told : tie.Need-enum-told
 enum-told c = c .match .keys1
 
@@ -38,24 +56,6 @@ sub-result-3 c = fits (taken-off (c .before .before)) tt
 
 enum-told-6 : tie.Need-enum-told-6
 enum-told-6 c = c .match .keys6
-
-returns : tie.Need-returns
-returns c = rw (c .enum-told .given .1) (stored (added (c .before .before)) tt)
-
-returns-2 : tie.Need-returns-2
-returns-2 c = rw (c .enum-told2 .given .1) (stored (taken-off (c .before .before)) tt ∙ +ℤ-idl _)
-
-returns-3 : tie.Need-returns-3
-returns-3 c = rw (c .enum-told3 .given .1) (stored (taken-off (c .before .before)) tt ∙ +ℤ-idl _)
-
-returns-4 : tie.Need-returns-4
-returns-4 c = rw (c .enum-told4 .given .1) (stored (added (c .before .before)) tt)
-
-returns-5 : tie.Need-returns-5
-returns-5 c = rw (c .enum-told5 .given .1) (stored (taken-off (c .before .before)) tt ∙ +ℤ-idl _)
-
-returns-6 : tie.Need-returns-6
-returns-6 c = rw (c .enum-told6 .given .1)
 
 pub entering-spec : {M : Type 1} → statement M
 entering-spec =

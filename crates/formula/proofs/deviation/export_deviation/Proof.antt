@@ -20,6 +20,10 @@ module _ (c : tie.Start) where
   abbrev energy : Num
   energy = short :- J (c .pre)
 
+returns : tie.Need-returns
+unfolding exportDeviation
+returns c = stored (# (pos 10000) :* energy (at-j c)) tt
+
 sub-result : tie.Need-sub-result
 sub-result c = fits (short (at-sa c)) tt
 
@@ -28,10 +32,6 @@ sub-result-2 c = fits (energy (at-j c)) tt
 
 mul-result : tie.Need-mul-result
 mul-result c = fits (# (pos 10000) :* energy (at-j c)) tt
-
-returns : tie.Need-returns
-unfolding exportDeviation
-returns c = stored (# (pos 10000) :* energy (at-j c)) tt
 
 pub export-deviation-spec : {M : Type 1} → statement M
 export-deviation-spec = tie.close (tie.spec sub-result sub-result-2 mul-result returns)

@@ -5,11 +5,11 @@ use Rattle.whole.specs.Signed.{minℤ}
 use Rattle.whole.proofs.Ranges.{u-zero, u-min}
 use Rattle.whole.proofs.Machine.{Num, #, result, _:-_, _:*_, fits, stored, bound}
 use Rattle.rules.specs.Deviation.{generatorUnavailable, generatorDeviation}
-use Rattle.formula.proofs.Terms.{S, A, J, N, O, M, F, H, adjusted, ancillary}
+use Rattle.formula.proofs.Terms.{S, A, J, N, O, M, F, adjusted, ancillary}
 use Rattle.formula.proofs.deviation.generator_deviation.Statement.{statement}
 use Rattle.formula.proofs.deviation.generator_deviation.Tie as tie
 
--- the entry's ranges, seen from where its letters are read
+-- the function's start, seen from where the entry's letters are read
 abbrev at-sf : tie.After-struct-told → tie.Start
 at-sf c = c .before .before
 
@@ -42,6 +42,10 @@ abbrev unavailable : tie.After-least → Num
 unavailable c =
     let x = room (at-end c) in
     # (pos 10000) :* result (c .least .ensures ∙ ap (minℤ (pos 0)) (stored x tt)) (u-min u-zero (bound x tt))
+
+returns : tie.Need-returns
+unfolding generatorUnavailable generatorDeviation
+returns c = stored (produced (at-end c) :- unavailable c) tt
 
 mul-result : tie.Need-mul-result
 mul-result c = let k = at-sf c .pre in fits (S k :* F k) tt
@@ -78,10 +82,6 @@ mul-result-4 c = fits (unavailable c) tt
 
 sub-result-4 : tie.Need-sub-result-4
 sub-result-4 c = fits (produced (at-end c) :- unavailable c) tt
-
-returns : tie.Need-returns
-unfolding generatorUnavailable generatorDeviation
-returns c = stored (produced (at-end c) :- unavailable c) tt
 
 pub generator-deviation-spec : {M : Type 1} → statement M
 generator-deviation-spec =

@@ -22,6 +22,10 @@ module _ (c : tie.Start) where
   abbrev brought : Num
   brought = S (c .pre) :* F (c .pre) :- adjusted (c .pre)
 
+returns : tie.Need-returns
+unfolding importDeviation
+returns c = stored (brought (at-n c) :+ ancillary (at-n c .pre)) tt
+
 mul-result : tie.Need-mul-result
 mul-result c = let k = at-sf c .pre in fits (S k :* F k) tt
 
@@ -39,10 +43,6 @@ mul-result-3 c = fits (ancillary (at-n c .pre)) tt
 
 add-result : tie.Need-add-result
 add-result c = fits (brought (at-n c) :+ ancillary (at-n c .pre)) tt
-
-returns : tie.Need-returns
-unfolding importDeviation
-returns c = stored (brought (at-n c) :+ ancillary (at-n c .pre)) tt
 
 pub import-deviation-spec : {M : Type 1} → statement M
 import-deviation-spec = tie.close (tie.spec mul-result sub-result mul-result-2 sub-result-2 mul-result-3 add-result returns)

@@ -43,6 +43,10 @@ unavailable c =
 abbrev energy : tie.After-most → Num
 energy c = S (at-end c .pre) :- taken (at-end c) :- unavailable c
 
+returns : tie.Need-returns
+unfolding loadUnavailable loadDeviation
+returns c = stored (# (pos 10000) :* energy c) tt
+
 sub-result : tie.Need-sub-result
 sub-result c = let k = at-aj c .pre in fits (A k :- J k) tt
 
@@ -66,10 +70,6 @@ sub-result-3 c = fits (energy c) tt
 
 mul-result : tie.Need-mul-result
 mul-result c = fits (# (pos 10000) :* energy c) tt
-
-returns : tie.Need-returns
-unfolding loadUnavailable loadDeviation
-returns c = stored (# (pos 10000) :* energy c) tt
 
 pub load-deviation-spec : {M : Type 1} → statement M
 load-deviation-spec =

@@ -2,24 +2,6 @@
 use Rattle.formula.proofs.entry.is_load.Statement.{statement}
 use Rattle.formula.proofs.entry.is_load.Tie as tie
 
-enum-told : tie.Need-enum-told
-enum-told c = c .match .keys1
-
-enum-told-2 : tie.Need-enum-told-2
-enum-told-2 c = c .match .keys2
-
-enum-told-3 : tie.Need-enum-told-3
-enum-told-3 c = c .match .keys3
-
-enum-told-4 : tie.Need-enum-told-4
-enum-told-4 c = c .match .keys4
-
-enum-told-5 : tie.Need-enum-told-5
-enum-told-5 c = c .match .keys5
-
-enum-told-6 : tie.Need-enum-told-6
-enum-told-6 c = c .match .keys6
-
 returns : tie.Need-returns
 returns c = rw (c .enum-told .given .1)
 
@@ -37,6 +19,24 @@ returns-5 c = rw (c .enum-told5 .given .1)
 
 returns-6 : tie.Need-returns-6
 returns-6 c = rw (c .enum-told6 .given .1)
+
+enum-told : tie.Need-enum-told
+enum-told c = c .match .keys1
+
+enum-told-2 : tie.Need-enum-told-2
+enum-told-2 c = c .match .keys2
+
+enum-told-3 : tie.Need-enum-told-3
+enum-told-3 c = c .match .keys3
+
+enum-told-4 : tie.Need-enum-told-4
+enum-told-4 c = c .match .keys4
+
+enum-told-5 : tie.Need-enum-told-5
+enum-told-5 c = c .match .keys5
+
+enum-told-6 : tie.Need-enum-told-6
+enum-told-6 c = c .match .keys6
 
 pub is-load-spec : {M : Type 1} → statement M
 is-load-spec =

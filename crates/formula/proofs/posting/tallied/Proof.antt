@@ -5,7 +5,6 @@ use Prim.Native.Nat.{_*_}
 use lib.IntN.{pos}
 use lib.ListN.{getD}
 use lib.Dec.{lit<}
-use native.Mathlib.Omega.{arith}
 use borrow.Author.Needs.{sfits-of, scaled-fits}
 use Rattle.whole.proofs.Machine.{sum-fits, sum-stored}
 use Rattle.rules.specs.Posting.{tallied}
@@ -19,6 +18,10 @@ place-fits c = scaled-fits (c .args .area) 8 8 (c .pre .area-there) (lit< tt)
 -- the area's energy so far is an i64
 energy-fits : (c : tie.After-next2) → SFits w64 (getD (c .before .before .args .t1 .energy) (c .before .before .args .area) (pos 0))
 energy-fits c = sfits-of (c .next2 .given)
+
+returns : tie.Need-returns
+unfolding tallied
+returns c = let s = c .before .before in rw (sum-stored (energy-fits c) (s .fits .energy) (s .pre .energy-fits))
 
 add-next : tie.Need-add-next
 add-next c = record { fits = c .pre .records-fit }
@@ -52,10 +55,6 @@ mul-t15 c = place-fits (c .before .before)
 
 element-set-from-next : tie.Need-element-set-from-next
 element-set-from-next c = c .before .before .pre .area-there
-
-returns : tie.Need-returns
-unfolding tallied
-returns c = let s = c .before .before in rw (sum-stored (energy-fits c) (s .fits .energy) (s .pre .energy-fits))
 
 pub tallied-spec : {M : Type 1} → statement M
 tallied-spec =

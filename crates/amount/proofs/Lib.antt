@@ -1,0 +1,2 @@
+-- What follows from the contracts of `write` and `read` alone.
+pub mod RoundTrips
