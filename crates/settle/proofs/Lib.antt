@@ -4,3 +4,4 @@ pub mod Tallies
 pub mod Areas
 pub mod Postings
 pub mod Held
+pub mod Answered

@@ -38,7 +38,13 @@ fn least(x: usize, y: usize) -> usize
 }
 
 // Refusal 11: charges or lines shorter than the members, or shares or deviations shorter than the records.
-pub fn too_short(file: &[u8], charges: usize, lines: usize, shares: usize, deviations: usize) -> bool
+pub fn too_short(
+    file: &[u8],
+    charges: usize,
+    lines: usize,
+    shares: usize,
+    deviations: usize,
+) -> bool
     ensures { λ r. ⌜ r ≡ (ltb charges (Record.members (hourIn (now (file .entry)))) || ltb lines (Record.members (hourIn (now (file .entry)))) || ltb shares (hourIn (now (file .entry)) .count) || ltb deviations (hourIn (now (file .entry)) .count)) ⌝ }
 {
     let members = hour::members(file);
@@ -138,7 +144,14 @@ fn finish(
 }
 
 // Every figure of the hour, into room for it.
-fn hold(file: &[u8], figures: [i64; 8], deviations: &mut [i64], shares: &mut [i64], amounts: &mut [i64], counts: &mut [u32])
+fn hold(
+    file: &[u8],
+    figures: [i64; 8],
+    deviations: &mut [i64],
+    shares: &mut [i64],
+    amounts: &mut [i64],
+    counts: &mut [u32],
+)
     requires { ⌜ Figured (now file) figures × Rooms (now file) (now deviations) (now shares) (now amounts) (now counts) ⌝ }
     ensures { λ _. ⌜ Held (now (file .entry)) (now (deviations .exit)) (now (shares .exit)) (now (amounts .exit)) (now (counts .exit)) ⌝ }
 {

@@ -53,7 +53,7 @@ same-length c = written-length _ _ _ _ (c .before .loop .inv .1) (omega arith)
 
 -- src/lib.rt:70:1
 returns : tie.Need-returns Inv-loop μ-loop
-returns c = 
+returns c =
     let start = c .before .before in
     let all : c .before .loop .i ≡ length (start .args .held .now) = omega arith in
     c .before .loop .inv .1 ∙ ap (λ n. replacingFirst (λ k. getD (start .args .held .now) k 0) n (start .args .out .now)) all

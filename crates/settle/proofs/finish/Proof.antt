@@ -29,7 +29,7 @@ enum-known-m c = search needs
 
 -- src/lib.rt:120:9
 returns : tie.Need-returns
-returns c = 
+returns c =
     let start = c .before .before .before .before .before .before .before in
     let before = lent (start .args .charges .now) (start .args .shares .now) (start .args .deviations .now) (start .args .amounts .now) (start .args .counts .now) in
     amount-over (start .pre) before (row-7 (start .pre) before (c .before .before .before .member-over .result) (c .before .before .before .member-over .ensures) ∙ ap foundAt (c .before .m .given .1))

@@ -52,12 +52,12 @@ same-length-5 c = search needs
 returns : tie.Need-returns
 unfolding handedOver
 returns c = λ k. record {
-      charges = c .before .before .before .before .before .before .before .before .before .before .before .before .before .before .put-charges .ensures k;
-      shares = c .before .before .before .before .before .before .before .before .before .before .before .copy .ensures k;
-      deviations = c .before .before .before .before .before .before .before .before .copy2 .ensures k;
-      amounts = c .before .before .before .before .before .copy3 .ensures k;
-      counts = c .before .before .copy-counts .ensures k;
-    }
+  charges = c .before .before .before .before .before .before .before .before .before .before .before .before .before .before .put-charges .ensures k;
+  shares = c .before .before .before .before .before .before .before .before .before .before .before .copy .ensures k;
+  deviations = c .before .before .before .before .before .before .before .before .copy2 .ensures k;
+  amounts = c .before .before .before .before .before .copy3 .ensures k;
+  counts = c .before .before .copy-counts .ensures k;
+}
 
 pub hand-over-spec : {M : Type 1} → statement M
 hand-over-spec =

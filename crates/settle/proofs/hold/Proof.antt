@@ -19,7 +19,7 @@ put-shares-requires c κs = search needs
 
 -- src/lib.rt:147:5
 put-lines-requires : tie.Need-put-lines-requires
-put-lines-requires c κs = 
+put-lines-requires c κs =
     let start = c .before .before .before .before .before .before .before .before .before .before .before .before in
     (all-worked (start .pre .0 .kept) (start .pre .1) (c .before .before .before .before .before .before .before .before .put-deviations .ensures) (c .before .before .before .before .before .put-shares .ensures), lines-room (start .pre .0 .kept) (start .pre .1))
 
@@ -41,7 +41,7 @@ same-length-4 c = search needs
 
 -- src/lib.rt:141:1
 returns : tie.Need-returns
-returns c = 
+returns c =
     let start = c .before .before .before .before .before .before .before .before .before .before .before .before .before .before .before .before in
     let put = c .before .before .before .put-lines .ensures in
     all-held (start .pre .0 .kept) (start .pre .1) (c .before .before .before .before .before .before .before .before .before .before .before .before .put-deviations .ensures) (c .before .before .before .before .before .before .before .before .before .put-shares .ensures) (put .0) (put .1)

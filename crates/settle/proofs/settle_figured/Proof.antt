@@ -1,3 +1,6 @@
+use mathlib.Core.Path.{_≡_, sym, _∙_, ap}
+use native.Mathlib.Omega.{arith}
+use lib.Seq.{length-take-le}
 use borrow.Author.Needs.{needs}
 use Rattle.settle.proofs.settle_figured.Statement.{statement}
 use Rattle.settle.proofs.settle_figured.Tie as tie
@@ -17,39 +20,50 @@ members-requires c κs = search needs
 
 -- src/lib.rt:204:9
 array-borrow-prefix-deviated : tie.Need-array-borrow-prefix-deviated
-array-borrow-prefix-deviated c = search needs
+array-borrow-prefix-deviated c = omega (arith, c .before .before .before .before .pre .kept .hour-kept .count-most)
 
 -- src/lib.rt:204:9
 slice-aggregate-settle-in : tie.Need-slice-aggregate-settle-in
-slice-aggregate-settle-in c = ?
+slice-aggregate-settle-in c = sym (length-take-le (c .before .before .records .result) _ (omega (arith, c .before .before .before .before .before .pre .kept .hour-kept .count-most)))
 
 -- src/lib.rt:205:9
 array-borrow-prefix-shared : tie.Need-array-borrow-prefix-shared
-array-borrow-prefix-shared c = search needs
+array-borrow-prefix-shared c = omega (arith, c .before .before .before .before .before .pre .kept .hour-kept .count-most)
 
 -- src/lib.rt:205:9
 slice-aggregate-settle-in-2 : tie.Need-slice-aggregate-settle-in-2
-slice-aggregate-settle-in-2 c = ?
+slice-aggregate-settle-in-2 c = sym (length-take-le (c .before .before .before .records .result) _ (omega (arith, c .before .before .before .before .before .before .pre .kept .hour-kept .count-most)))
 
 -- src/lib.rt:206:9
 array-borrow-prefix-owed : tie.Need-array-borrow-prefix-owed
-array-borrow-prefix-owed c = search needs
+array-borrow-prefix-owed c = omega (arith, c .before .before .before .before .before .before .pre .kept .hour-kept .members-most)
 
 -- src/lib.rt:206:9
 slice-aggregate-settle-in-3 : tie.Need-slice-aggregate-settle-in-3
-slice-aggregate-settle-in-3 c = ?
+slice-aggregate-settle-in-3 c = sym (length-take-le (c .before .before .before .members .result) _ (omega (arith, c .before .before .before .before .before .before .before .pre .kept .hour-kept .members-most)))
 
 -- src/lib.rt:207:9
 array-borrow-prefix-counted : tie.Need-array-borrow-prefix-counted
-array-borrow-prefix-counted c = search needs
+array-borrow-prefix-counted c = omega (arith, c .before .before .before .before .before .before .before .pre .kept .hour-kept .members-most)
 
 -- src/lib.rt:207:9
 slice-aggregate-settle-in-4 : tie.Need-slice-aggregate-settle-in-4
-slice-aggregate-settle-in-4 c = ?
+slice-aggregate-settle-in-4 c = sym (length-take-le (c .before .before .before .before .members .result) _ (omega (arith, c .before .before .before .before .before .before .before .before .pre .kept .hour-kept .members-most)))
 
 -- src/lib.rt:201:5
 settle-in-requires : tie.Need-settle-in-requires
-settle-in-requires c κs = ?
+settle-in-requires c κs =
+    let start = c .before .before .before .before .before .before .before .before .before .before .before .before .before in
+    let records = c .before .before .before .before .before .before .before .before .before .before .records in
+    let members = c .before .before .before .before .before .before .before .before .before .members in (
+      start .pre,
+      record {
+        deviations-room = length-take-le (records .result) _ (omega (arith, c .before .before .before .before .before .before .before .before .before .before .before .before .before .pre .kept .hour-kept .count-most)) ∙ records .ensures;
+        shares-room = length-take-le (records .result) _ (omega (arith, c .before .before .before .before .before .before .before .before .before .before .before .before .before .pre .kept .hour-kept .count-most)) ∙ records .ensures;
+        amounts-room = length-take-le (members .result) _ (omega (arith, c .before .before .before .before .before .before .before .before .before .before .before .before .before .pre .kept .hour-kept .members-most)) ∙ members .ensures;
+        counts-room = length-take-le (members .result) _ (omega (arith, c .before .before .before .before .before .before .before .before .before .before .before .before .before .pre .kept .hour-kept .members-most)) ∙ members .ensures;
+      },
+    )
 
 -- src/lib.rt:183:1
 same-length : tie.Need-same-length

@@ -23,21 +23,21 @@ records-requires c κs = search needs
 
 -- src/lib.rt:47:9
 returns : tie.Need-returns
-returns c = 
+returns c =
     let start = c .before .before .before .before in
     let members = Record.members (hourIn (start .args .file .now)) in
     rw (lt-ltb (start .args .charges) members (omega arith))
 
 -- src/lib.rt:50:9
 returns-2 : tie.Need-returns-2
-returns-2 c = 
+returns-2 c =
     let start = c .before .before .before .before .before in
     let members = Record.members (hourIn (start .args .file .now)) in
     rw (le-ltb (start .args .charges) members (omega arith), lt-ltb (start .args .lines) members (omega arith))
 
 -- src/lib.rt:53:9
 returns-3 : tie.Need-returns-3
-returns-3 c = 
+returns-3 c =
     let start = c .before .before .before .before .before .before in
     let members = Record.members (hourIn (start .args .file .now)) in
     let records = hourIn (start .args .file .now) .count in
@@ -45,7 +45,7 @@ returns-3 c =
 
 -- src/lib.rt:41:1
 returns-4 : tie.Need-returns-4
-returns-4 c = 
+returns-4 c =
     let start = c .before .before .before .before .before .before in
     let members = Record.members (hourIn (start .args .file .now)) in
     let records = hourIn (start .args .file .now) .count in
