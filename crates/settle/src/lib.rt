@@ -238,7 +238,7 @@ pub fn settle(
 ) -> Settled
     ensures { λ r. ⌜ FitsParallel (now (file .entry)) (lent (now (charges .entry)) (now (shares .entry)) (now (deviations .entry)) (now (amounts .entry)) (now (counts .entry))) r (lent (now (charges .exit)) (now (shares .exit)) (now (deviations .exit)) (now (amounts .exit)) (now (counts .exit))) ⌝ }
 {
-    let answer = hourfile::refusals::examine(file);
+    let answer = hourfile::examine(file);
     let Answer::Accepted = answer else {
         return refused(answer);
     };

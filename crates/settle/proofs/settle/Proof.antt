@@ -13,7 +13,6 @@ use Rattle.settle.proofs.settle.Statement.{statement}
 use Rattle.settle.proofs.settle.Tie as tie
 use Rattle.settle.proofs.settle.Reads as reads
 use Rattle.settle.proofs.settle.Lts as lts
-use Rattle.hourfile.proofs.refusals.examine.Reads as examine-reads
 use Rattle.settle.proofs.refused.Reads as refused-reads
 use Rattle.settle.proofs.settle_figured.Reads as settle-figured-reads
 use Rattle.settle.proofs.tally.area_without_demand.Reads as area-without-demand-reads
