@@ -96,7 +96,7 @@ pub fn member_over(amounts: &[i64]) -> Found
 {
     let mut m = 0;
     while m < amounts.len() {
-        if 4000000000000000000 < formula::cents::size_of(amounts[m]) {
+        if 4000000000000000000 < sign::size_of(amounts[m]) {
             return Found::At(m);
         }
         m += 1;

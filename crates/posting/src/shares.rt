@@ -39,7 +39,7 @@ fn share_in(file: &[u8], a: usize, i: usize, ufe: i64, size: u64, before: i64) -
     ensures { λ r. ⌜ r ≡ cond (eqb (areaOf (hourIn (now (file .entry))) i) a) (withSignOf ufe size) before ⌝ }
 {
     if crate::hour::area_of(file, i) == a {
-        return formula::cents::with_sign_of(ufe, size);
+        return sign::with_sign_of(ufe, size);
     }
     before
 }
@@ -69,7 +69,7 @@ fn share_over(
     ensures { λ _. ⌜ now (out .exit) ≡ replacingFirst (sharesBelow (hourIn (now (file .entry))) (a + 1)) (hourIn (now (file .entry)) .count) (now (out .entry)) ⌝ }
 {
     put_demands(file, a, demands);
-    share::shares(demands, formula::cents::size_of(figures[a]), sizes);
+    share::shares(demands, sign::size_of(figures[a]), sizes);
     put_area(file, figures, a, sizes, out);
 }
 

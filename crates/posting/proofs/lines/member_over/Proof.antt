@@ -16,7 +16,6 @@ use Rattle.posting.proofs.lines.member_over.Statement.{statement}
 use Rattle.posting.proofs.lines.member_over.Tie as tie
 use Rattle.posting.proofs.lines.member_over.Reads as reads
 use Rattle.posting.proofs.lines.member_over.Lts as lts
-use Rattle.formula.proofs.cents.size_of.Reads as size-of-reads
 
 abbrev Inv-loop : tie.InvT-loop
 Inv-loop amounts m₀ m = (m ≤ length amounts) × (firstBelow (overLimit amounts) m ≡ none)

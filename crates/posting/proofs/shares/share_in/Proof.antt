@@ -13,7 +13,6 @@ use Rattle.posting.proofs.shares.share_in.Statement.{statement}
 use Rattle.posting.proofs.shares.share_in.Tie as tie
 use Rattle.posting.proofs.shares.share_in.Reads as reads
 use Rattle.posting.proofs.shares.share_in.Lts as lts
-use Rattle.formula.proofs.cents.with_sign_of.Reads as with-sign-of-reads
 use Rattle.posting.proofs.hour.area_of.Reads as area-of-reads
 
 -- src/shares.rt:41:8

@@ -21,7 +21,6 @@ use Rattle.posting.proofs.shares.share_over.Statement.{statement}
 use Rattle.posting.proofs.shares.share_over.Tie as tie
 use Rattle.posting.proofs.shares.share_over.Reads as reads
 use Rattle.posting.proofs.shares.share_over.Lts as lts
-use Rattle.formula.proofs.cents.size_of.Reads as size-of-reads
 use Rattle.posting.proofs.shares.put_area.Reads as put-area-reads
 use Rattle.posting.proofs.shares.put_demands.Reads as put-demands-reads
 use Rattle.share.proofs.shares.Reads as shares-reads
