@@ -1,0 +1,3 @@
+-- Laws that the proofs of `report` share.
+pub mod Laws
+pub mod Putting

@@ -1,0 +1,3 @@
+-- What the contracts of `report` cite beside `rules`.
+pub mod Put
+pub mod Lines
