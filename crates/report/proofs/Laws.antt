@@ -77,7 +77,7 @@ unfolding refusedLine
 refused-line-most v = simp length-append (omega (arith, decimal-at-most-20 (v .number), decimal-at-most-20 (v .place)))
 
 -- the hour number of a file is a word of 32 bits
-hour-number-most : (s : List ℕ) → ((i : ℕ) → getD s i 0 < 256) → hourNumber (hourOf hourly s) < 2 ^ 32
+pub hour-number-most : (s : List ℕ) → ((i : ℕ) → getD s i 0 < 256) → hourNumber (hourOf hourly s) < 2 ^ 32
 unfolding hourOf blockWord word
 hour-number-most s b = omega (arith, b 32, b 33, b 34, b 35)
 

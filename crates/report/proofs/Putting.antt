@@ -2,6 +2,7 @@
 use mathlib.Core.Path.{_≡_, refl, sym, _∙_, ap, subst}
 use mathlib.Core.List.{List, [], _++_, append-assoc}
 use Prim.Native.Nat.{ℕ, _+_, _-_, _≤_}
+use native.Mathlib.Nat.{zero-add}
 use native.Mathlib.Omega.{arith}
 use lib.ListN.{length, take, drop, length-append}
 use lib.Seq.{length-sets, sets-eq}
@@ -32,3 +33,7 @@ part-put o ys at end l m e =
       next-is = omega arith;
       after-is = rw post-is (sym (append-assoc (take at o) ys (drop end o))) ∙ sym (rw room at (sets-eq ys o at (omega arith)));
     }
+
+-- at the start of a list that is long enough: the text, and the rest as it was
+pub put-first : {o p xs : List ℕ} {next : ℕ} → Put o 0 xs next p → length xs ≤ length o → (next ≡ length xs) × (p ≡ xs ++ drop (length xs) o)
+put-first {o} {p} {xs} f l = (f .next-is ∙ zero-add (length xs), f .after-is ∙ sets-eq xs o 0 (omega arith) ∙ rw zero-add)
