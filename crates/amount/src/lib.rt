@@ -4,6 +4,7 @@ ghost use mathlib.Core.Path.{_≡_};
 ghost use Rattle.rules.specs.Refusals.{verdictOf};
 ghost use Rattle.rules.specs.Settling as Settling;
 
+pub mod decimal;
 mod reading;
 mod writing;
 

@@ -1,10 +1,11 @@
 // The parts of `write`: an amount's sign, how long its text is, and the text in its place at the field's right end.
 ghost use mathlib.Core.List.{[], _∷_, _++_};
 ghost use mathlib.Core.Path.{_≡_};
-ghost use Prim.Native.Nat.{_+_, _-_, _/_, _%_, _≤_};
+ghost use Prim.Native.Nat.{_+_, _/_, _%_, _≤_};
 ghost use lib.ListN.{drop, length, replicate};
 ghost use lib.Seq.{sets};
-ghost use Rattle.rules.specs.Text.{amountField, amountText, decimal, digitByte, signByte};
+ghost use Rattle.rules.specs.Text.{amountField, amountText, digitByte, signByte};
+use crate::decimal;
 
 fn sign_byte(cents: i64) -> u8
     ensures { λ r. ⌜ r ≡ signByte cents ⌝ }
@@ -12,29 +13,11 @@ fn sign_byte(cents: i64) -> u8
     if cents < 0 { b'-' } else { b'+' }
 }
 
-// The last digit of a number.
-fn digit(number: u64) -> u8
-    ensures { λ r. ⌜ r ≡ digitByte (number % 10) ⌝ }
-{
-    (48 + number % 10) as u8
-}
-
-// How many digits a number is written with.
-fn digits(left: u64) -> usize
-    ensures { λ r. ⌜ r ≡ length (decimal left) ⌝ }
-{
-    let tenth = left / 10;
-    if tenth == 0 {
-        return 1;
-    }
-    1 + digits(tenth)
-}
-
 // The sign, the dollars, a point and two digits.
 pub fn text_length(cents: i64) -> usize
     ensures { λ r. ⌜ r ≡ length (amountText cents) ⌝ }
 {
-    4 + digits(sign::size_of(cents) / 100)
+    4 + decimal::digits(sign::size_of(cents) / 100)
 }
 
 // Blanks before `end`.
@@ -49,28 +32,14 @@ fn put_blanks(field: &mut [u8], end: usize)
     }
 }
 
-// Dollars before `end`: digit by digit from the right, each time a tenth of what is left, until nothing is left.
-fn put_dollars(field: &mut [u8], end: usize, left: u64)
-    requires { ⌜ (length (decimal left) ≤ end) × (end ≤ length (now field)) ⌝ }
-    ensures { λ r. ⌜ now (field .exit) ≡ sets (now (field .entry)) (end - length (decimal left)) (decimal left) ⌝ }
-{
-    let at = end - 1;
-    field[at] = digit(left);
-    let tenth = left / 10;
-    if tenth == 0 {
-        return;
-    }
-    put_dollars(field, at, tenth)
-}
-
 // A point and two digits, from `point` on.
 fn put_cents(field: &mut [u8], point: usize, size: u64)
     requires { ⌜ point + 3 ≤ length (now field) ⌝ }
     ensures { λ r. ⌜ now (field .exit) ≡ sets (now (field .entry)) point (46 ∷ digitByte (size / 10 % 10) ∷ digitByte (size % 10) ∷ []) ⌝ }
 {
     field[point] = b'.';
-    field[point + 1] = digit(size / 10);
-    field[point + 2] = digit(size);
+    field[point + 1] = decimal::digit(size / 10);
+    field[point + 2] = decimal::digit(size);
 }
 
 // An amount's text from `start` to the end of the field, and blanks before it.
@@ -82,6 +51,6 @@ pub fn put(field: &mut [u8], start: usize, cents: i64)
     let point = field.len() - 3;
     put_blanks(field, start);
     field[start] = sign_byte(cents);
-    put_dollars(field, point, size / 100);
+    decimal::put_digits(field, point, size / 100);
     put_cents(field, point, size);
 }

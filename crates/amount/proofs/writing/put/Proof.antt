@@ -71,15 +71,15 @@ sign-byte-requires c κs = search needs
 slice-write-field : tie.Need-slice-write-field
 slice-write-field c = omega (arith, c .before .before .before .put-blanks .kept .0, text-length (c .before .before .before .before .before .before .before .args .cents))
 
-put-dollars-requires : tie.Need-put-dollars-requires
-put-dollars-requires c κs =
+put-digits-requires : tie.Need-put-digits-requires
+put-digits-requires c κs =
     let s = c .before .before .before .before .before .before .before .before in
     let h : length (decimal (natAbs (s .args .cents) / 100)) ≤ length (s .args .field .now) - 3 = omega (arith, text-length (s .args .cents)) in
     (rw (sized (c .before .before .before .before .before .before)) h, simp length-set (omega (arith, c .before .before .before .before .put-blanks .kept .0)))
 
 -- the field keeps its length up to the cents
-kept : (c : tie.After-put-dollars) → length (c .put-dollars .last .0) ≡ length (c .before .before .before .before .before .before .before .before .before .args .field .now)
-kept c = c .put-dollars .kept .0 ∙ simp length-set (c .before .before .before .before .before .put-blanks .kept .0)
+kept : (c : tie.After-put-digits) → length (c .put-digits .last .0) ≡ length (c .before .before .before .before .before .before .before .before .before .args .field .now)
+kept c = c .put-digits .kept .0 ∙ simp length-set (c .before .before .before .before .before .put-blanks .kept .0)
 
 put-cents-requires : tie.Need-put-cents-requires
 put-cents-requires c κs =
@@ -95,7 +95,7 @@ returns c =
     let s = d .before .before .before .before .before .before .before .before .before in
     let sign : d .before .before .sign-byte .result ≡ signByte (s .args .cents) = d .before .before .sign-byte .ensures ∙ ap signByte (read-back (s .fits .cents)) in
     c .before .before .put-cents .ensures
-    ∙ rw (d .put-dollars .ensures, d .before .before .before .before .before .put-blanks .ensures, sign, sized (d .before .before .before .before .before .before .before))
+    ∙ rw (d .put-digits .ensures, d .before .before .before .before .before .put-blanks .ensures, sign, sized (d .before .before .before .before .before .before .before))
     (whole-field (s .args .field .now) (s .args .start) (s .args .cents) (s .pre))
 
 pub put-spec : {M : Type 1} → statement M
@@ -107,7 +107,7 @@ put-spec =
     put-blanks-requires
     sign-byte-requires
     slice-write-field
-    put-dollars-requires
+    put-digits-requires
     put-cents-requires
     same-length
     returns)

@@ -1,15 +1,15 @@
--- `amount::writing::digits` meets its contract: one digit, or one more than a tenth has. The number itself falls.
+-- `amount::decimal::digits` meets its contract: one digit, or one more than a tenth has. The number itself falls.
 use Prim.Native.Nat.{ℕ, _+_, _/_, _<_}
 use mathlib.Core.Path.{sym}
 use native.Mathlib.Omega.{arith}
 use borrow.Fn.Kinds.{In}
 use borrow.Fn.PlainCycle.{Measures, is, falls, and}
 use Rattle.rules.proofs.Digits.{decimal-at-most-20, decimal-length-last, decimal-length-more}
-use Rattle.amount.proofs.writing.digits.Reads as digits
-use Rattle.amount.proofs.writing.digits.Kinds as digits-kinds
-use Rattle.amount.proofs.writing.+digits.Lts-digits as digits-lts
-use Rattle.amount.proofs.writing.+digits.{statement}
-use Rattle.amount.proofs.writing.+digits.Tie.{close}
+use Rattle.amount.proofs.decimal.digits.Reads as digits
+use Rattle.amount.proofs.decimal.digits.Kinds as digits-kinds
+use Rattle.amount.proofs.decimal.+digits.Lts-digits as digits-lts
+use Rattle.amount.proofs.decimal.+digits.{statement}
+use Rattle.amount.proofs.decimal.+digits.Tie.{close}
 
 abbrev μ-digits : Measures 0 digits-kinds.ps ℕ
 μ-digits κs a = a .0

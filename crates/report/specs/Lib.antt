@@ -1,0 +1,4 @@
+-- What the contracts of `report` cite beside `rules`.
+pub mod Put
+pub mod Lines
+pub mod Stated
