@@ -3,7 +3,7 @@ use mathlib.Core.Path.{_≡_, sym, _∙_, ap}
 use mathlib.Core.List.{List, _++_}
 use Prim.Native.Nat.{ℕ, _≤_}
 use native.Mathlib.Omega.{arith}
-use lib.IntN.{ℤ, pos}
+use lib.IntN.{pos}
 use lib.ListN.{length}
 use borrow.Author.Tests.{eqb-false}
 use Rattle.whole.specs.Below.{replacingFirst}
@@ -19,7 +19,7 @@ use Rattle.settle.specs.Parallel.{Lent, lentRow, parallelRows, filledLent, sett
 use Rattle.settle.proofs.Answered.{numbered, parallel-verdict}
 use Rattle.report.specs.Lines.{Charged}
 use Rattle.report.specs.Stated.{Rooms}
-use Rattle.report.proofs.Laws.{accepted-kept, room-for-all, statement-accepted, statement-refused}
+use Rattle.rules.proofs.Stated.{accepted-kept, room-for-all, statement-accepted, statement-refused}
 
 module _ {s : List ℕ} {b after : Lent} {r : Settled} {out : List ℕ}
     (rooms : Rooms (b .charges) (b .shares) (b .deviations) (b .amounts) (b .counts) out) (fits : FitsParallel s b r after) where

@@ -1,5 +1,6 @@
 -- What printing a statement answers and leaves in the caller's slice.
 use Prim.Native.Nat.{ℕ, _≤_}
+use mathlib.Core.Path.{_≡_}
 use mathlib.Core.Bool.{cond}
 use mathlib.Core.List.{List, _++_}
 use lib.IntN.{ℤ}
@@ -17,6 +18,11 @@ unfoldable pub stated : List ℕ → List ℕ → Stated
 stated s out = cond (ltb (length out) 615)
     (record { count = 0; out = out })
     (record { count = length (statement s); out = statement s ++ drop (length (statement s)) out })
+
+-- what was answered and left behind is what `stated` says
+pub record HasStated (s out : List ℕ) (count : ℕ) (after : List ℕ) : Type 0 where
+  pub count-is : count ≡ stated s out .count
+  pub out-is : after ≡ stated s out .out
 
 -- room for every hour, and for every statement
 pub record Rooms (charges shares deviations amounts : List ℤ) (counts out : List ℕ) : Type 0 where

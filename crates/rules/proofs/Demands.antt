@@ -33,7 +33,7 @@ use Rattle.rules.specs.Promises.{Accepts, AllWhole, Demand1, ByFormula, 
 use Rattle.rules.proofs.Tariff.{deviation-renders, ufe-renders, amount-is-IEC}
 use Rattle.rules.proofs.Rows.{no-place, accepts-when-whole, whole-parts, hour-numbered, settle-accepts, settle-refuses, settle-changes-nothing, settle-fills, write-accepts, write-refuses, write-changes-nothing}
 use Rattle.rules.proofs.Text.{read-accepts, read-refuses, written-read, read-written, text-fits-14, write-accepted-at}
-use Rattle.rules.proofs.Kept.{file-kept}
+use Rattle.rules.proofs.Kept.{passed-kept}
 use Rattle.rules.proofs.Bounds.{charge-under}
 use Rattle.rules.proofs.Fair.{Sound, shares-by-rank, fair}
 
@@ -46,8 +46,7 @@ record Passed (h : Hour) : Type 0 where
 
 hour-passed : (s : List ℕ) → AllWhole (hourRows s) → Passed (hourOf hourly s)
 unfolding hourRows sumRows
-hour-passed s w = let p = whole-parts (fileRows s) (sumRows (hourOf hourly s)) .0 w in
-    record { kept = file-kept s (p .0) .hour-kept; no-bad-area = p .1 .0 }
+hour-passed s w = record { kept = passed-kept s w .hour-kept; no-bad-area = whole-parts (fileRows s) (sumRows (hourOf hourly s)) .0 w .1 .0 }
 
 -- what row 11 says of the buffers
 record Room (h : Hour) (b : Buffers) : Type 0 where

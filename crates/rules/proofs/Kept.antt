@@ -19,10 +19,10 @@ use Rattle.rules.specs.declared.Rule.{Rule}
 use Rattle.rules.specs.Record.{Hour, members, zones, areas, zonePrice, zoneOf, tieIn, tieOut, memberOf, areaOf, entry, entryOf, kindOf, signed}
 use Rattle.rules.specs.HourFile.{hourly, lengthBad, blocks, blockWord, recordCount, hourOf}
 use Rattle.rules.specs.Ranges.{firstBroken, mustBeZero, countRule, blockRule, areaRule, headRule, rowOf, recordRule}
-use Rattle.rules.specs.Refusals.{isBroken, badLength, badBlock, badHead, badWord, badRecord, layoutRows, wordRows, fileRows}
+use Rattle.rules.specs.Refusals.{isBroken, badLength, badBlock, badHead, badWord, badRecord, layoutRows, wordRows, sumRows, fileRows, hourRows}
 use Rattle.rules.specs.Promises.{AllWhole}
 use Rattle.rules.specs.Kept.{EntryKept, RecordKept, AreaKept, HourKept, FileKept}
-use Rattle.rules.proofs.Rows.{no-place}
+use Rattle.rules.proofs.Rows.{no-place, whole-parts}
 use Rattle.rules.proofs.Words.{Holds, holds, length-is-whole}
 
 -- ---- a search that found nothing
@@ -177,3 +177,8 @@ unfolding fileRows layoutRows wordRows
 file-kept s e =
     let h = hourOf hourly s in
     record { length-good = length-good s (e .0) (e .1 .1 .0); hour-kept = hour-kept h (e .1 .1 .1 .0) (e .1 .1 .1 .1 .0) (count-most s (e .0) (e .1 .1 .0)) }
+
+-- so does a file that passes rows 1 to 7
+pub passed-kept : (s : List ℕ) → AllWhole (hourRows s) → FileKept s
+unfolding hourRows
+passed-kept s w = file-kept s (whole-parts (fileRows s) (sumRows (hourOf hourly s)) .0 w .0)

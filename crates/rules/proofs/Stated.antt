@@ -1,17 +1,95 @@
--- The statement: a reader that stops one byte past the longest file prints the same.
+-- The statement: when it is which, how long it can be, and that a reader that stops one byte past the longest file prints the same.
 use mathlib.Core.Path.{_≡_, refl, sym, _∙_, ap}
-use mathlib.Core.Bool.{true, false, or-true}
-use mathlib.Core.List.{List}
-use Prim.Native.Nat.{ℕ, _≤_, _<_}
+use mathlib.Core.Bool.{or-true}
+use mathlib.Core.List.{List, [], _∷_, _++_}
+use Prim.Native.Nat.{ℕ, zero, suc, _*_, _^_, _≤_, _<_}
 use native.Mathlib.Omega.{arith}
 use lib.Dec.{leb}
-use lib.ListN.{length, take}
+use lib.ListN.{length, take, getD, replicate, length-append}
 use lib.Seq.{take-all, length-take-le}
-use borrow.Author.Tests.{leb-true, leb-false, lt-ltb}
+use borrow.Author.Tests.{leb-true, leb-false, lt-ltb, le-ltb, eqb-true, eqb-false, ne-eqb}
 use Rattle.whole.proofs.Tests.{split}
-use Rattle.rules.specs.HourFile.{hourly, lengthBad}
-use Rattle.rules.specs.Refusals.{refusedAt, verdict, badLength, layoutRows, fileRows, hourRows}
-use Rattle.rules.specs.Statement.{refusedLine, statement}
+use Rattle.rules.specs.Record.{Hour, hourNumber, members}
+use Rattle.rules.specs.Charge.{charge}
+use Rattle.rules.specs.HourFile.{hourly, lengthBad, hourOf, word, blockWord}
+use Rattle.rules.specs.Refusals.{Verdict, accepted, refusedAt, row, verdict, badLength, tooShort, layoutRows, fileRows, hourRows}
+use Rattle.rules.specs.Settling.{isAccepted}
+use Rattle.rules.specs.Statement.{firstLine, memberLine, memberLines, refusedLine, statement}
+use Rattle.rules.specs.Kept.{HourKept, FileKept}
+use Rattle.rules.proofs.Rows.{accepts-when-whole, hour-numbered, zero-accepts, refused-first, passed-on}
+use Rattle.rules.proofs.Kept.{passed-kept}
+use Rattle.rules.proofs.Digits.{decimal-at-most-20, decimal-length-at-most}
+use Rattle.rules.proofs.Text.{field-has-width}
+
+-- ---- accepted or refused
+
+-- an hour that passes rows 1 to 7 keeps its ranges
+pub accepted-kept : (s : List ℕ) → verdict (hourRows s) ≡ accepted → FileKept s
+accepted-kept s e = passed-kept s (accepts-when-whole (hourRows s) (hour-numbered s) .0 e)
+
+-- room for 32 members and 250 records is enough for every hour: row 11 decides nothing
+pub room-for-all : (s : List ℕ) (charges lines shares deviations : ℕ) → 32 ≤ charges → 32 ≤ lines → 250 ≤ shares → 250 ≤ deviations →
+    verdict (hourRows s ++ row 11 (tooShort (hourOf hourly s) charges lines shares deviations) ∷ []) ≡ verdict (hourRows s)
+unfolding verdict tooShort
+room-for-all s c l n d pc pl pn pd = split (isAccepted (verdict (hourRows s)))
+    (λ t. let a = zero-accepts (hourRows s) (hour-numbered s) (eqb-true _ _ t) in
+    let k = accepted-kept s a .hour-kept in
+    let h = hourOf hourly s in
+    passed-on (hourRows s) _ (accepts-when-whole (hourRows s) (hour-numbered s) .0 a)
+    ∙ rw (le-ltb c (members h) (omega (arith, k .members-most)), le-ltb l (members h) (omega (arith, k .members-most)), le-ltb n (h .count) (omega (arith, k .count-most)), le-ltb d (h .count) (omega (arith, k .count-most))) (sym a))
+    (λ t. refused-first (hourRows s) _ (λ a. eqb-false _ _ t (ap (λ (v : Verdict). v .number) a)))
+
+module _ (s : List ℕ) where
+  pub statement-accepted : verdict (hourRows s) ≡ accepted → statement s ≡ firstLine (hourOf hourly s) ++ memberLines (hourOf hourly s) (members (hourOf hourly s))
+  unfolding statement
+  statement-accepted e = rw e
+
+  pub statement-refused : (verdict (hourRows s) .number ≡ 0 → ⊥) → statement s ≡ refusedLine (verdict (hourRows s))
+  unfolding statement
+  statement-refused r = rw (ne-eqb (verdict (hourRows s) .number) 0 r)
+
+-- ---- how long it is
+
+module _ (h : Hour) where
+  pub member-line-length : (m : ℕ) → length (memberLine h m) ≡ 18
+  unfolding memberLine
+  member-line-length m = rw length-append (omega (arith, field-has-width (replicate 14 32) (charge h m)))
+
+  pub member-lines-length : (m : ℕ) → length (memberLines h m) ≡ 18 * m
+  unfolding memberLines
+  member-lines-length zero = refl
+  member-lines-length (suc m) = length-append (memberLines h m) (memberLine h m) ∙ omega (arith, member-lines-length m, member-line-length m)
+
+  -- an hour number of 32 bits has at most ten digits, members have two, records three
+  pub first-line-most : HourKept h → hourNumber h < 2 ^ 32 → length (firstLine h) ≤ 39
+  unfolding firstLine
+  first-line-most kept n = simp length-append (omega (
+    arith,
+    decimal-length-at-most (hourNumber h) 9 (omega arith),
+    decimal-length-at-most (members h) 1 (omega (arith, kept .members-most)),
+    decimal-length-at-most (h .count) 2 (omega (arith, kept .count-most)),
+  ))
+
+pub refused-line-most : (v : Verdict) → length (refusedLine v) ≤ 53
+unfolding refusedLine
+refused-line-most v = simp length-append (omega (arith, decimal-at-most-20 (v .number), decimal-at-most-20 (v .place)))
+
+-- the hour number of a file is a word of 32 bits
+pub hour-number-most : (s : List ℕ) → ((i : ℕ) → getD s i 0 < 256) → hourNumber (hourOf hourly s) < 2 ^ 32
+unfolding hourOf blockWord word
+hour-number-most s b = omega (arith, b 32, b 33, b 34, b 35)
+
+-- No statement of a byte string is longer than 615 bytes: 39 for line 1, and 18 for each of 32 members.
+pub statement-fits : (s : List ℕ) → ((i : ℕ) → getD s i 0 < 256) → length (statement s) ≤ 615
+statement-fits s b = split (isAccepted (verdict (hourRows s)))
+    (λ t. let a = zero-accepts (hourRows s) (hour-numbered s) (eqb-true _ _ t) in
+    let h = hourOf hourly s in
+    let kept = accepted-kept s a .hour-kept in
+    rw (statement-accepted s a, length-append (firstLine h) (memberLines h (members h)), member-lines-length h (members h))
+    (omega (arith, first-line-most h kept (hour-number-most s b), kept .members-most)))
+    (λ t. rw (statement-refused s (eqb-false _ _ t)) (omega (arith, refused-line-most (verdict (hourRows s)))))
+
+-- ---- of a cut input
 
 -- a file over 26 blocks is refused by its length alone
 too-long : (s : List ℕ) → 13312 < length s → statement s ≡ refusedLine (refusedAt 1 0)

@@ -207,6 +207,12 @@ module _ (f : List ℕ) (z : ℤ) where
   pub field-has-width : length (write f z .field) ≡ length f
   field-has-width = write-ind (λ w. length (w .field) ≡ length f) (λ o. refl) (λ n. refl) (λ h l. amount-field-width (length f) z l)
 
+-- 14 columns hold every amount in range, whatever stood there
+pub written-in-14 : (f : List ℕ) (z : ℤ) → length f ≡ 14 → natAbs z ≤ 999999999999 → write f z .field ≡ write (replicate 14 32) z .field
+written-in-14 f z l h =
+    let fits = text-fits-14 z h in
+    rw (write-accepted-at f z h (omega arith), write-accepted-at (replicate 14 32) z h fits, l)
+
 -- ---- what is written is read, and what is read is written
 
 -- written, then read

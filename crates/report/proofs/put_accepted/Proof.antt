@@ -2,7 +2,7 @@
 use native.Mathlib.Omega.{arith}
 use borrow.Author.Needs.{needs}
 use Rattle.posting.specs.Hour.{hourIn}
-use Rattle.report.proofs.Laws.{hour-number-most, first-line-most}
+use Rattle.rules.proofs.Stated.{hour-number-most, first-line-most}
 use Rattle.report.proofs.Putting.{put-on}
 use Rattle.report.proofs.put_accepted.Statement.{statement}
 use Rattle.report.proofs.put_accepted.Tie as tie

@@ -1,9 +1,7 @@
 -- `report::put_statement` meets its contract: settling answers as the statement's rows do, and its charges are the hour's.
-use mathlib.Core.Path.{_≡_}
-use mathlib.Core.List.{List, [], _∷_}
+use mathlib.Core.List.{[], _∷_}
 use types.Run.{OneOf, miss}
 use borrow.Author.Needs.{needs}
-use Rattle.rules.specs.declared.Answer.the-variants.{Accepted}
 use Rattle.report.proofs.Putting.{put-as}
 use Rattle.report.proofs.Settled.{refused-statement, accepted-statement, charged}
 use Rattle.report.proofs.put_statement.Statement.{statement}

@@ -6,7 +6,7 @@ use borrow.Author.Needs.{needs}
 use borrow.Author.Tests.{lt-ltb, le-ltb}
 use lib.ListN.{length}
 use Rattle.report.specs.Stated.{stated}
-use Rattle.report.proofs.Laws.{statement-fits}
+use Rattle.rules.proofs.Stated.{statement-fits}
 use Rattle.report.proofs.Putting.{put-first}
 use Rattle.report.proofs.statement.Statement.{statement}
 use Rattle.report.proofs.statement.Tie as tie

@@ -7,8 +7,7 @@ use borrow.Rule.Slice.PartMut.{midOf, mid-len}
 use lib.ListN.{length, replicate}
 use Rattle.whole.proofs.Machine.{read-back}
 use Rattle.rules.specs.Settling.{write}
-use Rattle.rules.proofs.Text.{field-has-width}
-use Rattle.report.proofs.Laws.{written-in-14}
+use Rattle.rules.proofs.Text.{field-has-width, written-in-14}
 use Rattle.report.proofs.Putting.{put-as, part-put}
 use Rattle.report.proofs.lines.put_charge.Statement.{statement}
 use Rattle.report.proofs.lines.put_charge.Tie as tie

@@ -18,7 +18,7 @@ use Rattle.rules.proofs.Bounds.{charge-under}
 use Rattle.posting.specs.Hour.{hourIn}
 use Rattle.report.specs.Put.{Put}
 use Rattle.report.specs.Lines.{Charged, chargeLine}
-use Rattle.report.proofs.Laws.{member-lines-length}
+use Rattle.rules.proofs.Stated.{member-lines-length}
 use Rattle.report.proofs.Putting.{put-nothing, put-length, put-on, put-as}
 use Rattle.report.proofs.lines.put_members.Statement.{statement}
 use Rattle.report.proofs.lines.put_members.Tie as tie
