@@ -1,10 +1,13 @@
 -- What the contract of `statement` says by itself, whatever code meets it.
 use mathlib.Core.Path.{_≡_, sym, _∙_}
 use mathlib.Core.List.{List}
-use Prim.Native.Nat.{ℕ, _≤_, _<_}
-use lib.ListN.{length, take}
+use Prim.Native.Nat.{ℕ, _≤_, _<_, zero-le}
+use native.Mathlib.Omega.{arith}
+use lib.Dec.{ltb}
+use lib.ListN.{length, take, length-append}
 use lib.Seq.{take-append-seam}
 use borrow.Author.Tests.{lt-ltb, le-ltb}
+use Rattle.whole.proofs.Tests.{split}
 use Rattle.rules.specs.Statement.{statement}
 use Rattle.rules.proofs.Stated.{cut-input-same}
 use Rattle.report.specs.Stated.{stated, HasStated}
@@ -27,3 +30,8 @@ module _ {s out after : List ℕ} {n : ℕ} (f : HasStated s out n after) where
 -- a reader that stops one byte past the longest file prints the statement of its whole input
 pub cut-input-stated : (s : List ℕ) {out after : List ℕ} {n : ℕ} → 615 ≤ length out → HasStated (take 13313 s) out n after → take n after ≡ statement s
 cut-input-stated s room f = whole-statement f room ∙ cut-input-same s
+
+-- The bytes put are bytes of the slice.
+pub count-within : {s out after : List ℕ} {n : ℕ} → HasStated s out n after → n ≤ length after
+unfolding stated
+count-within {s} {out} f = rw (f .count-is, f .out-is) (split (ltb (length out) 615) (λ e. rw e zero-le) (λ e. rw (e, length-append) (omega arith)))
