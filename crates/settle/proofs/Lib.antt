@@ -1,3 +1,4 @@
--- The laws behind settling: what is held, what is answered.
+-- The laws behind settling: what is held, what is answered, and what the promise gives.
 pub mod Held
 pub mod Answered
+pub mod Written

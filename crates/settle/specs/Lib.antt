@@ -1,2 +1,3 @@
--- What the contracts of `settle` cite beside `rules` and `posting`.
+-- What the contracts and theorems of `settle` cite beside `rules` and `posting`.
 pub mod Parallel
+pub mod Written

@@ -1,0 +1,118 @@
+-- What `settle` answered and wrote, from its promise alone. It is what `rules` settles where the two lists of amounts and counts are one list
+-- of lines, so that the three demands hold of it; and nothing else fits.
+use mathlib.Core.Path.{_≡_, refl, sym, _∙_, ap, ap₂}
+use mathlib.Core.Bool.{Bool, true, false, cond}
+use mathlib.Core.List.{List, [], _∷_, _++_}
+use Prim.Native.Nat.{ℕ, _≤_, _<_}
+use native.Mathlib.Omega.{arith}
+use lib.IntN.{ℤ, pos}
+use lib.ListN.{length, getD}
+use lib.Seq.{ext-getD}
+use lib.Dec.{ltb}
+use borrow.Author.Tests.{ltb-true, ltb-false, eqb-true}
+use Rattle.whole.specs.Below.{valuesBelow, replacingFirst}
+use Rattle.whole.proofs.Tests.{split}
+use Rattle.whole.proofs.Buffers.{length-values, getD-values, length-replacing, getD-replacing, getD-kept}
+use Rattle.rules.specs.declared.Answer.{Answer}
+use Rattle.rules.specs.declared.Answer.the-variants.{Accepted}
+use Rattle.rules.specs.declared.Line.{Line}
+use Rattle.rules.specs.declared.Settled.{Settled}
+use Rattle.rules.specs.Record.{Hour, members}
+use Rattle.rules.specs.Charge.{amount, recordsOf}
+use Rattle.rules.specs.Refusals.{Row, row, tooShort, hourRows, verdict}
+use Rattle.rules.specs.Settling.{Buffers, Settlement, isAccepted, bufferRows, settleRows, lineOf, filled, settle}
+use Rattle.rules.specs.Posting.{emptyLine}
+use Rattle.rules.specs.Promises.{Accepts, ByFormula, Fits}
+use Rattle.rules.specs.Outcome.{FairOutcome}
+use Rattle.rules.proofs.Rows.{one-answer, settle-accepts, settle-verdict, settle-numbered, zero-accepts, whole-parts}
+use Rattle.rules.proofs.Demands.{Room, buffers-room}
+use Rattle.rules.proofs.Outcome.{by-formula, fair-outcome}
+use Rattle.posting.specs.Hour.{hourIn}
+use Rattle.settle.specs.Parallel.{Lent, lines, lentRow, parallelRows, filledLent, Outcome, settleParallel, FitsParallel}
+use Rattle.settle.specs.Written.{lineAt, asBuffers}
+
+-- ---- two lists or one
+
+module _ (b : Lent) where
+  line-count : length (asBuffers b .lines) ≡ lines b
+  unfolding asBuffers
+  line-count = length-values (lineAt b) (lines b)
+
+  module _ (h : Hour) (room : members h ≤ lines b) where
+    amounts-kept : length (filledLent h b .amounts) ≡ length (b .amounts)
+    unfolding filledLent
+    amounts-kept = length-replacing (amount h) (members h) (b .amounts) (omega arith)
+
+    counts-kept : length (filledLent h b .counts) ≡ length (b .counts)
+    unfolding filledLent
+    counts-kept = length-replacing (recordsOf h) (members h) (b .counts) (omega arith)
+
+    -- the lines as they are written, place by place
+    line-written : (m : ℕ) → m < lines b → lineAt (filledLent h b) m ≡ getD (replacingFirst (lineOf h) (members h) (asBuffers b .lines)) m emptyLine
+    unfolding lineAt filledLent lineOf asBuffers
+    line-written m l = split (ltb m (members h))
+        (λ t. let k = ltb-true m (members h) t in
+        ap₂ (λ (a : ℤ) (n : ℕ). record { amount = a; records = n }) (getD-replacing (amount h) (members h) (b .amounts) m (pos 0) k) (getD-replacing (recordsOf h) (members h) (b .counts) m 0 k)
+        ∙ sym (getD-replacing (lineOf h) (members h) (asBuffers b .lines) m emptyLine k))
+        (λ f. let k = ltb-false m (members h) f in
+        ap₂ (λ (a : ℤ) (n : ℕ). record { amount = a; records = n }) (getD-kept (amount h) (members h) (b .amounts) m (pos 0) k) (getD-kept (recordsOf h) (members h) (b .counts) m 0 k)
+        ∙ sym (getD-kept (lineOf h) (members h) (asBuffers b .lines) m emptyLine k ∙ getD-values (lineAt b) (lines b) m emptyLine l))
+
+    lines-written : valuesBelow (lineAt (filledLent h b)) (lines (filledLent h b)) ≡ replacingFirst (lineOf h) (members h) (asBuffers b .lines)
+    lines-written =
+        let n : lines (filledLent h b) ≡ lines b = omega (arith, amounts-kept, counts-kept) in
+        let own = length-values (lineAt (filledLent h b)) (lines (filledLent h b)) in
+        let other = length-replacing (lineOf h) (members h) (asBuffers b .lines) (omega (arith, line-count)) in
+        ext-getD emptyLine _ _ (omega (arith, line-count)) (λ m l.
+        getD-values (lineAt (filledLent h b)) (lines (filledLent h b)) m emptyLine (omega arith) ∙ line-written m (omega arith))
+
+    -- filling the five buffers fills the four
+    filled-alike : asBuffers (filledLent h b) ≡ filled h (asBuffers b)
+    unfolding asBuffers filled filledLent
+    filled-alike = λ k. record { charges = filled h (asBuffers b) .charges; shares = filled h (asBuffers b) .shares; deviations = filled h (asBuffers b) .deviations; lines = lines-written k }
+
+-- ---- settling
+
+module _ (s : List ℕ) (b : Lent) where
+  same-rows : settleRows s (asBuffers b) ≡ parallelRows s b
+  unfolding settleRows bufferRows parallelRows lentRow asBuffers
+  same-rows = ap (λ n. hourRows s ++ row 11 (tooShort (hourIn s) (length (b .charges)) n (length (b .shares)) (length (b .deviations))) ∷ []) (line-count b)
+
+  room : Accepts s (asBuffers b) → members (hourIn s) ≤ lines b
+  unfolding settleRows
+  room a =
+      let r = buffers-room (hourIn s) (asBuffers b) (whole-parts (hourRows s) (bufferRows (hourIn s) (asBuffers b)) .0 (settle-accepts s (asBuffers b) .0 a) .1) in
+      omega (arith, line-count b, r .lines-room)
+
+  -- Settling with two lists is `rules`' settling with one.
+  pub settles-alike : settle s (asBuffers b) ≡ record { verdict = settleParallel s b .verdict; ufe = settleParallel s b .ufe; buffers = asBuffers (settleParallel s b .buffers) }
+  unfolding settle settleParallel
+  settles-alike = rw same-rows (split (isAccepted (verdict (parallelRows s b)))
+      (λ t. let a : Accepts s (asBuffers b) = settle-verdict s (asBuffers b) ∙ zero-accepts (settleRows s (asBuffers b)) (settle-numbered s (asBuffers b)) (ap (λ (rows : List Row). verdict rows .number) same-rows ∙ eqb-true _ _ t) in
+      rw (t, filled-alike b (hourIn s) (room a)))
+      (λ f. rw f))
+
+-- ---- what the promise gives
+
+module _ (s : List ℕ) (b : Lent) (r : Settled) (after : Lent) (f : FitsParallel s b r after) where
+  -- What `settle` answered and left behind is what `rules` says of the four buffers.
+  pub fits : Fits s (asBuffers b) r (asBuffers after)
+  fits = record {
+    verdict-is = f .verdict-is ∙ sym (ap (λ (x : Settlement). x .verdict) (settles-alike s b));
+    ufe-is = f .ufe-is ∙ sym (ap (λ (x : Settlement). x .ufe) (settles-alike s b));
+    buffers-are = ap asBuffers (f .buffers-are) ∙ sym (ap (λ (x : Settlement). x .buffers) (settles-alike s b));
+  }
+
+  -- Accepted: every figure it answered and wrote is the tariff's (demand 2), and the sums come out whole (demand 3).
+  pub settled-by-formula : r .answer ≡ Accepted → ByFormula (hourIn s) (asBuffers b) (r .ufe) (asBuffers after)
+  settled-by-formula e = by-formula s (asBuffers b) fits e
+
+  pub settled-fairly : r .answer ≡ Accepted → FairOutcome (hourIn s) (r .ufe) (asBuffers after)
+  settled-fairly e = fair-outcome s (asBuffers b) fits e
+
+  -- No second result fits: answer, figures and all five buffers are determined.
+  pub one-outcome : (t : Settled) (other : Lent) → FitsParallel s b t other → (r ≡ t) × (after ≡ other)
+  one-outcome t other g = (
+    ap₂ (λ (a : Answer) (u : List ℤ). record { answer = a; ufe = u }) (one-answer (r .answer) (t .answer) (f .verdict-is ∙ sym (g .verdict-is))) (f .ufe-is ∙ sym (g .ufe-is)),
+    f .buffers-are ∙ sym (g .buffers-are),
+  )
