@@ -10,7 +10,7 @@ use Rattle.buffers.proofs.main.Tie as tie
 use Rattle.buffers.proofs.main.Reads as reads
 use Rattle.buffers.proofs.main.Lts as lts
 use Rattle.buffers.proofs.argument.Reads as argument-reads
-use Rattle.buffers.proofs.show_with.Reads as show-with-reads
+use Rattle.showing.proofs.show_with.Reads as show-with-reads
 use Rattle.io.proofs.large_buffer.Reads as large-buffer-reads
 use Rattle.io.proofs.read_full.Reads as read-full-reads
 

@@ -2,11 +2,11 @@ use mathlib.Core.Path.{sym, _∙_}
 use native.Mathlib.Omega.{arith}
 use lib.Seq.{length-take-le}
 use borrow.Author.Needs.{needs}
-use Rattle.buffers.proofs.show_with.Statement.{statement}
-use Rattle.buffers.proofs.show_with.Tie as tie
-use Rattle.buffers.proofs.show_with.Reads as reads
-use Rattle.buffers.proofs.show_with.Lts as lts
-use Rattle.buffers.proofs.show.Reads as show-reads
+use Rattle.showing.proofs.show_with.Statement.{statement}
+use Rattle.showing.proofs.show_with.Tie as tie
+use Rattle.showing.proofs.show_with.Reads as reads
+use Rattle.showing.proofs.show_with.Lts as lts
+use Rattle.showing.proofs.show.Reads as show-reads
 
 -- src/main.rt:90:9
 array-borrow-prefix-charged : tie.Need-array-borrow-prefix-charged

@@ -2,11 +2,11 @@ use Prim.Native.Nat.{_-_, _≤_}
 use native.Mathlib.Omega.{arith}
 use lib.ListN.{length}
 use borrow.Author.Needs.{needs}
-use Rattle.buffers.proofs.print_numbers.Statement.{statement}
-use Rattle.buffers.proofs.print_numbers.Tie as tie
-use Rattle.buffers.proofs.print_numbers.Reads as reads
-use Rattle.buffers.proofs.print_numbers.Lts as lts
-use Rattle.buffers.proofs.print_signed.Reads as print-signed-reads
+use Rattle.showing.proofs.print_numbers.Statement.{statement}
+use Rattle.showing.proofs.print_numbers.Tie as tie
+use Rattle.showing.proofs.print_numbers.Reads as reads
+use Rattle.showing.proofs.print_numbers.Lts as lts
+use Rattle.showing.proofs.print_signed.Reads as print-signed-reads
 use Rattle.io.proofs.write_all.Reads as write-all-reads
 
 abbrev Inv-loop : tie.InvT-loop
