@@ -1,0 +1,51 @@
+// Settles the hour file on standard input and shows the answer, the UFE figures and every place of every buffer. The arguments are the
+// lengths of the charges, lines, shares and deviations; before settling every place holds 77.
+ghost use Prim.Native.Nat.{_≤_};
+use libc::STDIN_FILENO;
+
+// The decimal number at the start of a text, or `most` if it is larger.
+fn decimal(text: &[u8], most: usize) -> usize
+    requires { ⌜ most ≤ 1000 ⌝ }
+    ensures { λ r. ⌜ r ≤ most ⌝ }
+{
+    let mut number = 0;
+    let mut i = 0;
+    while i < text.len() {
+        let digit = text[i];
+        if digit < b'0' || b'9' < digit {
+            return number;
+        }
+        let next = 10 * number + (digit - b'0') as usize;
+        if most < next {
+            return most;
+        }
+        number = next;
+        i += 1;
+    }
+    number
+}
+
+// The length that argument `i` names, `usual` without one.
+fn argument(i: usize, usual: usize, most: usize) -> usize
+    requires { ⌜ (usual ≤ most) × (most ≤ 1000) ⌝ }
+    ensures { λ r. ⌜ r ≤ most ⌝ }
+{
+    let mut space = [0u8; 8];
+    let n = os::arg(i, &mut space);
+    if n == 0 {
+        return usual;
+    }
+    decimal(&space[..n], most)
+}
+
+fn main() {
+    let charges = argument(1, 32, 40);
+    let lines = argument(2, 32, 40);
+    let shares = argument(3, 250, 260);
+    let deviations = argument(4, 250, 260);
+    let mut space = io::large_buffer();
+    // one byte more than the longest file, so that a longer one shows
+    let most = 13313;
+    let n = io::read_full(STDIN_FILENO, &mut space[..most]);
+    showing::show_with(&space[..n], charges, lines, shares, deviations);
+}

@@ -1,0 +1,101 @@
+// Settles an hour file into buffers of given lengths, in which every place holds 77, and shows the answer, the UFE figures and every place
+// of every buffer afterwards: what the programs `buffers` and `short_buffers` share.
+ghost use mathlib.Core.Path.{_≡_};
+ghost use Prim.Native.Nat.{_≤_};
+ghost use lib.ListN.{length};
+use libc::STDOUT_FILENO;
+use rules::Settled;
+
+fn print_signed(number: i64) {
+    if number < 0 {
+        io::write_all(STDOUT_FILENO, b"-");
+    }
+    io::print_decimal(STDOUT_FILENO, sign::size_of(number));
+}
+
+// A name and the numbers, one blank apart.
+fn print_numbers(name: &[u8], numbers: &[i64]) {
+    io::write_all(STDOUT_FILENO, name);
+    let mut i = 0;
+    while i < numbers.len() {
+        io::write_all(STDOUT_FILENO, b" ");
+        print_signed(numbers[i]);
+        i += 1;
+    }
+    io::write_all(STDOUT_FILENO, b"\n");
+}
+
+// Each line as its amount and its record count.
+fn print_lines(amounts: &[i64], counts: &[u32])
+    requires { ⌜ length (now amounts) ≡ length (now counts) ⌝ }
+{
+    io::write_all(STDOUT_FILENO, b"lines");
+    let mut m = 0;
+    while m < amounts.len() {
+        io::write_all(STDOUT_FILENO, b" ");
+        print_signed(amounts[m]);
+        io::write_all(STDOUT_FILENO, b":");
+        io::print_decimal(STDOUT_FILENO, counts[m] as u64);
+        m += 1;
+    }
+    io::write_all(STDOUT_FILENO, b"\n");
+}
+
+fn print_answer(settled: Settled) {
+    let answer = settled.answer;
+    let figures = settled.ufe;
+    io::write_all(STDOUT_FILENO, b"answer ");
+    io::print_decimal(STDOUT_FILENO, answer::number_of(answer));
+    io::write_all(STDOUT_FILENO, b" at ");
+    io::print_decimal(STDOUT_FILENO, answer::place_of(answer) as u64);
+    io::write_all(STDOUT_FILENO, b"\n");
+    print_numbers(b"ufe", &figures);
+}
+
+fn print_buffers(
+    charges: &[i64],
+    shares: &[i64],
+    deviations: &[i64],
+    amounts: &[i64],
+    counts: &[u32],
+)
+    requires { ⌜ length (now amounts) ≡ length (now counts) ⌝ }
+{
+    print_numbers(b"charges", charges);
+    print_numbers(b"shares", shares);
+    print_numbers(b"deviations", deviations);
+    print_lines(amounts, counts);
+}
+
+fn show(
+    file: &[u8],
+    charges: &mut [i64],
+    shares: &mut [i64],
+    deviations: &mut [i64],
+    amounts: &mut [i64],
+    counts: &mut [u32],
+)
+    requires { ⌜ length (now amounts) ≡ length (now counts) ⌝ }
+{
+    print_answer(settle::settle(file, charges, shares, deviations, amounts, counts));
+    print_buffers(charges, shares, deviations, amounts, counts);
+}
+
+// Buffers of these lengths. This function only makes them.
+pub fn show_with(file: &[u8], charges: usize, lines: usize, shares: usize, deviations: usize)
+    requires { ⌜ (charges ≤ 40) × (lines ≤ 40) × (shares ≤ 260) × (deviations ≤ 260) ⌝ }
+{
+    let mut charged = [77i64; 40];
+    let mut shared = [77i64; 260];
+    let mut deviated = [77i64; 260];
+    let mut owed = [77i64; 40];
+    let mut counted = [77u32; 40];
+    show(
+        file,
+        &mut charged[..charges],
+        &mut shared[..shares],
+        &mut deviated[..deviations],
+        &mut owed[..lines],
+        &mut counted[..lines],
+    );
+}
