@@ -65,7 +65,8 @@ module _ (h : Hour) where
   unfolding rankedShare
   shares-by-rank i l = let a : ℕ = areaOf h i in own-share i ∙ ap (withSignOf (ufe h a)) (ranked (inArea h a isLoad) (demand h) (h .count) (natAbs (ufe h a)) i l)
 
-  share-in : (a i : ℕ) → cond (eqb (areaOf h i) a) (shareOf h i) (pos 0) ≡ withSignOf (ufe h a) (sizeIn a i)
+  -- What a record has of area a's UFE: its own share, or nothing.
+  pub share-in : (a i : ℕ) → cond (eqb (areaOf h i) a) (shareOf h i) (pos 0) ≡ withSignOf (ufe h a) (sizeIn a i)
   unfolding inArea
   share-in a i = split (eqb (areaOf h i) a)
       (λ t. rw t (own-share i ∙ ap (λ (x : ℕ). withSignOf (ufe h x) (sizeIn x i)) (eqb-true (areaOf h i) a t)))

@@ -28,7 +28,7 @@ use Rattle.rules.proofs.Words.{Holds, holds, length-is-whole}
 -- ---- a search that found nothing
 
 -- no broken word
-unbroken : (o : Option ℕ) → isBroken o ≡ false → o ≡ none
+pub unbroken : (o : Option ℕ) → isBroken o ≡ false → o ≡ none
 unbroken none e = refl
 unbroken (some w) e = never refl e
 
@@ -155,7 +155,7 @@ module _ (s : List ℕ) (length-whole : badLength hourly s ≡ none) (blocks-who
   length-good = no-place (lengthBad hourly s) length-whole
 
   -- word 2 of a block other than the first: at most ten records
-  held-most : (b : ℕ) → 1 ≤ b → b < blocks s → blockWord s b 2 ≤ 10
+  pub held-most : (b : ℕ) → 1 ≤ b → b < blocks s → blockWord s b 2 ≤ 10
   unfolding badBlock blockRule countRule
   held-most b l m =
       let other : eqb b 0 ≡ false = ne-eqb b 0 (λ e. omega arith) in

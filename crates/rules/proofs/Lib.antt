@@ -6,8 +6,11 @@ pub mod Digits
 pub mod Parts
 pub mod Text
 pub mod Rows
+pub mod RuleTables
 pub mod Words
+pub mod PartWords
 pub mod Kept
+pub mod Faults
 pub mod Bounds
 pub mod Fair
 pub mod Demands

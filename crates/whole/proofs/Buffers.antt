@@ -1,14 +1,14 @@
 -- Laws of the list of the values f 0, .., f (n - 1), and of a buffer whose first n places hold them.
 use mathlib.Core.Path.{_≡_, refl, sym, _∙_, ap, ap₂}
 use mathlib.Core.Bool.{cond}
-use mathlib.Core.List.{List, [], _∷_, _++_}
+use mathlib.Core.List.{List, [], _∷_, _++_, append-nil}
 use Prim.Native.Nat.{ℕ, zero, suc, _+_, _-_, _≤_, _<_}
 use native.Mathlib.Nat.{not-suc-le-zero}
 use native.Mathlib.Numerals.{add-one}
 use native.Mathlib.Omega.{arith}
 use lib.Dec.{ltb, eqb}
 use lib.ListN.{length, take, drop, getD, set, length-append, length-drop, length-set, List·getD-append}
-use lib.Seq.{drop-cons, drop-at, take-at, set-at, getD-at, getD-drop, append-snoc, set-append-left, getD-set-same, getD-set-other, ext-getD}
+use lib.Seq.{drop-length, drop-cons, drop-at, take-at, set-at, getD-at, getD-drop, append-snoc, set-append-left, getD-set-same, getD-set-other, ext-getD}
 use borrow.Author.Tests.{ltb-true, ltb-false, eqb-true, eqb-false}
 use Rattle.whole.specs.Below.{valuesBelow, replacingFirst}
 use Rattle.whole.proofs.Tests.{split, last-or-below}
@@ -112,3 +112,20 @@ module _ {ℓ} {A : Type ℓ} where
       rw (List·getD-append (valuesBelow f n) (drop n old) d m k) (
       set-append-left (valuesBelow f n) (drop n old) m (g (getD (valuesBelow f n) m d)) k
       ∙ ap (λ (l : List A). l ++ drop n old) (values-changed g f n m d))
+
+-- ---- a loop that writes f's values into a buffer, one place a turn: i of them are written
+module _ {ℓ} {A : Type ℓ} (f : ℕ → A) (i : ℕ) (old out : List A) (written : out ≡ replacingFirst f i old) where
+  pub written-length : i ≤ length old → length out ≡ length old
+  written-length h = ap length written ∙ length-replacing f i old h
+
+  pub written-next : (v : A) → i < length old → v ≡ f i → set out i v ≡ replacingFirst f (i + 1) old
+  written-next v h e = rw (written, e) (replacing-next f i old h)
+
+  -- what is not yet written is as it was
+  pub unwritten : (k : ℕ) (d : A) → i ≤ k → getD out k d ≡ getD old k d
+  unwritten k d h = rw written (getD-kept f i old k d h)
+
+  -- once all places are written, nothing is left of what stood there
+  pub all-written : i ≡ length old → out ≡ valuesBelow f (length old)
+  unfolding replacingFirst
+  all-written e = written ∙ rw (e, drop-length old) (append-nil (valuesBelow f (length old)))

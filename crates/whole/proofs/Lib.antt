@@ -5,6 +5,7 @@ pub mod Ranges
 pub mod Sums
 pub mod Totals
 pub mod Search
+pub mod Tables
 pub mod Buffers
 pub mod Stores
 pub mod Division

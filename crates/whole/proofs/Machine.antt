@@ -167,6 +167,10 @@ below-0 {z} f e = ltZ-yes (subst T (sym (ap (λ (x : ℤ). ltZ x (pos 0)) (sym (
 pub from-0 : {z : ℤ} → SFits w64 z → ltZ (back z) (pos 0) ≡ false → pos 0 ≤ℤ z
 from-0 {z} f e = ltZ-no (subst (λ (b : Bool). T (not b)) (sym (ap (λ (x : ℤ). ltZ x (pos 0)) (sym (toZ-ofZ w64 z f)) ∙ e)) tt)
 
+-- a number whose bits are 0
+pub zero-bits : {z : ℤ} → SFits w64 z → ofZ w64 z ≡ 0 → z ≡ pos 0
+zero-bits {z} f e = sym (toZ-ofZ w64 z f) ∙ ap (toZ w64) e
+
 -- a fact of the number that is meant, as one of what is read back
 pub told : (P : ℤ → Type 0) (x : Num) → T (good x) → P (x .z) → P (x .rd)
 told P x t h = subst P (sym (stored x t)) h

@@ -3,10 +3,12 @@ use mathlib.Core.Path.{_≡_, refl, sym, _∙_, ap, ap₂}
 use mathlib.Core.Logic.{_↔_}
 use mathlib.Core.Bool.{Bool, true, false, cond}
 use mathlib.Core.Option.{Option, none, some, Option·some-injective, orElse}
-use Prim.Native.Nat.{ℕ, zero, suc, _+_, _<_}
+use Prim.Native.Nat.{ℕ, zero, suc, _+_, _≤_, _<_}
 use native.Mathlib.Nat.{not-suc-le-zero}
 use native.Mathlib.Numerals.{add-one}
 use native.Mathlib.Omega.{arith}
+use lib.Dec.{ltb}
+use borrow.Author.Tests.{ltb-true, ltb-false}
 use Rattle.whole.specs.Below.{firstBelow}
 use Rattle.whole.proofs.Tests.{split, never-some, no-else, last-or-below}
 
@@ -65,3 +67,17 @@ found p (suc n) i e = step (firstBelow p n) refl (found p n i) e
 
 pub first-some : (p : ℕ → Bool) (n i : ℕ) → (firstBelow p n ≡ some i) ↔ ((i < n) × (p i ≡ true) × ((j : ℕ) → j < i → p j ≡ false))
 first-some p n i = (found p n i, λ f. first-hit p i n (none-below p i (f .2)) (f .1) (f .0))
+
+-- ---- a search that is cut off, goes on, or is left to another test
+
+pub first-less : (p : ℕ → Bool) (m n : ℕ) → firstBelow p m ≡ none → n ≤ m → firstBelow p n ≡ none
+first-less p m n e l = none-below p n (λ i k. first-none p m e i (omega arith))
+
+pub first-more : (p : ℕ → Bool) (n m i : ℕ) → firstBelow p n ≡ some i → n ≤ m → firstBelow p m ≡ some i
+first-more p n m i e l = let f = first-some p n i .0 e in first-some p m i .1 (omega (arith, f .0), f .1, f .2)
+
+-- nothing below m: from there on another test may answer, if it too passes nothing below m
+pub first-rest : (p q : ℕ → Bool) (m n : ℕ) → firstBelow p m ≡ none → ((i : ℕ) → i < m → q i ≡ false) → ((i : ℕ) → m ≤ i → i < n → p i ≡ q i) → firstBelow p n ≡ firstBelow q n
+first-rest p q m n e f g = first-ext p q n (λ i l. split (ltb i m)
+    (λ t. let k : i < m = ltb-true i m t in first-none p m e i k ∙ sym (f i k))
+    (λ t. g i (ltb-false i m t) l))

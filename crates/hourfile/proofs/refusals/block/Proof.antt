@@ -1,0 +1,39 @@
+-- `hourfile::refusals::block` meets its contract: 512 bytes lie between the two ends.
+use mathlib.Core.Path.{_≡_, ap}
+use Prim.Native.Nat.{ℕ, _+_, _*_, _-_}
+use native.Mathlib.Omega.{arith}
+use lib.ListN.{take, drop}
+use borrow.Author.Needs.{needs}
+use Rattle.hourfile.proofs.refusals.block.Statement.{statement}
+use Rattle.hourfile.proofs.refusals.block.Tie as tie
+
+gap : (b : ℕ) → (512 * b + 512) - 512 * b ≡ 512
+gap b = omega arith
+
+mul-from : tie.Need-mul-from
+mul-from c = search needs
+
+mul-to : tie.Need-mul-to
+mul-to c = search needs
+
+add-to : tie.Need-add-to
+add-to c = search needs
+
+sub-result : tie.Need-sub-result
+sub-result c = search needs
+
+part-result-start : tie.Need-part-result-start
+part-result-start c = search needs
+
+part-result-end : tie.Need-part-result-end
+part-result-end c = search needs
+
+returns : tie.Need-returns
+returns c =
+    let at = c .before .args in
+    ap (λ (m : ℕ). take m (drop (512 * at .b) (at .file .now))) (gap (at .b))
+
+pub block-spec : {M : Type 1} → statement M
+block-spec =
+    tie.close
+    (tie.spec mul-from mul-to add-to sub-result part-result-start part-result-end returns)

@@ -1,0 +1,143 @@
+-- The searches of rows 3 to 5 as the code makes them: which words of a block and of the head must be zero; the first fault of the records.
+use mathlib.Core.Path.{_≡_, refl, sym, _∙_, ap, ap₂}
+use mathlib.Core.Bool.{Bool, true, false, not, cond, _&&_}
+use mathlib.Core.Option.{Option, none, some, bind, Option·some-injective}
+use mathlib.Core.List.{List}
+use Prim.Native.Nat.{ℕ, _+_, _-_, _*_, _≤_, _<_, zero-le}
+use native.Mathlib.Omega.{arith}
+use lib.ListN.{take, drop}
+use lib.Dec.{leb, eqb}
+use borrow.Author.Tests.{leb-true, leb-false, eqb-true, eqb-false, lt-ltb, le-ltb, le-leb, lt-leb, eq-eqb, ne-eqb}
+use Rattle.whole.proofs.Tests.{split, never, never-some}
+use Rattle.whole.specs.Below.{firstBelow}
+use Rattle.whole.proofs.Search.{first-some, first-more, first-rest, first-ext, none-below}
+use Rattle.rules.specs.declared.Rule.the-variants.{Any}
+use Rattle.rules.specs.Record.{Hour}
+use Rattle.rules.specs.HourFile.{hourly, word, blocks, blockWord, recordCount}
+use Rattle.rules.specs.Ranges.{keeps, mustBeZero, firstBroken, pastRule, blockRule, headRule}
+use Rattle.rules.specs.Refusals.{isBroken, badLength, badBlock, badWord, badRecord, firstFault}
+use Rattle.rules.proofs.RuleTables.{block-words}
+use Rattle.rules.proofs.PartWords.{block-part-word}
+use Rattle.rules.proofs.Kept.{unbroken, held-most}
+
+-- ---- words that must be zero
+
+zero-kept : (v : ℕ) → not (keeps mustBeZero v) ≡ not (eqb v 0)
+unfolding keeps
+zero-kept v = split (eqb v 0)
+    (λ t. rw (t, eqb-true v 0 t))
+    (λ t. rw (t, le-leb 0 v (omega arith), lt-leb v 0 (omega (arith, eqb-false v 0 t))))
+
+-- ---- a block: words 0 to 6, and those past its records
+
+broken-more : (p : ℕ → Bool) (n m : ℕ) → n ≤ m → isBroken (firstBelow p n) ≡ true → isBroken (firstBelow p m) ≡ true
+broken-more p n m l e = step (firstBelow p n) refl e
+  where
+    step : (o : Option ℕ) → firstBelow p n ≡ o → isBroken o ≡ true → isBroken (firstBelow p m) ≡ true
+    step none q e = never e refl
+    step (some i) q e = ap isBroken (first-more p n m i q l)
+
+module _ (n held b : ℕ) where
+  body-rule : (w : ℕ) → 7 ≤ w → blockRule hourly n held b w ≡ cond (eqb w 7) Any (pastRule hourly held b w)
+  unfolding blockRule
+  body-rule w l = rw block-words (rw (ne-eqb w 0 (λ e. omega arith), ne-eqb w 1 (λ e. omega arith), ne-eqb w 2 (λ e. omega arith), le-ltb w 7 l))
+
+  body-any : (w v : ℕ) → b ≡ 0 → 7 ≤ w → not (keeps (blockRule hourly n held b w) v) ≡ false
+  unfolding pastRule keeps
+  body-any w v e l = rw (body-rule w l) (split (eqb w 7) (λ t. rw t) (λ t. rw (t, eq-eqb b 0 e)))
+
+  past-records : (w v : ℕ) → (b ≡ 0 → ⊥) → 7 ≤ w → not (keeps (blockRule hourly n held b w) v) ≡ (leb (8 + 12 * held) w && not (eqb v 0))
+  unfolding pastRule keeps
+  past-records w v f l = rw (body-rule w l) (split (eqb w 7)
+      (λ t. rw (t, lt-leb (8 + 12 * held) w (omega (arith, eqb-true w 7 t))))
+      (λ t. split (leb (8 + 12 * held) w) (λ u. rw (t, ne-eqb b 0 f, u) (zero-kept v)) (λ u. rw (t, ne-eqb b 0 f, u))))
+
+  module _ (word : ℕ → ℕ) where
+    abbrev brokenBelow : ℕ → Option ℕ
+    brokenBelow = firstBroken (blockRule hourly n held b) word
+
+    pub front-broken : isBroken (brokenBelow 7) ≡ true → isBroken (brokenBelow 128) ≡ true
+    unfolding firstBroken
+    front-broken e = broken-more _ 7 128 (omega arith) e
+
+    -- the body of the first block is for row 4
+    pub first-block-whole : isBroken (brokenBelow 7) ≡ false → b ≡ 0 → isBroken (brokenBelow 128) ≡ false
+    unfolding firstBroken
+    first-block-whole e z = ap isBroken (first-rest _ (λ w. false) 7 128 (unbroken _ e) (λ w l. refl) (λ w l m. body-any w (word w) z l) ∙ none-below _ 128 (λ w l. refl))
+
+    -- another block has zeros past its records
+    pub past-front : isBroken (brokenBelow 7) ≡ false → (b ≡ 0 → ⊥) → brokenBelow 128 ≡ firstBelow (λ w. leb (8 + 12 * held) w && not (eqb (word w) 0)) 128
+    unfolding firstBroken
+    past-front e f = first-rest _ _ 7 128 (unbroken _ e) (λ w l. rw (lt-leb (8 + 12 * held) w (omega arith))) (λ w l m. past-records w (word w) f l)
+
+-- the layout of a block, read from its own 512 bytes
+pub block-part-broken : (s : List ℕ) (n b : ℕ) → isBroken (firstBroken (blockRule hourly n (word (take 512 (drop (512 * b) s)) 2) b) (word (take 512 (drop (512 * b) s))) 128)
+    ≡ isBroken (firstBroken (blockRule hourly n (blockWord s b 2) b) (blockWord s b) 128)
+unfolding firstBroken
+block-part-broken s n b = ap isBroken (first-ext _ _ 128 (λ w l. ap₂ (λ (held v : ℕ). not (keeps (blockRule hourly n held b w) v)) (block-part-word s b 2 (omega arith)) (block-part-word s b w l)))
+
+-- ---- the head
+
+module _ (zones areas : ℕ) where
+  -- words up to 8 may be anything
+  pub head-any : (w v : ℕ) → w < 9 → not (keeps (headRule zones areas w) v) ≡ false
+  unfolding headRule keeps
+  head-any w v l = rw (lt-ltb w 9 l)
+
+  -- from word 48 on they must be zero
+  pub head-zero : (w v : ℕ) → 48 ≤ w → not (keeps (headRule zones areas w) v) ≡ not (eqb v 0)
+  unfolding headRule
+  head-zero w v l = rw (le-ltb w 9 (omega arith), le-ltb w 12 (omega arith), le-ltb w 16 (omega arith), le-ltb w 48 l) (zero-kept v)
+
+-- ---- the first fault: the first bad record, and in it the first bad word
+
+-- a bad word, if there is one, as the fault of record i
+abbrev inRecord : ℕ → Option ℕ → Option (ℕ × ℕ)
+inRecord i word = bind {B = ℕ × ℕ} word (λ w. some (i, w))
+
+same-record : (j i w : ℕ) (o : Option ℕ) → inRecord j o ≡ some (i, w) → j ≡ i
+unfolding bind
+same-record j i w none e = never-some (sym e)
+same-record j i w (some v) e = ap (λ (fault : ℕ × ℕ). fault .0) (Option·some-injective (j, v) (i, w) e)
+
+has-a-word : (j : ℕ) (o : Option ℕ) → isBroken o ≡ true → inRecord j o ≡ none → ⊥
+unfolding bind
+has-a-word j none b e = never b refl
+has-a-word j (some v) b e = never-some e
+
+module _ (h : Hour) where
+  -- what the search finds
+  pub fault-at : (i w : ℕ) → badRecord h ≡ some i → badWord h i ≡ some w → firstFault h ≡ some (i, w)
+  unfolding firstFault bind
+  fault-at i w e f = rw (e, f)
+
+  pub no-fault : badRecord h ≡ none → firstFault h ≡ none
+  unfolding firstFault bind
+  no-fault e = rw e
+
+  -- what it found says which record is bad, or that none is
+  pub fault-record : (i w : ℕ) → firstFault h ≡ some (i, w) → badRecord h ≡ some i
+  unfolding firstFault bind
+  fault-record i w e = step (badRecord h) e
+    where
+      step : (o : Option ℕ) → bind o (λ j. inRecord j (badWord h j)) ≡ some (i, w) → o ≡ some i
+      step none e = never-some (sym e)
+      step (some j) e = ap some (same-record j i w (badWord h j) e)
+
+  pub fault-nowhere : firstFault h ≡ none → badRecord h ≡ none
+  unfolding firstFault badRecord bind
+  fault-nowhere e = step (badRecord h) refl e
+    where
+      step : (o : Option ℕ) → badRecord h ≡ o → bind o (λ j. inRecord j (badWord h j)) ≡ none → badRecord h ≡ none
+      step none q e = q
+      step (some j) q e = absurd (has-a-word j (badWord h j) (first-some (λ i. isBroken (badWord h i)) (h .count) j .0 q .1) e)
+
+-- ---- a file whose blocks keep the layout holds at most ten records a block
+
+pub few-records : (s : List ℕ) → badLength hourly s ≡ none → badBlock hourly s ≡ none → recordCount hourly s ≤ 10 * (blocks s - 1)
+unfolding recordCount
+few-records s e f = split (leb (blocks s) 1)
+    (λ t. rw t zero-le)
+    (λ t. let m : 1 < blocks s = leb-false (blocks s) 1 t in
+    let held : blockWord s (blocks s - 1) 2 ≤ 10 = held-most s e f (blocks s - 1) (omega arith) (omega arith) in
+    rw t (omega arith))

@@ -1,0 +1,60 @@
+-- Words of a part of a file: past the end, of a block's 512 bytes, of a record's 48. Document 01, "The hour file".
+use mathlib.Core.Path.{_≡_, refl, sym, _∙_, ap}
+use mathlib.Core.List.{List}
+use Prim.Native.Nat.{ℕ, _+_, _*_, _/_, _%_, _≤_, _<_}
+use native.Mathlib.Omega.{arith}
+use lib.ListN.{length, getD, take, drop, List·getD-eq-default}
+use lib.Seq.{getD-drop, getD-take}
+use Rattle.whole.specs.Below.{sumBelow}
+use Rattle.whole.proofs.Sums.{sum-ext}
+use Rattle.rules.specs.HourFile.{hourly, word, blockWord, blockSum, recordCount, recordWord, hourOf}
+use Rattle.rules.proofs.Words.{head-word, record-word}
+
+module _ (s : List ℕ) where
+  byte-past : (i : ℕ) → length s ≤ i → getD s i 0 ≡ 0
+  byte-past i l = List·getD-eq-default s 0 l
+
+  -- a word past the end is 0
+  pub word-past : (k : ℕ) → length s ≤ 4 * k → word s k ≡ 0
+  unfolding word
+  word-past k l = rw (
+    byte-past (4 * k) l,
+    byte-past (4 * k + 1) (omega arith),
+    byte-past (4 * k + 2) (omega arith),
+    byte-past (4 * k + 3) (omega arith),
+  )
+
+  part-byte : (from n i j : ℕ) → i < n → j ≡ from + i → getD (take n (drop from s)) i 0 ≡ getD s j 0
+  part-byte from n i j l e = rw e (getD-take n (drop from s) i 0 l ∙ getD-drop from s i 0)
+
+  -- word k of a part is the file's word j that stands there
+  part-word : (from n k j : ℕ) → 4 * k + 3 < n → 4 * j ≡ from + 4 * k → word (take n (drop from s)) k ≡ word s j
+  unfolding word
+  part-word from n k j l e = rw (
+    part-byte from n (4 * k) (4 * j) (omega arith) e,
+    part-byte from n (4 * k + 1) (4 * j + 1) (omega arith) (omega arith),
+    part-byte from n (4 * k + 2) (4 * j + 2) (omega arith) (omega arith),
+    part-byte from n (4 * k + 3) (4 * j + 3) (omega arith) (omega arith),
+  )
+
+  -- ---- a block
+
+  pub block-part-word : (b w : ℕ) → w < 128 → word (take 512 (drop (512 * b) s)) w ≡ blockWord s b w
+  unfolding blockWord
+  block-part-word b w l = part-word (512 * b) 512 w (128 * b + w) (omega arith) (omega arith)
+
+  pub block-part-sum : (b : ℕ) → sumBelow (word (take 512 (drop (512 * b) s))) 128 % 0x1_0000_0000 ≡ blockSum s b
+  unfolding blockSum
+  block-part-sum b = ap (λ (n : ℕ). n % 0x1_0000_0000) (sum-ext _ _ 128 (block-part-word b))
+
+  -- the first block has the head
+  pub head-part-word : (w : ℕ) → 8 ≤ w → w < 128 → word (take 512 (drop (512 * 0) s)) w ≡ hourOf hourly s .head w
+  head-part-word w l m = block-part-word 0 w m ∙ sym (head-word hourly s w l m)
+
+  -- ---- a record: behind the first block, ten to a block
+
+  pub record-part-word : (i w : ℕ) → i < recordCount hourly s → w < 12 → word (take 48 (drop (544 + 48 * i + 32 * (i / 10)) s)) w ≡ hourOf hourly s .rec i w
+  unfolding recordWord blockWord
+  record-part-word i w k l =
+      part-word (544 + 48 * i + 32 * (i / 10)) 48 w (128 * (1 + i / 10) + (8 + 12 * (i % 10) + w)) (omega arith) (omega arith)
+      ∙ sym (record-word hourly s i w k l)

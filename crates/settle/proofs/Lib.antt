@@ -1,0 +1,4 @@
+-- The laws behind settling, in the order of the sums.
+pub mod Wide
+pub mod Tallies
+pub mod Areas

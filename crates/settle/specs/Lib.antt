@@ -1,0 +1,4 @@
+-- What the contracts of `settle` cite beside `rules`.
+pub mod Hour
+pub mod Posted
+pub mod Shared

@@ -1,0 +1,5 @@
+// Settling.
+pub mod deviations;
+pub mod hour;
+pub mod shares;
+pub mod tally;

@@ -1,0 +1,27 @@
+-- `wordrules::past_rule` meets its contract: the tests are the definition's.
+use borrow.Author.Needs.{needs}
+use borrow.Author.Tests.{le-leb, lt-leb, eq-eqb, ne-eqb}
+use Rattle.rules.specs.Ranges.{pastRule}
+use Rattle.wordrules.proofs.past_rule.Statement.{statement}
+use Rattle.wordrules.proofs.past_rule.Tie as tie
+
+returns : tie.Need-returns
+unfolding pastRule
+returns c = simp (eq-eqb _ _ (c .if1 .taken))
+
+mul-if2 : tie.Need-mul-if2
+mul-if2 c = search needs
+
+add-if2 : tie.Need-add-if2
+add-if2 c = search needs
+
+returns-2 : tie.Need-returns-2
+unfolding pastRule
+returns-2 c = simp (ne-eqb _ _ (c .before .if1 .left), le-leb _ _ (c .if2 .taken))
+
+returns-3 : tie.Need-returns-3
+unfolding pastRule
+returns-3 c = simp (ne-eqb _ _ (c .before .if1 .left), lt-leb _ _ (c .if2 .left))
+
+pub past-rule-spec : {M : Type 1} → statement M
+past-rule-spec = tie.close (tie.spec returns mul-if2 add-if2 returns-2 returns-3)

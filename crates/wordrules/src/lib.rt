@@ -1,0 +1,254 @@
+// What each word of an hour file may be, as code: whether a word keeps a rule, and the rule of every word of a block, of the head and of a record.
+// Each equals its definition for every input. A rule is chosen by tests and not from a stored table: the compiler then folds it into the
+// search that asks for it, where an array of rules would be laid down on the stack at each word.
+ghost use mathlib.Core.Path.{_≡_};
+ghost use mathlib.Core.Bool.{cond};
+ghost use Prim.Native.Nat.{_-_};
+ghost use lib.IntN.{natAbs};
+ghost use lib.ListN.{getD};
+ghost use lib.Dec.{eqb};
+ghost use Rattle.rules.specs.Record as Record;
+ghost use Rattle.rules.specs.HourFile.{hourly};
+ghost use Rattle.rules.specs.Ranges as Ranges;
+ghost use Rattle.rules.specs.declared.Kind.the-variants as Kinds;
+ghost use Rattle.rules.specs.declared.Rule.the-variants as Rules;
+use rules::Rule;
+
+const ZERO: Rule = Rule::Between(0, 0);
+
+// ---- whether a word keeps a rule
+
+// The size of a word in two's complement.
+fn size(v: u32) -> u32
+    ensures { λ r. ⌜ r ≡ natAbs (Record.signed v) ⌝ }
+{
+    if v < 2147483648 {
+        return v;
+    }
+    (4294967295 - v) + 1
+}
+
+fn within(least: u32, most: u32, v: u32) -> bool
+    ensures { λ r. ⌜ r ≡ Ranges.keeps (Rules.Between least most) v ⌝ }
+{
+    if v < least {
+        return false;
+    }
+    v <= most
+}
+
+pub fn keeps(rule: Rule, v: u32) -> bool
+    ensures { λ r. ⌜ r ≡ Ranges.keeps rule v ⌝ }
+{
+    match rule {
+        Rule::Any => true,
+        Rule::Between(least, most) => within(least, most, v),
+        Rule::LessThan(n) => v < n,
+        Rule::AtMostInSize(n) => size(v) <= n,
+    }
+}
+
+// ---- words of a block
+
+fn only(v: u32) -> Rule
+    ensures { λ r. ⌜ r ≡ Ranges.mustBe v ⌝ }
+{
+    Rule::Between(v, v)
+}
+
+// Word 0: the mark of the first block, or of another.
+fn mark_rule(b: u32) -> Rule
+    ensures { λ r. ⌜ r ≡ Ranges.mustBe (cond (eqb b 0) (hourly .firstMark) (hourly .otherMark)) ⌝ }
+{
+    if b == 0 {
+        return only(1);
+    }
+    only(2)
+}
+
+// Word 2 of block `b` of `n`: the other blocks, or the records that the block holds.
+fn count_rule(n: u32, b: u32) -> Rule
+    ensures { λ r. ⌜ r ≡ Ranges.countRule hourly n b ⌝ }
+{
+    if b == 0 {
+        if n == 0 {
+            return ZERO;
+        }
+        return only(n - 1);
+    }
+    if b < n {
+        if b + 1 < n {
+            return only(10);
+        }
+    }
+    Rule::Between(1, 10)
+}
+
+// The body of block `b`, which says that it holds `held` records.
+fn past_rule(held: u32, b: u32, w: usize) -> Rule
+    ensures { λ r. ⌜ r ≡ Ranges.pastRule hourly held b w ⌝ }
+{
+    if b == 0 {
+        return Rule::Any;
+    }
+    if 8 + 12 * (held as usize) <= w {
+        return ZERO;
+    }
+    Rule::Any
+}
+
+// Word `w` of block `b` of `n`, which says that it holds `held` records.
+pub fn block_rule(n: u32, held: u32, b: u32, w: usize) -> Rule
+    ensures { λ r. ⌜ r ≡ Ranges.blockRule hourly n held b w ⌝ }
+{
+    if w == 0 {
+        return mark_rule(b);
+    }
+    if w == 1 {
+        return only(b);
+    }
+    if w == 2 {
+        return count_rule(n, b);
+    }
+    if w < 7 {
+        return ZERO;
+    }
+    if w == 7 {
+        return Rule::Any;
+    }
+    past_rule(held, b, w)
+}
+
+// ---- words of the head
+
+// Words 9 to 11: members, zones and areas.
+fn counts_rule(w: usize) -> Rule
+    ensures { λ r. ⌜ r ≡ getD Ranges.countRules (w - 9) Ranges.mustBeZero ⌝ }
+{
+    if w <= 9 {
+        return Rule::Between(1, 32);
+    }
+    if w == 10 {
+        return Rule::Between(1, 4);
+    }
+    if w == 11 {
+        return Rule::Between(1, 8);
+    }
+    ZERO
+}
+
+// Word `w` of an area, in a file of so many zones.
+fn area_rule(zones: u32, w: usize) -> Rule
+    ensures { λ r. ⌜ r ≡ Ranges.areaRule zones w ⌝ }
+{
+    if w == 0 {
+        return Rule::LessThan(zones);
+    }
+    if w < 3 {
+        return Rule::Between(0, 10000000);
+    }
+    ZERO
+}
+
+// Word `w` of the head, in a file of so many zones and areas.
+pub fn head_rule(zones: u32, areas: u32, w: usize) -> Rule
+    ensures { λ r. ⌜ r ≡ Ranges.headRule zones areas w ⌝ }
+{
+    if w < 9 {
+        return Rule::Any;
+    }
+    if w < 12 {
+        return counts_rule(w);
+    }
+    if w < 16 {
+        if w - 12 < zones as usize {
+            return Rule::AtMostInSize(1000000);
+        }
+        return ZERO;
+    }
+    if w < 48 {
+        if (w - 16) / 4 < areas as usize {
+            return area_rule(zones, (w - 16) % 4);
+        }
+    }
+    ZERO
+}
+
+// ---- words of a record
+
+// Words 3 to 11 of a generator, which uses all but the last.
+fn generator_rule(w: usize) -> Rule
+    ensures { λ r. ⌜ r ≡ getD (Ranges.rowOf Kinds.Generator) (w - 3) Ranges.mustBeZero ⌝ }
+{
+    if w == 5 {
+        return Rule::AtMostInSize(100000);
+    }
+    if w < 9 {
+        return Rule::Between(0, 100000);
+    }
+    if w < 11 {
+        return Rule::Between(1, 20000);
+    }
+    ZERO
+}
+
+// Whether a record of this kind uses word `w` of words 3 to 11: whether a 1 may stand there.
+fn uses(kind: u32, w: usize) -> bool
+    ensures { λ r. ⌜ r ≡ Ranges.keeps (getD (Ranges.rowOf (Record.kindOf kind)) (w - 3) Ranges.mustBeZero) 1 ⌝ }
+{
+    if kind == 1 {
+        return w < 11;
+    }
+    if kind == 2 {
+        return w < 8;
+    }
+    if kind == 3 {
+        return w < 8;
+    }
+    if kind == 4 {
+        return import_uses(w);
+    }
+    if kind == 5 {
+        return w < 6;
+    }
+    false
+}
+
+// An import uses words 3 to 6, 9 and 10.
+fn import_uses(w: usize) -> bool
+    ensures { λ r. ⌜ r ≡ Ranges.keeps (getD (Ranges.rowOf Kinds.Import) (w - 3) Ranges.mustBeZero) 1 ⌝ }
+{
+    if w < 7 {
+        return true;
+    }
+    if w < 9 {
+        return false;
+    }
+    w < 11
+}
+
+// Words 3 to 11 of a record of this kind: a word in use has the same rule in all kinds, any other is zero.
+fn kind_rule(kind: u32, w: usize) -> Rule
+    ensures { λ r. ⌜ r ≡ getD (Ranges.rowOf (Record.kindOf kind)) (w - 3) Ranges.mustBeZero ⌝ }
+{
+    if uses(kind, w) {
+        return generator_rule(w);
+    }
+    ZERO
+}
+
+// Word `w` of a record of this kind, in a file of so many members and areas.
+pub fn record_rule(members: u32, areas: u32, kind: u32, w: usize) -> Rule
+    ensures { λ r. ⌜ r ≡ Ranges.recordRule members areas kind w ⌝ }
+{
+    if w == 0 {
+        return Rule::Between(1, 5);
+    }
+    if w == 1 {
+        return Rule::LessThan(members);
+    }
+    if w == 2 {
+        return Rule::LessThan(areas);
+    }
+    kind_rule(kind, w)
+}
