@@ -57,7 +57,14 @@ fn put_area(file: &[u8], figures: [i64; 8], a: usize, sizes: &[u64], out: &mut [
 }
 
 // An area with UFE: its demands and sizes stand in the rooms lent, a place a record.
-fn share_over(file: &[u8], figures: [i64; 8], a: usize, demands: &mut [u64], sizes: &mut [u64], out: &mut [i64])
+fn share_over(
+    file: &[u8],
+    figures: [i64; 8],
+    a: usize,
+    demands: &mut [u64],
+    sizes: &mut [u64],
+    out: &mut [i64],
+)
     requires { ⌜ SharedUpTo (now file) figures a (now out) × (length (now demands) ≡ hourIn (now file) .count) × (length (now sizes) ≡ hourIn (now file) .count) ⌝ }
     ensures { λ _. ⌜ now (out .exit) ≡ replacingFirst (sharesBelow (hourIn (now (file .entry))) (a + 1)) (hourIn (now (file .entry)) .count) (now (out .entry)) ⌝ }
 {

@@ -60,7 +60,7 @@ same-length c = written-length _ _ _ _ (c .before .loop .inv .1) (omega (arith, 
 
 -- src/deviations.rt:19:1
 returns : tie.Need-returns Inv-loop μ-loop
-returns c = 
+returns c =
     let h = hourIn (c .before .before .before .before .args .file .now) in
     let all : c .before .loop .i ≡ h .count = omega arith in
     c .before .loop .inv .1 ∙ ap (λ n. replacingFirst (λ k. deviation (entryOf h k)) n (c .before .before .before .before .args .out .now)) all

@@ -36,7 +36,7 @@ cast-result c = search needs
 -- src/hour.rt:65:9
 returns : tie.Need-returns
 unfolding demandOf entryOf entry
-returns c = 
+returns c =
     let kind = c .before .before .before .kind-of .ensures ∙ ap kindOf (c .before .before .before .before .record-word .ensures) in
     let load : isLoad (kindOf (hourIn (c .before .before .before .before .before .before .args .file .now) .rec (c .before .before .before .before .before .before .args .i) 0)) ≡ true = sym (ap isLoad kind) ∙ sym (c .before .before .is-load .ensures) ∙ c .before .if1 .taken in
     rw load (c .record-word2 .ensures)
@@ -44,7 +44,7 @@ returns c =
 -- src/hour.rt:61:1
 returns-2 : tie.Need-returns-2
 unfolding demandOf entryOf entry
-returns-2 c = 
+returns-2 c =
     let kind = c .before .before .kind-of .ensures ∙ ap kindOf (c .before .before .before .record-word .ensures) in
     let load : isLoad (kindOf (hourIn (c .before .before .before .before .before .args .file .now) .rec (c .before .before .before .before .before .args .i) 0)) ≡ false = sym (ap isLoad kind) ∙ sym (c .before .is-load .ensures) ∙ c .if1 .left in
     rw load

@@ -95,16 +95,16 @@ cast-t20 c = search needs
 returns : tie.Need-returns
 unfolding entryOf entry
 returns c = λ k. record {
-      kind = (c .before .before .before .before .before .before .before .before .before .kind-of .ensures ∙ ap kindOf (c .before .before .before .before .before .before .before .before .before .before .record-word .ensures)) k;
-      S = (word-is (c .before .before .before .before .before .before .before .before .record-word2 .ok) (c .before .before .before .before .before .before .before .before .record-word2 .ensures)) k;
-      A = (word-is (c .before .before .before .before .before .before .before .record-word3 .ok) (c .before .before .before .before .before .before .before .record-word3 .ensures)) k;
-      J = (toZ-ofZ w64 _ (sfits-of (c .before .before .before .before .before .signed .ok)) ∙ c .before .before .before .before .before .signed .ensures ∙ ap signed (c .before .before .before .before .before .before .record-word4 .ensures)) k;
-      N = (word-is (c .before .before .before .before .record-word5 .ok) (c .before .before .before .before .record-word5 .ensures)) k;
-      O = (word-is (c .before .before .before .record-word6 .ok) (c .before .before .before .record-word6 .ensures)) k;
-      M = (word-is (c .before .before .record-word7 .ok) (c .before .before .record-word7 .ensures)) k;
-      F = (word-is (c .before .record-word8 .ok) (c .before .record-word8 .ensures)) k;
-      H = (word-is (c .record-word9 .ok) (c .record-word9 .ensures)) k;
-    }
+  kind = (c .before .before .before .before .before .before .before .before .before .kind-of .ensures ∙ ap kindOf (c .before .before .before .before .before .before .before .before .before .before .record-word .ensures)) k;
+  S = (word-is (c .before .before .before .before .before .before .before .before .record-word2 .ok) (c .before .before .before .before .before .before .before .before .record-word2 .ensures)) k;
+  A = (word-is (c .before .before .before .before .before .before .before .record-word3 .ok) (c .before .before .before .before .before .before .before .record-word3 .ensures)) k;
+  J = (toZ-ofZ w64 _ (sfits-of (c .before .before .before .before .before .signed .ok)) ∙ c .before .before .before .before .before .signed .ensures ∙ ap signed (c .before .before .before .before .before .before .record-word4 .ensures)) k;
+  N = (word-is (c .before .before .before .before .record-word5 .ok) (c .before .before .before .before .record-word5 .ensures)) k;
+  O = (word-is (c .before .before .before .record-word6 .ok) (c .before .before .before .record-word6 .ensures)) k;
+  M = (word-is (c .before .before .record-word7 .ok) (c .before .before .record-word7 .ensures)) k;
+  F = (word-is (c .before .record-word8 .ok) (c .before .record-word8 .ensures)) k;
+  H = (word-is (c .record-word9 .ok) (c .record-word9 .ensures)) k;
+}
 
 pub entry-of-spec : {M : Type 1} → statement M
 entry-of-spec =

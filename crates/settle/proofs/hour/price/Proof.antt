@@ -44,7 +44,7 @@ signed-requires c κs = search needs
 -- src/hour.rt:23:1
 returns : tie.Need-returns
 unfolding price zonePrice zoneOf
-returns c = 
+returns c =
     let s = c .before .before .before .before .args .file .now in
     toZ-ofZ w64 (c .signed .result) (sfits-of (c .signed .ok))
     ∙ c .signed .ensures

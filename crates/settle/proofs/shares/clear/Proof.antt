@@ -45,7 +45,7 @@ same-length c = written-length _ _ _ _ (c .before .loop .inv .1) (omega arith)
 
 -- src/shares.rt:84:1
 returns : tie.Need-returns Inv-loop μ-loop
-returns c = 
+returns c =
     let all : c .before .loop .i ≡ c .before .before .args .n = omega arith in
     c .before .loop .inv .1 ∙ ap (λ n. replacingFirst (λ k. pos 0) n (c .before .before .args .out .now)) all
 

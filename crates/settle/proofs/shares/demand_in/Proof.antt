@@ -26,7 +26,7 @@ demand-of-requires c κs = search needs
 -- src/shares.rt:20:9
 returns : tie.Need-returns
 unfolding demandIn demandOf inArea
-returns c = 
+returns c =
     let start = c .before .before .before .before in
     let own : eqb (areaOf (hourIn (start .args .file .now)) (start .args .i)) (start .args .a) ≡ true = eq-eqb _ _ (sym (c .before .before .area-of .ensures) ∙ c .before .if1 .taken) in
     rw own (c .demand-of .ensures)
@@ -34,7 +34,7 @@ returns c =
 -- src/shares.rt:16:1
 returns-2 : tie.Need-returns-2
 unfolding demandIn inArea
-returns-2 c = 
+returns-2 c =
     let start = c .before .before .before in
     let other : eqb (areaOf (hourIn (start .args .file .now)) (start .args .i)) (start .args .a) ≡ false = ne-eqb _ _ (λ e. c .if1 .left (c .before .area-of .ensures ∙ e)) in
     rw other

@@ -81,7 +81,7 @@ loop-less c = omega arith
 -- src/shares.rt:53:5
 loop-again : tie.Need-loop-again Inv-loop μ-loop
 unfolding withSizes
-loop-again c = 
+loop-again c =
     let start = c .before .before .before .before .before .before .before .before in
     let h = hourIn (start .args .file .now) in
     let a = start .args .a in
@@ -98,7 +98,7 @@ same-length c = written-length _ _ _ _ (c .before .loop .inv .1) (omega (arith, 
 
 -- src/shares.rt:48:1
 returns : tie.Need-returns Inv-loop μ-loop
-returns c = 
+returns c =
     let start = c .before .before .before .before in
     let all : c .before .loop .i ≡ length (start .args .sizes .now) = omega arith in
     c .before .loop .inv .1 ∙ ap (λ n. replacingFirst (withSizes (hourIn (start .args .file .now)) (start .args .a) (getD (start .args .t2) (start .args .a) (pos 0)) (start .args .sizes .now) (start .args .out .now)) n (start .args .out .now)) all

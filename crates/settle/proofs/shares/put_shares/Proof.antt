@@ -44,7 +44,7 @@ loop-holds c = (omega arith, none-shared (c .before .before .before .before .bef
 
 -- src/shares.rt:104:9
 share-area-requires : tie.Need-share-area-requires Inv-loop μ-loop
-share-area-requires c κs = 
+share-area-requires c κs =
     let at = c .before .before .loop in
     shared-so-far (c .before .before .before .before .before .before .before .before .before .pre) _ (cleared (c .before .before .before .before)) (at .a) (at .out) (at .inv .1) (omega arith)
 
@@ -58,7 +58,7 @@ loop-less c = omega arith
 
 -- src/shares.rt:103:5
 loop-again : tie.Need-loop-again Inv-loop μ-loop
-loop-again c = 
+loop-again c =
     let at = c .before .before .before .before .loop in
     (omega arith, next-area (c .before .before .before .before .before .before .before .before .before .before .before .pre) _ (cleared (c .before .before .before .before .before .before)) (at .a) (at .out) (at .inv .1) _ (c .before .share-area .ensures))
 

@@ -45,7 +45,7 @@ slice-aggregate-share-over-2 c = sym (length-take-le (c .before .before .records
 
 -- src/shares.rt:80:5
 share-over-requires : tie.Need-share-over-requires
-share-over-requires c κs = 
+share-over-requires c κs =
     let start = c .before .before .before .before .before .before .before in
     let n = c .before .before .before .records .result in
     (start .pre, length-take-le n _ (omega (arith, start .pre .sharing .kept .hour-kept .count-most)) ∙ c .before .before .before .records .ensures, length-take-le n _ (omega (arith, start .pre .sharing .kept .hour-kept .count-most)) ∙ c .before .before .before .records .ensures)

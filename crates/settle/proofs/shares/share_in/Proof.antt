@@ -26,14 +26,14 @@ with-sign-of-requires c κs = search needs
 
 -- src/shares.rt:42:9
 returns : tie.Need-returns
-returns c = 
+returns c =
     let start = c .before .before .before .before in
     let own : eqb (areaOf (hourIn (start .args .file .now)) (start .args .i)) (start .args .a) ≡ true = eq-eqb _ _ (sym (c .before .before .area-of .ensures) ∙ c .before .if1 .taken) in
     rw own (toZ-ofZ w64 _ (sfits-of (c .with-sign-of .ok)) ∙ c .with-sign-of .ensures ∙ ap (λ u. withSignOf u (start .args .size)) (toZ-ofZ w64 _ (start .fits .ufe)))
 
 -- src/shares.rt:37:1
 returns-2 : tie.Need-returns-2
-returns-2 c = 
+returns-2 c =
     let start = c .before .before .before in
     let other : eqb (areaOf (hourIn (start .args .file .now)) (start .args .i)) (start .args .a) ≡ false = ne-eqb _ _ (λ e. c .if1 .left (c .before .area-of .ensures ∙ e)) in
     rw other (toZ-ofZ w64 _ (start .fits .before))

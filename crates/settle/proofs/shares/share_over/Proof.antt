@@ -82,7 +82,7 @@ shares-requires c κs = rw (size-is c) (shareable (kept c) (start c .args .a) (s
 
 -- src/shares.rt:66:5
 put-area-requires : tie.Need-put-area-requires
-put-area-requires c κs = 
+put-area-requires c κs =
     let k = asked c in
     (area-place (start k .pre .0), omega (arith, as-many c, start k .pre .0 .sharing .room), got-small (kept k) (start k .args .a) (start k .pre .0 .there) (put k) (start k .args .sizes .now) (demands-are k) (start k .pre .2) (got c) (shared c))
 
@@ -100,7 +100,7 @@ same-length-3 c = search needs
 
 -- src/shares.rt:60:1
 returns : tie.Need-returns
-returns c = 
+returns c =
     let d = c .before .before in
     let k = asked d in
     let out = start k .args .out .now in

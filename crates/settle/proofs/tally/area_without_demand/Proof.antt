@@ -50,7 +50,7 @@ array-copy-out-if2 c = omega (arith, c .before .before .before .before .before .
 -- src/tally.rt:76:17
 returns : tie.Need-returns Inv-loop μ-loop
 unfolding badArea
-returns c = 
+returns c =
     let start = c .before .before .before .before .before .before .before .before in
     let h = hourIn (start .args .file .now) in
     let a = c .before .before .before .before .before .loop .a in
@@ -67,13 +67,13 @@ loop-less c = omega arith
 
 -- src/tally.rt:73:5
 loop-again : tie.Need-loop-again Inv-loop μ-loop
-loop-again c = 
+loop-again c =
     let start = c .before .before .before .before .before .before in
     let a = c .before .before .before .loop .a in
     let whole = ⊎-elim
-        (λ w. nothing-to-share (start .pre .0) (start .pre .1) a (omega arith) (w .2 .left))
-        (λ w. somebody-demands (start .pre .0) (start .pre .1) a (omega arith) (w .left))
-        (c .if1 .came) in
+    (λ w. nothing-to-share (start .pre .0) (start .pre .1) a (omega arith) (w .2 .left))
+    (λ w. somebody-demands (start .pre .0) (start .pre .1) a (omega arith) (w .left))
+    (c .if1 .came) in
     (omega arith, first-next (noDemand (hourIn (start .args .file .now))) a (c .before .before .before .loop .inv .1) whole)
 
 -- src/tally.rt:67:1

@@ -32,7 +32,7 @@ loop-holds c = (omega arith, c .empty-tally .ensures)
 
 -- src/tally.rt:35:9
 tally-with-requires : tie.Need-tally-with-requires Inv-loop μ-loop
-tally-with-requires c κs = 
+tally-with-requires c κs =
     let start = c .before .before .before .before .before in
     record { kept = start .pre; there = omega arith; posted = c .before .loop .inv .1 }
 
@@ -50,7 +50,7 @@ loop-again c = (omega arith, c .tally-with .ensures)
 
 -- src/tally.rt:27:1
 returns : tie.Need-returns Inv-loop μ-loop
-returns c = 
+returns c =
     let start = c .before .before .before .before .before in
     let all : c .before .loop .i ≡ hourIn (start .args .file .now) .count = omega arith in
     c .before .loop .inv .1 ∙ ap (tallyAfter (hourIn (start .args .file .now))) all

@@ -34,7 +34,7 @@ entry-of-requires c κs = search needs
 
 -- src/tally.rt:22:9
 accounted-requires : tie.Need-accounted-requires
-accounted-requires c κs = 
+accounted-requires c κs =
     let start = c .before .before .before .before in
     rw (c .entry-of .ensures) (start .pre .kept .hour-kept .record-kept (start .args .i) (start .pre .there) .entry-kept)
 

@@ -56,7 +56,7 @@ loop-less c = omega arith
 
 -- src/tally.rt:59:5
 loop-again : tie.Need-loop-again Inv-loop μ-loop
-loop-again c = 
+loop-again c =
     let start = c .before .before .before .before .before in
     let h = hourIn (start .args .file .now) in
     let a = c .before .before .loop .a in
@@ -65,7 +65,7 @@ loop-again c =
 
 -- src/tally.rt:52:1
 returns : tie.Need-returns Inv-loop μ-loop
-returns c = 
+returns c =
     let start = c .before .before .before .before in
     let h = hourIn (start .args .file .now) in
     let all : c .before .loop .a ≡ Record.areas h = omega arith in

@@ -91,7 +91,7 @@ add-result c = fits (whole (c .before)) tt
 
 -- src/tally.rt:42:1
 returns : tie.Need-returns
-returns c = 
+returns c =
     let start = c .before .before .before .before in
     stored (whole (c .before)) tt ∙ ufe-is (start .pre .0) (start .args .a) (start .pre .1)
 

@@ -1,0 +1,2 @@
+-- What the walks of `pool` rest on.
+pub mod Port
