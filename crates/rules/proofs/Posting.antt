@@ -11,6 +11,7 @@ use lib.IntN.{ℤ, pos, +ℤ-idr, _+ℤ_, _-ℤ_, _*ℤ_}
 use lib.ListN.{length, getD, length-set, getD-replicate}
 use lib.Seq.{getD-set-other}
 use Rattle.whole.specs.Below.{oneIf, countBelow, sumBelow, totalBelow, replacingFirst}
+use Rattle.whole.proofs.Totals.{added-if}
 use Rattle.whole.proofs.Buffers.{getD-changed, replacing-changed, replacing-ext}
 use Rattle.rules.specs.declared.Line.{Line}
 use Rattle.rules.specs.Record.{Hour, members, tieIn, tieOut, memberOf, areaOf, entryOf, isLoad}
@@ -27,10 +28,6 @@ use Rattle.rules.proofs.Tariff.{ufe-by-record}
 demand-grows : (here load : Bool) (x d : ℕ) → cond here (x + cond load d 0) x ≡ x + cond (here && load) d 0
 demand-grows true load x d = refl
 demand-grows false load x d = sym (add-zero x)
-
-energy-grows : (here : Bool) (x e : ℤ) → cond here (x +ℤ e) x ≡ x +ℤ cond here e (pos 0)
-energy-grows true x e = refl
-energy-grows false x e = sym (+ℤ-idr x)
 
 module _ (h : Hour) where
   -- The tally counts the records posted.
@@ -66,7 +63,7 @@ module _ (h : Hour) where
     tally-energy zero = getD-replicate 8 a (pos 0) (pos 0) area
     tally-energy (suc n) =
         getD-changed (λ x. x +ℤ accounted (entryOf h n)) (tallyAfter h n .energy) (areaOf h n) a (pos 0) (let e = tally-energy-length n in omega arith)
-        ∙ energy-grows (eqb (areaOf h n) a) (getD (tallyAfter h n .energy) a (pos 0)) (accounted (entryOf h n))
+        ∙ added-if (eqb (areaOf h n) a) (getD (tallyAfter h n .energy) a (pos 0)) (accounted (entryOf h n))
         ∙ ap (λ (x : ℤ). x +ℤ cond (eqb (areaOf h n) a) (accounted (entryOf h n)) (pos 0)) (tally-energy n)
 
     -- Once all records are posted, the tally has each area's demand, T, and all of its UFE that its ties do not bring.

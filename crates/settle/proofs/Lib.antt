@@ -2,3 +2,4 @@
 pub mod Wide
 pub mod Tallies
 pub mod Areas
+pub mod Postings

@@ -2,3 +2,4 @@
 pub mod Hour
 pub mod Posted
 pub mod Shared
+pub mod Lined

@@ -21,6 +21,11 @@ pub count-add-one : (p : ℕ → Bool) (n : ℕ) → countBelow p (n + 1) ≡ co
 unfolding countBelow
 count-add-one p n = ap (countBelow p) (add-one n)
 
+-- one is counted, or not
+pub counted-if : (b : Bool) (x : ℕ) → cond b (x + 1) x ≡ x + oneIf b
+counted-if true x = refl
+counted-if false x = omega arith
+
 one-if-mono : (a b : Bool) → (a ≡ true → b ≡ true) → oneIf a ≤ oneIf b
 one-if-mono true true h = omega arith
 one-if-mono true false h = never (h refl) refl

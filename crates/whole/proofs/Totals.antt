@@ -1,6 +1,6 @@
 -- Laws of totals, the sums of the signed numbers f 0, .., f (n - 1): linear, exchanged, picked, bounded; and of a size with a sign.
 use mathlib.Core.Path.{_≡_, refl, sym, _∙_, ap, ap₂, subst}
-use mathlib.Core.Bool.{cond}
+use mathlib.Core.Bool.{Bool, true, false, cond}
 use Prim.Native.Nat.{ℕ, zero, suc, _+_, _*_, _≤_, _<_, zero-le}
 use native.Mathlib.Nat.{not-suc-le-zero}
 use native.Mathlib.Numerals.{add-one}
@@ -23,6 +23,11 @@ total-none f = refl
 pub total-add-one : (f : ℕ → ℤ) (n : ℕ) → totalBelow f (n + 1) ≡ totalBelow f n +ℤ f n
 unfolding totalBelow
 total-add-one f n = ap (totalBelow f) (add-one n)
+
+-- a number is added, or not
+pub added-if : (b : Bool) (x e : ℤ) → cond b (x +ℤ e) x ≡ x +ℤ cond b e (pos 0)
+added-if true x e = refl
+added-if false x e = sym (+ℤ-idr x)
 
 pub total-ext : (f g : ℕ → ℤ) (n : ℕ) → ((i : ℕ) → i < n → f i ≡ g i) → totalBelow f n ≡ totalBelow g n
 unfolding totalBelow
