@@ -26,6 +26,10 @@ for line in open(os.path.join(REPO, 'crates.txt')):
     m = re.match(r'\s*(\w+)\s*:(.*)', line.split('#')[0])
     if m: CRATES[m.group(1)] = m.group(2).split()
 
+def module_of(path):
+    path = path[:-3]
+    return '' if path in ('lib', 'main') else path.replace(os.sep, '/')
+
 def sources(crate):
     top, found = os.path.join(REPO, 'crates', crate, 'src'), {}
     for folder, _, names in os.walk(top):
@@ -36,9 +40,10 @@ def sources(crate):
 SOURCES = {c: sources(c) for c in [CRATE] + CRATES[CRATE] if os.path.isdir(os.path.join(REPO, 'crates', c, 'src'))}
 MINE = '\n'.join(SOURCES[CRATE].values())
 TYPES = {}
-for files in SOURCES.values():
-    for m in re.finditer(r'^\s*(?:pub )?(struct|enum) (\w+)\s*(\{.*?^\s*\}|\(.*?\);)', '\n'.join(files.values()), flags=re.M | re.S):
-        TYPES[m.group(2)] = (m.group(1), re.sub(r'//.*', '', m.group(3)))
+for crate, files in SOURCES.items():
+    for path, s in files.items():
+        for m in re.finditer(r'^(?:pub )?(struct|enum) (\w+)\s*\{(.*?)^\}', s, flags=re.M | re.S):
+            TYPES[m.group(2)] = (m.group(1), re.sub(r'//.*', '', m.group(3)), crate, module_of(path))
 
 # ---- the twin: lent structs are arrays of the same size, and only the function in hand has its body
 
@@ -62,10 +67,11 @@ def value(t, crate):
     if name in STRUCTS: return f'[0; {STRUCTS[name][1] // 2}]'
     if t == 'bool': return 'false'
     if name not in TYPES: return '0'
-    kind, body = TYPES[name]
+    kind, body, home, module = TYPES[name]
+    t = '::'.join(['crate' if home == crate else home] + [m for m in module.split('/') if m] + [name])
     field = lambda x: f'{x.split(":")[0].replace("pub ", "").strip()}: {value(x.split(":", 1)[1], crate)}'
-    if kind == 'struct': return t + ' { ' + ', '.join(field(x) for x in split(body[1:-1])) + ' }'
-    case = min(split(body[1:-1]), key=len)
+    if kind == 'struct': return t + ' { ' + ', '.join(field(x) for x in split(body)) + ' }'
+    case = min(split(body), key=len)
     word = re.match(r'\w+', case).group(0)
     rest = case[len(word):].strip()
     if rest.startswith('('): return f'{t}::{word}(' + ', '.join(value(x, crate) for x in split(rest[1:-1])) + ')'
@@ -105,10 +111,6 @@ def twin(crate, module, s, body_of):
         if called: out.append(signature + clauses + '\n' + (s[b:i] if (crate, name) == (CRATE, body_of) else stub))
     s = ''.join(out + [s[i:]])
     return s if re.search(r'\bfn \w', s) or module else s + '\npub fn nothing() -> u32 {\n    0\n}\n'
-
-def module_of(path):
-    path = path[:-3]
-    return '' if path in ('lib', 'main') else path.replace(os.sep, '/')
 
 def write(path, s):
     os.makedirs(os.path.dirname(path), exist_ok=True)
@@ -206,7 +208,7 @@ def put_kits():
     for name, (home, _, module) in STRUCTS.items():
         if name not in MINE: continue
         at = (f'{OWN}.' if home == CRATE else f'Rattle.{home}.proofs.') + (module.replace('/', '.') + '.' if module else '') + name
-        fields = split(TYPES[name][1][1:-1])
+        fields = split(TYPES[name][1])
         zero = lambda t: '[]' if t.startswith('[') else 'pos 0' if t.startswith('i') else 'false' if t == 'bool' else '0'
         zeros = ''.join('(' + zero(x.split(':', 1)[1].strip()) + ', ' for x in fields) + 'tt' + ')' * len(fields) + ' tt'
         text = open(os.path.join(HERE, 'Kit.template')).read().replace('@AT', at).replace('@ZEROS', zeros).replace('@S', name)

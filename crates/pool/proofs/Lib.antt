@@ -1,2 +1,3 @@
 -- What the walks of `pool` rest on.
+pub mod Lines
 pub mod Port

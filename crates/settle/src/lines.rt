@@ -55,7 +55,13 @@ fn post(file: &[u8], i: usize, deviation: i64, share: i64, amounts: &mut [i64], 
 }
 
 // All records, in file order, to lines that were empty.
-fn post_all(file: &[u8], deviations: &[i64], shares: &[i64], amounts: &mut [i64], counts: &mut [u32])
+fn post_all(
+    file: &[u8],
+    deviations: &[i64],
+    shares: &[i64],
+    amounts: &mut [i64],
+    counts: &mut [u32],
+)
     requires { ⌜ AllWorked (now file) (now deviations) (now shares) × PostedUpTo (now file) 0 (now amounts) (now counts) ⌝ }
     ensures of_amounts { λ _. ⌜ now (amounts .exit) ≡ replacingFirst (Charge.amount (hourIn (now (file .entry)))) (Record.members (hourIn (now (file .entry)))) (now (amounts .entry)) ⌝ }
     ensures of_counts { λ _. ⌜ now (counts .exit) ≡ replacingFirst (Charge.recordsOf (hourIn (now (file .entry)))) (Record.members (hourIn (now (file .entry)))) (now (counts .entry)) ⌝ }
@@ -69,7 +75,13 @@ fn post_all(file: &[u8], deviations: &[i64], shares: &[i64], amounts: &mut [i64]
 }
 
 // Each member's exact amount and record count, into the first places; what they held isn't read, the places past them are unchanged.
-pub fn put_lines(file: &[u8], deviations: &[i64], shares: &[i64], amounts: &mut [i64], counts: &mut [u32])
+pub fn put_lines(
+    file: &[u8],
+    deviations: &[i64],
+    shares: &[i64],
+    amounts: &mut [i64],
+    counts: &mut [u32],
+)
     requires { ⌜ AllWorked (now file) (now deviations) (now shares) × LinesRoom (now file) (now amounts) (now counts) ⌝ }
     ensures of_amounts { λ _. ⌜ now (amounts .exit) ≡ replacingFirst (Charge.amount (hourIn (now (file .entry)))) (Record.members (hourIn (now (file .entry)))) (now (amounts .entry)) ⌝ }
     ensures of_counts { λ _. ⌜ now (counts .exit) ≡ replacingFirst (Charge.recordsOf (hourIn (now (file .entry)))) (Record.members (hourIn (now (file .entry)))) (now (counts .entry)) ⌝ }

@@ -57,7 +57,7 @@ same-length-2 c = written-length _ _ _ _ (c .before .loop .inv .2) (omega arith)
 
 -- src/lines.rt:27:1
 returns : tie.Need-returns Inv-loop μ-loop
-returns c = 
+returns c =
     let start = c .before .before in
     let all : c .before .loop .m ≡ start .args .n = omega arith in
     (c .before .loop .inv .1 ∙ ap (λ k. replacingFirst (λ m. pos 0) k (start .args .amounts .now)) all, c .before .loop .inv .2 ∙ ap (λ k. replacingFirst (λ m. 0) k (start .args .counts .now)) all)

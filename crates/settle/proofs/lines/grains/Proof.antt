@@ -38,7 +38,7 @@ area-of-requires c κs = search needs
 
 -- src/lines.rt:22:9
 price-requires : tie.Need-price-requires
-price-requires c κs = 
+price-requires c κs =
     let start = c .before .before .before .before in
     rw (c .area-of .ensures) (area-place (start .pre .kept .hour-kept) (start .args .i) (start .pre .there))
 

@@ -47,7 +47,7 @@ size-is c = c .size-of .ensures ∙ ap natAbs (toZ-ofZ w64 (getD (c .before .bef
 -- src/lines.rt:87:13
 returns : tie.Need-returns Inv-loop μ-loop
 unfolding overLimit
-returns c = 
+returns c =
     let at = c .before .before .before .before .loop in
     sym (first-hit (overLimit (c .before .before .before .before .before .args .amounts .now)) (at .m) (length (c .before .before .before .before .before .args .amounts .now)) (at .inv .1) (lt-ltb 4000000000000000000 (natAbs (getD (c .before .before .before .before .before .args .amounts .now) (at .m) (pos 0))) (omega (arith, size-is (c .before)))) (omega arith))
 
@@ -62,13 +62,13 @@ loop-less c = omega arith
 -- src/lines.rt:85:5
 loop-again : tie.Need-loop-again Inv-loop μ-loop
 unfolding overLimit
-loop-again c = 
+loop-again c =
     let at = c .before .before .before .before .loop in
     (omega arith, first-next (overLimit (c .before .before .before .before .before .args .amounts .now)) (at .m) (at .inv .1) (le-ltb 4000000000000000000 (natAbs (getD (c .before .before .before .before .before .args .amounts .now) (at .m) (pos 0))) (omega (arith, size-is (c .before)))))
 
 -- src/lines.rt:81:1
 returns-2 : tie.Need-returns-2 Inv-loop μ-loop
-returns-2 c = 
+returns-2 c =
     let all : c .before .loop .m ≡ length (c .before .before .args .amounts .now) = omega arith in
     sym (c .before .loop .inv .1) ∙ ap (firstBelow (overLimit (c .before .before .args .amounts .now))) all
 

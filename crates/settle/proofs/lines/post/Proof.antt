@@ -109,11 +109,12 @@ same-length-2 c = search needs
 -- src/lines.rt:41:1
 returns : tie.Need-returns
 unfolding amountsWith countsWith
-returns c = 
+returns c =
     let d = c .before .before in
-    let line = c .before .line-with .ensures in
-    (ap₂ (λ k v. set (start d .args .amounts .now) k v) (member-is d) (toZ-ofZ w64 (c .before .line-with .result .amount) (sfits-of (c .struct-told .given .0 .1)) ∙ ap (λ (l : Line). l .amount) line ∙ grown d),
-    ap₂ (λ k v. set (start d .args .counts .now) k v) (member-is d) (ap (λ (l : Line). l .records) line ∙ counted d))
+    let line = c .before .line-with .ensures in (
+      ap₂ (λ k v. set (start d .args .amounts .now) k v) (member-is d) (toZ-ofZ w64 (c .before .line-with .result .amount) (sfits-of (c .struct-told .given .0 .1)) ∙ ap (λ (l : Line). l .amount) line ∙ grown d),
+      ap₂ (λ k v. set (start d .args .counts .now) k v) (member-is d) (ap (λ (l : Line). l .records) line ∙ counted d),
+    )
 
 pub post-spec : {M : Type 1} → statement M
 post-spec =

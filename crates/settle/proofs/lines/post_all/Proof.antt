@@ -48,15 +48,17 @@ shared-slice-copy-out-post-2 c = omega (arith, c .before .before .before .before
 
 -- src/lines.rt:66:9
 post-requires : tie.Need-post-requires Inv-loop μ-loop
-post-requires c κs = 
+post-requires c κs =
     let start = c .before .before .before .before .before .before .before .before .before in
-    let at = c .before .before .before .before .before .loop in
-    (so-far (start .pre .1 .room) (at .inv .1), record {
-      kept = start .pre .0 .kept;
-      there = omega arith;
-      deviation-is = toZ-ofZ w64 (getD (start .args .deviations .now) (at .i) (pos 0)) (sfits-of (c .before .before .before .post-arg .given)) ∙ start .pre .0 .deviations-are (at .i) (omega arith);
-      share-is = toZ-ofZ w64 (getD (start .args .shares .now) (at .i) (pos 0)) (sfits-of (c .before .before .post-arg2 .given)) ∙ start .pre .0 .shares-are (at .i) (omega arith);
-    })
+    let at = c .before .before .before .before .before .loop in (
+      so-far (start .pre .1 .room) (at .inv .1),
+      record {
+        kept = start .pre .0 .kept;
+        there = omega arith;
+        deviation-is = toZ-ofZ w64 (getD (start .args .deviations .now) (at .i) (pos 0)) (sfits-of (c .before .before .before .post-arg .given)) ∙ start .pre .0 .deviations-are (at .i) (omega arith);
+        share-is = toZ-ofZ w64 (getD (start .args .shares .now) (at .i) (pos 0)) (sfits-of (c .before .before .post-arg2 .given)) ∙ start .pre .0 .shares-are (at .i) (omega arith);
+      },
+    )
 
 -- src/lines.rt:67:9
 add-i : tie.Need-add-i Inv-loop μ-loop
@@ -68,7 +70,7 @@ loop-less c = omega arith
 
 -- src/lines.rt:65:5
 loop-again : tie.Need-loop-again Inv-loop μ-loop
-loop-again c = 
+loop-again c =
     let start = c .before .before .before .before .before .before .before .before .before .before .before .before .before in
     let at = c .before .before .before .before .before .before .before .before .before .loop in
     let posted = c .before .before .before .post .ensures in
@@ -84,7 +86,7 @@ same-length-2 c = counts-length (c .before .before .before .before .before .pre 
 
 -- src/lines.rt:58:1
 returns : tie.Need-returns Inv-loop μ-loop
-returns c = 
+returns c =
     let start = c .before .before .before .before .before in
     let all : c .before .loop .i ≡ hourIn (start .args .file .now) .count = omega arith in
     all-posted (start .pre .1 .room) (rw all at (c .before .loop .inv .1))

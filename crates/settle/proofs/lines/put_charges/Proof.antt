@@ -35,7 +35,7 @@ shared-slice-copy-out-cents c = omega arith
 
 -- src/lines.rt:101:22
 cents-requires : tie.Need-cents-requires Inv-loop μ-loop
-cents-requires c κs = 
+cents-requires c κs =
     let start = c .before .before .before in
     let m = c .before .before .loop .m in
     rw (toZ-ofZ w64 (getD (start .args .amounts .now) m (pos 0)) (sfits-of (c .cents-arg .given))) (start .pre .1 m (omega arith))
@@ -58,7 +58,7 @@ loop-less c = omega arith
 
 -- src/lines.rt:100:5
 loop-again : tie.Need-loop-again Inv-loop μ-loop
-loop-again c = 
+loop-again c =
     let start = c .before .before .before .before in
     let at = c .before .before .before .loop in
     let charge = toZ-ofZ w64 _ (sfits-of (c .cents .ok)) ∙ c .cents .ensures ∙ ap cents (toZ-ofZ w64 (getD (start .args .amounts .now) (at .m) (pos 0)) (sfits-of (c .before .cents-arg .given))) in
@@ -70,7 +70,7 @@ same-length c = written-length _ _ _ _ (c .before .loop .inv .1) (omega (arith, 
 
 -- src/lines.rt:95:1
 returns : tie.Need-returns Inv-loop μ-loop
-returns c = 
+returns c =
     let start = c .before .before in
     let all : c .before .loop .m ≡ length (start .args .amounts .now) = omega arith in
     c .before .loop .inv .1 ∙ ap (λ k. replacingFirst (λ m. cents (getD (start .args .amounts .now) m (pos 0))) k (start .args .charges .now)) all

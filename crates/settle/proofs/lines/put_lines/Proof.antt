@@ -47,12 +47,13 @@ same-length-2 c = search needs
 
 -- src/lines.rt:72:1
 returns : tie.Need-returns
-returns c = 
+returns c =
     let d = c .before .before .before .before .before .before .before .before .before in
     let h = hourIn (start d .args .file .now) in
-    let posted = c .before .before .before .post-all .ensures in
-    (posted .0 ∙ ap (replacingFirst (amount h) (members h)) (amounts-cleared d) ∙ replacing-twice (λ m. pos 0) (amount h) (members h) (start d .args .amounts .now),
-    posted .1 ∙ ap (replacingFirst (recordsOf h) (members h)) (counts-cleared d) ∙ replacing-twice (λ m. 0) (recordsOf h) (members h) (start d .args .counts .now))
+    let posted = c .before .before .before .post-all .ensures in (
+      posted .0 ∙ ap (replacingFirst (amount h) (members h)) (amounts-cleared d) ∙ replacing-twice (λ m. pos 0) (amount h) (members h) (start d .args .amounts .now),
+      posted .1 ∙ ap (replacingFirst (recordsOf h) (members h)) (counts-cleared d) ∙ replacing-twice (λ m. 0) (recordsOf h) (members h) (start d .args .counts .now),
+    )
 
 pub put-lines-spec : {M : Type 1} → statement M
 put-lines-spec =
