@@ -3,3 +3,5 @@ pub mod Wide
 pub mod Tallies
 pub mod Areas
 pub mod Postings
+pub mod Held
+pub mod Answered

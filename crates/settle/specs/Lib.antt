@@ -3,3 +3,4 @@ pub mod Hour
 pub mod Posted
 pub mod Shared
 pub mod Lined
+pub mod Parallel
