@@ -251,7 +251,8 @@ try:
         said = run(T, 'dev', CRATE, '--generated', gen)
         base = os.path.join(gen, OWN.replace('.', os.sep), fn)
         if not os.path.exists(os.path.join(base, 'Tie.antt')):
-            shutil.copytree(os.path.join(T, 'crates'), os.path.join(REPO, 'target', 'walk-twin'), dirs_exist_ok=True)
+            shutil.rmtree(os.path.join(REPO, 'target', 'walk-twin'), ignore_errors=True)
+            shutil.copytree(os.path.join(T, 'crates'), os.path.join(REPO, 'target', 'walk-twin'))
             sys.exit(f'{fn}: the twin (see target/walk-twin) has no derivation:\n' + '\n'.join(l[:400] for l in said.splitlines() if 'error' in l or 'rt:' in l or fn.split('/')[-1] in l)[:3000])
         made = lambda m: carried(open(os.path.join(base, m + '.antt')).read())
         of = f'-- Made by tools/walk.py: `{CRATE}::{fn.replace("/", "::")}`, '

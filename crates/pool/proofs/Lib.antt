@@ -1,3 +1,4 @@
 -- What the walks of `pool` rest on.
 pub mod Lines
+pub mod Answers
 pub mod Port

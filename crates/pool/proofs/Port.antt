@@ -5,3 +5,4 @@ pub mod clear_lines
 pub mod post
 pub mod post_line
 pub mod put_lines
+pub mod settle

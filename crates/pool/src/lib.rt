@@ -1,16 +1,25 @@
 // The customer's library: the tally and the members' lines are lent to each posting, and settling writes into the caller's own buffers.
 // Structs are moved here, not computed with: the sums are worked by value in `formula` and `settle`.
 ghost use mathlib.Core.Path.{_≡_};
-ghost use Prim.Native.Nat.{_≤_, _<_};
+ghost use Prim.Native.Nat.{min, _≤_, _<_};
 ghost use lib.ListN.{length, getD};
 ghost use Rattle.whole.specs.Below.{replacingFirst};
 ghost use Rattle.rules.specs.Record as Record;
 ghost use Rattle.rules.specs.Posting as Posting;
+ghost use Rattle.rules.specs.Refusals.{accepted, verdict, fileRows};
+ghost use Rattle.rules.specs.Settling.{noFigures};
+ghost use Rattle.rules.specs.Promises.{Fits};
 ghost use Rattle.rules.specs.Kept.{FileKept};
 ghost use Rattle.formula.specs.Room.{TallyRoom, LineRoom};
 ghost use Rattle.settle.specs.Hour.{hourIn};
 ghost use Rattle.settle.specs.Lined.{AllWorked};
+ghost use Rattle.settle.specs.Posted.{Tallied};
+ghost use Rattle.settle.specs.Parallel.{Figured};
+ghost use Rattle.pool.specs.Apart.{apart, buffers, FinishedApart, FitsApart};
+use rules::Answer;
+use rules::Found;
 use rules::Line;
+use rules::Settled;
 use rules::Tally;
 
 // Brings the lent tally up to date.
@@ -75,4 +84,96 @@ fn put_lines(file: &[u8], deviations: &[i64], shares: &[i64], lines: &mut [Line]
         post_line(lines, member, grains);
         i += 1;
     }
+}
+
+fn refused(answer: Answer) -> Settled
+    ensures { λ r. ⌜ r ≡ record { answer = answer; ufe = noFigures } ⌝ }
+{
+    Settled {
+        answer: answer,
+        ufe: [0i64; 8],
+    }
+}
+
+// No hour has more than 32 members, so that more lines than that need no room.
+fn room_for(lines: usize) -> usize
+    ensures { λ r. ⌜ r ≡ min lines 32 ⌝ }
+{
+    if lines < 32 { lines } else { 32 }
+}
+
+// Refusals 7 and 11; then the buffers are filled. This function only makes the room in which the amounts are worked for row 7.
+fn finish(
+    file: &[u8],
+    figures: [i64; 8],
+    lines: usize,
+    charges: &mut [i64],
+    shares: &mut [i64],
+    deviations: &mut [i64],
+) -> Answer
+    requires { ⌜ Figured (now file) figures ⌝ }
+    ensures { λ r. ⌜ FinishedApart (hourIn (now (file .entry))) lines (apart (now (charges .entry)) (now (shares .entry)) (now (deviations .entry))) r (apart (now (charges .exit)) (now (shares .exit)) (now (deviations .exit))) ⌝ }
+{
+    let room = room_for(lines);
+    let mut amounts = [0i64; 32];
+    let mut counts = [0u32; 32];
+    settle::settle_figured(
+        file,
+        figures,
+        charges,
+        shares,
+        deviations,
+        &mut amounts[..room],
+        &mut counts[..room],
+    )
+}
+
+// What is left to do once the tally is made, but for the lines.
+fn settle_tallied(
+    file: &[u8],
+    tally: Tally,
+    lines: usize,
+    charges: &mut [i64],
+    shares: &mut [i64],
+    deviations: &mut [i64],
+) -> Settled
+    requires { ⌜ (verdict (fileRows (now file)) ≡ accepted) × Tallied (now file) tally ⌝ }
+    ensures { λ r. ⌜ FitsApart (now (file .entry)) lines (apart (now (charges .entry)) (now (shares .entry)) (now (deviations .entry))) r (apart (now (charges .exit)) (now (shares .exit)) (now (deviations .exit))) ⌝ }
+{
+    let figures = settle::tally::ufe_figures(file, tally);
+    if let Found::At(a) = settle::tally::area_without_demand(file, tally, figures) {
+        return refused(Answer::BadArea(a));
+    }
+    let answer = finish(file, figures, lines, charges, shares, deviations);
+    let Answer::Accepted = answer else {
+        return refused(answer);
+    };
+    Settled {
+        answer: Answer::Accepted,
+        ufe: figures,
+    }
+}
+
+// Settles an hour file: any bytes, any lengths of buffers. Every check runs before the first line is touched.
+pub fn settle(
+    file: &[u8],
+    lines: &mut [Line],
+    charges: &mut [i64],
+    shares: &mut [i64],
+    deviations: &mut [i64],
+) -> Settled
+    ensures { λ r. ⌜ Fits (now (file .entry)) (buffers (now (charges .entry)) (now (shares .entry)) (now (deviations .entry)) (now (lines .entry))) r (buffers (now (charges .exit)) (now (shares .exit)) (now (deviations .exit)) (now (lines .exit))) ⌝ }
+{
+    let answer = hourfile::refusals::examine(file);
+    let Answer::Accepted = answer else {
+        return refused(answer);
+    };
+    let tally = tally_of(file);
+    let settled = settle_tallied(file, tally, lines.len(), charges, shares, deviations);
+    let last = settled.answer;
+    let Answer::Accepted = last else {
+        return settled;
+    };
+    put_lines(file, deviations, shares, lines);
+    settled
 }

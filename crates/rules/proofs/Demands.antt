@@ -50,13 +50,13 @@ hour-passed s w = let p = whole-parts (fileRows s) (sumRows (hourOf hourly s)) .
     record { kept = file-kept s (p .0) .hour-kept; no-bad-area = p .1 .0 }
 
 -- what row 11 says of the buffers
-record Room (h : Hour) (b : Buffers) : Type 0 where
-  charges-room : members h ≤ length (b .charges)
-  lines-room : members h ≤ length (b .lines)
-  shares-room : h .count ≤ length (b .shares)
-  deviations-room : h .count ≤ length (b .deviations)
+pub record Room (h : Hour) (b : Buffers) : Type 0 where
+  pub charges-room : members h ≤ length (b .charges)
+  pub lines-room : members h ≤ length (b .lines)
+  pub shares-room : h .count ≤ length (b .shares)
+  pub deviations-room : h .count ≤ length (b .deviations)
 
-buffers-room : (h : Hour) (b : Buffers) → AllWhole (bufferRows h b) → Room h b
+pub buffers-room : (h : Hour) (b : Buffers) → AllWhole (bufferRows h b) → Room h b
 unfolding bufferRows tooShort
 buffers-room h b w =
     let c = ltb (length (b .charges)) (members h) in

@@ -1,0 +1,2 @@
+-- What the contracts of `pool` cite beside `rules` and `settle`.
+pub mod Apart
