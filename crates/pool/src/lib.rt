@@ -1,5 +1,5 @@
 // The customer's library: the tally and the members' lines are lent to each posting, and settling writes into the caller's own buffers.
-// Structs are moved here, not computed with: the sums are worked by value in `formula` and `settle`.
+// Structs are moved here, not computed with: the sums are worked by value in `formula`, `posting` and `settle`.
 ghost use mathlib.Core.Path.{_≡_};
 ghost use Prim.Native.Nat.{min, _≤_, _<_};
 ghost use lib.ListN.{length, getD};
@@ -11,9 +11,9 @@ ghost use Rattle.rules.specs.Settling.{noFigures};
 ghost use Rattle.rules.specs.Promises.{Fits};
 ghost use Rattle.rules.specs.Kept.{FileKept};
 ghost use Rattle.formula.specs.Room.{TallyRoom, LineRoom};
-ghost use Rattle.settle.specs.Hour.{hourIn};
-ghost use Rattle.settle.specs.Lined.{AllWorked};
-ghost use Rattle.settle.specs.Posted.{Tallied};
+ghost use Rattle.posting.specs.Hour.{hourIn};
+ghost use Rattle.posting.specs.Lined.{AllWorked};
+ghost use Rattle.posting.specs.Posted.{Tallied};
 ghost use Rattle.settle.specs.Parallel.{Figured};
 ghost use Rattle.pool.specs.Apart.{apart, buffers, FinishedApart, FitsApart};
 use rules::Answer;
@@ -49,9 +49,9 @@ fn tally_of(file: &[u8]) -> Tally
     let mut tally = formula::posting::empty_tally();
     let mut i = 0;
     while i < n {
-        let area = settle::hour::area_of(file, i);
-        let demand = settle::hour::demand_of(file, i);
-        let energy = formula::deviation::accounted(settle::hour::entry_of(file, i));
+        let area = posting::hour::area_of(file, i);
+        let demand = posting::hour::demand_of(file, i);
+        let energy = formula::deviation::accounted(posting::hour::entry_of(file, i));
         post(&mut tally, area, demand, energy);
         i += 1;
     }
@@ -75,12 +75,12 @@ fn put_lines(file: &[u8], deviations: &[i64], shares: &[i64], lines: &mut [Line]
     requires { ⌜ AllWorked (now file) (now deviations) (now shares) × (Record.members (hourIn (now file)) ≤ length (now lines)) ⌝ }
     ensures { λ _. ⌜ now (lines .exit) ≡ Posting.linesAfter (hourIn (now (file .entry))) (now (lines .entry)) (hourIn (now (file .entry)) .count) ⌝ }
 {
-    clear_lines(lines, settle::hour::members(file));
+    clear_lines(lines, posting::hour::members(file));
     let n = hourfile::records(file);
     let mut i = 0;
     while i < n {
-        let member = settle::hour::member_of(file, i);
-        let grains = settle::lines::grains(file, i, deviations[i], shares[i]);
+        let member = posting::hour::member_of(file, i);
+        let grains = posting::lines::grains(file, i, deviations[i], shares[i]);
         post_line(lines, member, grains);
         i += 1;
     }
@@ -140,8 +140,8 @@ fn settle_tallied(
     requires { ⌜ (verdict (fileRows (now file)) ≡ accepted) × Tallied (now file) tally ⌝ }
     ensures { λ r. ⌜ FitsApart (now (file .entry)) lines (apart (now (charges .entry)) (now (shares .entry)) (now (deviations .entry))) r (apart (now (charges .exit)) (now (shares .exit)) (now (deviations .exit))) ⌝ }
 {
-    let figures = settle::tally::ufe_figures(file, tally);
-    if let Found::At(a) = settle::tally::area_without_demand(file, tally, figures) {
+    let figures = posting::tally::ufe_figures(file, tally);
+    if let Found::At(a) = posting::tally::area_without_demand(file, tally, figures) {
         return refused(Answer::BadArea(a));
     }
     let answer = finish(file, figures, lines, charges, shares, deviations);

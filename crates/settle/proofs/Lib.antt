@@ -1,7 +1,3 @@
--- The laws behind settling, in the order of the sums.
-pub mod Wide
-pub mod Tallies
-pub mod Areas
-pub mod Postings
+-- The laws behind settling: what is held, what is answered.
 pub mod Held
 pub mod Answered

@@ -1,6 +1,2 @@
--- What the contracts of `settle` cite beside `rules`.
-pub mod Hour
-pub mod Posted
-pub mod Shared
-pub mod Lined
+-- What the contracts of `settle` cite beside `rules` and `posting`.
 pub mod Parallel

@@ -6,7 +6,7 @@ use lib.ListN.{length}
 use lib.Dec.{ltb}
 use Rattle.rules.specs.Record.{Hour, members}
 use Rattle.rules.specs.Refusals.{foundAt, badAmount}
-use Rattle.settle.specs.Hour.{hourIn}
+use Rattle.posting.specs.Hour.{hourIn}
 use Rattle.settle.specs.Parallel.{Lent, lent}
 use Rattle.settle.proofs.Held.{row-7, amount-over, short, some-short, can-hand-over, all-handed}
 use borrow.Author.Needs.{needs}
@@ -16,7 +16,7 @@ use Rattle.settle.proofs.finish.Reads as reads
 use Rattle.settle.proofs.finish.Lts as lts
 use Rattle.settle.proofs.hand_over.Reads as hand-over-reads
 use Rattle.settle.proofs.least.Reads as least-reads
-use Rattle.settle.proofs.lines.member_over.Reads as member-over-reads
+use Rattle.posting.proofs.lines.member_over.Reads as member-over-reads
 use Rattle.settle.proofs.too_short.Reads as too-short-reads
 
 -- src/lib.rt:119:27

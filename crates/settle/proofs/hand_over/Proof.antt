@@ -6,7 +6,7 @@ use Rattle.settle.proofs.hand_over.Reads as reads
 use Rattle.settle.proofs.hand_over.Lts as lts
 use Rattle.settle.proofs.copy.Reads as copy-reads
 use Rattle.settle.proofs.copy_counts.Reads as copy-counts-reads
-use Rattle.settle.proofs.lines.put_charges.Reads as put-charges-reads
+use Rattle.posting.proofs.lines.put_charges.Reads as put-charges-reads
 
 -- src/lib.rt:96:5
 put-charges-requires : tie.Need-put-charges-requires

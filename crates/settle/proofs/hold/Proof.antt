@@ -5,9 +5,9 @@ use Rattle.settle.proofs.hold.Statement.{statement}
 use Rattle.settle.proofs.hold.Tie as tie
 use Rattle.settle.proofs.hold.Reads as reads
 use Rattle.settle.proofs.hold.Lts as lts
-use Rattle.settle.proofs.deviations.put_deviations.Reads as put-deviations-reads
-use Rattle.settle.proofs.lines.put_lines.Reads as put-lines-reads
-use Rattle.settle.proofs.shares.put_shares.Reads as put-shares-reads
+use Rattle.posting.proofs.deviations.put_deviations.Reads as put-deviations-reads
+use Rattle.posting.proofs.lines.put_lines.Reads as put-lines-reads
+use Rattle.posting.proofs.shares.put_shares.Reads as put-shares-reads
 
 -- src/lib.rt:145:5
 put-deviations-requires : tie.Need-put-deviations-requires

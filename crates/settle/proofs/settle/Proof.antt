@@ -16,9 +16,9 @@ use Rattle.settle.proofs.settle.Lts as lts
 use Rattle.hourfile.proofs.refusals.examine.Reads as examine-reads
 use Rattle.settle.proofs.refused.Reads as refused-reads
 use Rattle.settle.proofs.settle_figured.Reads as settle-figured-reads
-use Rattle.settle.proofs.tally.area_without_demand.Reads as area-without-demand-reads
-use Rattle.settle.proofs.tally.tally_of.Reads as tally-of-reads
-use Rattle.settle.proofs.tally.ufe_figures.Reads as ufe-figures-reads
+use Rattle.posting.proofs.tally.area_without_demand.Reads as area-without-demand-reads
+use Rattle.posting.proofs.tally.tally_of.Reads as tally-of-reads
+use Rattle.posting.proofs.tally.ufe_figures.Reads as ufe-figures-reads
 
 -- src/lib.rt:228:9
 examine-requires : tie.Need-examine-requires

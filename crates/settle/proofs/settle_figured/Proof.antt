@@ -7,7 +7,7 @@ use Rattle.settle.proofs.settle_figured.Tie as tie
 use Rattle.settle.proofs.settle_figured.Reads as reads
 use Rattle.settle.proofs.settle_figured.Lts as lts
 use Rattle.hourfile.proofs.records.Reads as records-reads
-use Rattle.settle.proofs.hour.members.Reads as members-reads
+use Rattle.posting.proofs.hour.members.Reads as members-reads
 use Rattle.settle.proofs.settle_in.Reads as settle-in-reads
 
 -- src/lib.rt:195:9

@@ -4,14 +4,14 @@ use native.Mathlib.Omega.{arith}
 use lib.Dec.{ltb}
 use borrow.Author.Tests.{lt-ltb, le-ltb}
 use Rattle.rules.specs.Record as Record
-use Rattle.settle.specs.Hour.{hourIn}
+use Rattle.posting.specs.Hour.{hourIn}
 use borrow.Author.Needs.{needs}
 use Rattle.settle.proofs.too_short.Statement.{statement}
 use Rattle.settle.proofs.too_short.Tie as tie
 use Rattle.settle.proofs.too_short.Reads as reads
 use Rattle.settle.proofs.too_short.Lts as lts
 use Rattle.hourfile.proofs.records.Reads as records-reads
-use Rattle.settle.proofs.hour.members.Reads as members-reads
+use Rattle.posting.proofs.hour.members.Reads as members-reads
 
 -- src/lib.rt:44:9
 members-requires : tie.Need-members-requires

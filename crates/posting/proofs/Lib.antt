@@ -1,0 +1,5 @@
+-- The laws behind the sums of a file, in the order of the sums.
+pub mod Wide
+pub mod Tallies
+pub mod Areas
+pub mod Postings

@@ -1,0 +1,126 @@
+use mir.Syntax.{w64}
+use mir.ValLaws.{toZ-ofZ}
+use borrow.Author.Needs.{sfits-of}
+use mathlib.Core.Path.{_≡_, refl, sym, _∙_, ap}
+use Prim.Native.Nat.{ℕ}
+use mathlib.Core.List.{List}
+use native.Mathlib.Omega.{arith}
+use lib.IntN.{pos, natAbs}
+use lib.ListN.{length, getD}
+use Rattle.whole.specs.Below.{valuesBelow, replacingFirst}
+use Rattle.whole.proofs.Buffers.{replacing-ext}
+use Rattle.rules.specs.Record.{Hour}
+use Rattle.rules.specs.Ufe.{ufe}
+use Rattle.rules.specs.Kept.{HourKept}
+use Rattle.share.specs.Shareable.{Shareable, sharesIn}
+use Rattle.posting.specs.Hour.{hourIn}
+use Rattle.posting.specs.Shared.{demandIn, sharesBelow, withSizes}
+use Rattle.posting.proofs.Areas.{shareable, got-length, got-small, one-more-area, area-place, figure-is}
+use borrow.Author.Needs.{needs}
+use Rattle.posting.proofs.shares.share_over.Statement.{statement}
+use Rattle.posting.proofs.shares.share_over.Tie as tie
+use Rattle.posting.proofs.shares.share_over.Reads as reads
+use Rattle.posting.proofs.shares.share_over.Lts as lts
+use Rattle.formula.proofs.cents.size_of.Reads as size-of-reads
+use Rattle.posting.proofs.shares.put_area.Reads as put-area-reads
+use Rattle.posting.proofs.shares.put_demands.Reads as put-demands-reads
+use Rattle.share.proofs.shares.Reads as shares-reads
+
+-- src/shares.rt:64:5
+put-demands-requires : tie.Need-put-demands-requires
+put-demands-requires c κs = search needs
+
+-- src/shares.rt:65:52
+mul-size-of : tie.Need-mul-size-of
+mul-size-of c = omega (arith, area-place (c .before .before .before .before .before .before .before .before .pre .0))
+
+-- src/shares.rt:65:52
+array-copy-out-size-of : tie.Need-array-copy-out-size-of
+array-copy-out-size-of c = area-place (c .before .before .before .before .before .before .before .before .pre .0)
+
+-- src/shares.rt:65:28
+size-of-requires : tie.Need-size-of-requires
+size-of-requires c κs = search needs
+
+module _ (c : tie.After-shares-arg2) where
+  abbrev start : tie.Start
+  start = c .before .before .before .before .before .before .before .before .before .before .before
+
+  abbrev h : Hour
+  h = hourIn (start .args .file .now)
+
+  abbrev kept : HourKept h
+  kept = start .pre .0 .sharing .kept .hour-kept
+
+  -- the demands as they were put
+  abbrev put : List ℕ
+  put = c .before .before .before .before .before .before .put-demands .last .1 .1 .0
+
+  demands-are : put ≡ valuesBelow (demandIn h (start .args .a)) (h .count)
+  demands-are = c .before .before .before .before .before .before .put-demands .ensures ∙ ap (valuesBelow (demandIn h (start .args .a))) (start .pre .1)
+
+  size-is : c .before .size-of .result ≡ natAbs (ufe h (start .args .a))
+  size-is = c .before .size-of .ensures ∙ ap natAbs (toZ-ofZ w64 (getD (start .args .t2) (start .args .a) (pos 0)) (sfits-of (c .before .before .size-of-arg .given)) ∙ figure-is (start .pre .0))
+
+-- the sizes as they were shared
+module _ (c : tie.After-put-area-arg2) where
+  abbrev asked : tie.After-shares-arg2
+  asked = c .before .before .before .before .before
+
+  abbrev got : List ℕ
+  got = c .before .before .before .before .shares .last .1 .1 .0
+
+  shared : got ≡ sharesIn (put asked) (natAbs (ufe (h asked) (start asked .args .a))) (start asked .args .sizes .now)
+  shared = c .before .before .before .before .shares .ensures ∙ ap (λ u. sharesIn (put asked) u (start asked .args .sizes .now)) (size-is asked)
+
+  as-many : length got ≡ h asked .count
+  as-many = got-length (kept asked) (start asked .args .a) (start asked .pre .0 .there) (put asked) (start asked .args .sizes .now) (demands-are asked) (start asked .pre .2) got shared
+
+-- src/shares.rt:65:5
+shares-requires : tie.Need-shares-requires
+shares-requires c κs = rw (size-is c) (shareable (kept c) (start c .args .a) (start c .pre .0 .there) (put c) (start c .args .sizes .now) (demands-are c) (start c .pre .2))
+
+-- src/shares.rt:66:5
+put-area-requires : tie.Need-put-area-requires
+put-area-requires c κs =
+    let k = asked c in
+    (area-place (start k .pre .0), omega (arith, as-many c, start k .pre .0 .sharing .room), got-small (kept k) (start k .args .a) (start k .pre .0 .there) (put k) (start k .args .sizes .now) (demands-are k) (start k .pre .2) (got c) (shared c))
+
+-- src/shares.rt:60:1
+same-length : tie.Need-same-length
+same-length c = search needs
+
+-- src/shares.rt:60:1
+same-length-2 : tie.Need-same-length-2
+same-length-2 c = search needs
+
+-- src/shares.rt:60:1
+same-length-3 : tie.Need-same-length-3
+same-length-3 c = search needs
+
+-- src/shares.rt:60:1
+returns : tie.Need-returns
+returns c =
+    let d = c .before .before in
+    let k = asked d in
+    let out = start k .args .out .now in
+    let a = start k .args .a in
+    c .before .put-area .ensures
+    ∙ ap (λ n. replacingFirst (withSizes (h k) a (getD (start k .args .t2) a (pos 0)) (got d) out) n out) (as-many d)
+    ∙ ap (λ u. replacingFirst (withSizes (h k) a u (got d) out) (h k .count) out) (figure-is (start k .pre .0))
+    ∙ replacing-ext _ _ (h k .count) out (one-more-area (kept k) a (start k .pre .0 .there) (put k) (start k .args .sizes .now) (demands-are k) (start k .pre .2) (got d) (shared d) out (start k .pre .0 .shared))
+
+pub share-over-spec : {M : Type 1} → statement M
+share-over-spec =
+    tie.close
+    (tie.spec
+    put-demands-requires
+    mul-size-of
+    array-copy-out-size-of
+    size-of-requires
+    shares-requires
+    put-area-requires
+    same-length
+    same-length-2
+    same-length-3
+    returns)
