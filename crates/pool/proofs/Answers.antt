@@ -1,13 +1,13 @@
 -- Settling's ways out: refused by the file, by its sums or by the buffers, nothing is changed; accepted, the lines are posted last.
 use mathlib.Core.Path.{_≡_, refl, sym, _∙_, ap}
-use mathlib.Core.Bool.{Bool, true, false, cond, _||_}
+use mathlib.Core.Bool.{Bool, true, false, cond}
 use mathlib.Core.Option.{none, some}
 use mathlib.Core.List.{List, [], _∷_, _++_}
 use types.Run.{OneOf, miss}
-use Prim.Native.Nat.{ℕ, min, _≤_, _<_}
+use Prim.Native.Nat.{ℕ, min, _≤_}
 use native.Mathlib.Omega.{arith}
 use lib.IntN.{ℤ, pos}
-use lib.ListN.{length, getD}
+use lib.ListN.{length}
 use lib.Dec.{ltb}
 use borrow.Author.Tests.{eqb-true, ltb-true, ltb-false, lt-ltb, le-ltb}
 use Rattle.whole.proofs.Tests.{split}
@@ -20,8 +20,8 @@ use Rattle.rules.specs.declared.Settled.{Settled}
 use Rattle.rules.specs.Record.{Hour, members, entryOf}
 use Rattle.rules.specs.Deviation.{deviation}
 use Rattle.rules.specs.Charge.{shareOf}
-use Rattle.rules.specs.Refusals.{Row, row, Verdict, accepted, refusedAt, verdictOf, verdict, badArea, badAmount, tooShort, layoutRows, wordRows, sumRows, fileRows, hourRows}
-use Rattle.rules.specs.Settling.{Buffers, isAccepted, lineOf, filled, bufferRows, settleRows, ufeFigures, noFigures, settle}
+use Rattle.rules.specs.Refusals.{Row, row, Verdict, accepted, refusedAt, verdictOf, verdict, badArea, tooShort, layoutRows, wordRows, sumRows, fileRows, hourRows}
+use Rattle.rules.specs.Settling.{Buffers, isAccepted, filled, bufferRows, settleRows, ufeFigures, noFigures, settle}
 use Rattle.rules.specs.Posting.{linesAfter}
 use Rattle.rules.specs.Promises.{Accepts, AllWhole, Fits}
 use Rattle.rules.specs.Kept.{FileKept}

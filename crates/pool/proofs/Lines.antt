@@ -15,7 +15,6 @@ use Rattle.rules.specs.declared.Line.{Line}
 use Rattle.rules.specs.Record.{Hour, members, memberOf}
 use Rattle.rules.specs.Charge.{grains}
 use Rattle.rules.specs.Posting.{emptyLine, linesWith, linesAfter}
-use Rattle.rules.specs.Settling.{lineOf}
 use Rattle.rules.specs.Kept.{HourKept}
 use Rattle.rules.proofs.Posting.{lineAfter, lines-after}
 use Rattle.rules.proofs.Bounds.{amount-running, grains-under}

@@ -2,10 +2,7 @@
 mod Lts
 mod Tie
 use mathlib.Core.Path.{_≡_, sym, _∙_, ap}
-use mathlib.Core.List.{List}
-use Prim.Native.Nat.{ℕ}
 use borrow.Author.Needs.{needs}
-use Rattle.rules.specs.declared.Answer.the-variants.{Accepted}
 use Rattle.rules.specs.Refusals.{accepted, verdictOf, verdict, fileRows}
 use Rattle.pool.specs.Apart.{Apart, apart, withLines}
 use Rattle.pool.proofs.Answers.{no-other, file-refused, passed-kept, still-refused, worked, lines-posted}

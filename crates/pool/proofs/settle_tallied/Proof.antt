@@ -1,7 +1,6 @@
 -- Row 6 by the tally, then the rest.
-use mathlib.Core.Path.{_≡_, sym, _∙_, ap}
+use mathlib.Core.Path.{sym, _∙_, ap}
 use borrow.Author.Needs.{needs}
-use Rattle.rules.specs.declared.Answer.the-variants.{Accepted}
 use Rattle.rules.specs.Refusals.{foundAt}
 use Rattle.pool.specs.Apart.{Apart, apart}
 use Rattle.pool.proofs.Answers.{no-other, area-refused, last-refused, last-accepted}
