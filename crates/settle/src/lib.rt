@@ -187,7 +187,7 @@ fn settle_in(
 }
 
 // The rest of settling. This function only makes the room.
-fn settle_figured(
+pub fn settle_figured(
     file: &[u8],
     figures: [i64; 8],
     charges: &mut [i64],

@@ -1,0 +1,5 @@
+-- What the walks of `pool` rest on.
+pub mod Lines
+pub mod Answers
+pub mod Demands
+pub mod Port

@@ -1,0 +1,129 @@
+-- The lines are lent to a posting a turn, and after i turns the first i records are posted to them.
+mod Lts
+mod Tie
+use mathlib.Core.Path.{_≡_, _∙_, ap}
+use mathlib.Core.List.{List}
+use Prim.Native.Nat.{_-_, _≤_, _<_}
+use native.Mathlib.Omega.{arith}
+use lib.IntN.{pos}
+use lib.ListN.{length, getD}
+use mir.Syntax.{w64}
+use mir.Val.{toZ, ofZ}
+use mir.ValLaws.{toZ-ofZ}
+use borrow.Author.Needs.{sfits-of}
+use Rattle.whole.specs.Below.{replacingFirst}
+use Rattle.rules.specs.declared.Line.{Line}
+use Rattle.rules.specs.Record.{Hour, members}
+use Rattle.rules.specs.Charge.{grains}
+use Rattle.rules.specs.Posting.{emptyLine, linesAfter}
+use Rattle.rules.specs.Kept.{HourKept}
+use Rattle.posting.specs.Hour.{hourIn}
+use Rattle.pool.proofs.Lines.{lines-length, can-post, next-lines}
+use Rattle.pool.proofs.put_lines.Statement.{statement}
+use Rattle.pool.proofs.put_lines.Proof.Tie as tie
+
+-- the loop starts from cleared lines: whatever they were before
+abbrev Inv-loop : tie.InvT-loop
+Inv-loop file deviations shares cleared n i₀ lines i = (i ≤ n) × ((old : List Line) → cleared ≡ linesAfter (hourIn file) old 0 → lines ≡ linesAfter (hourIn file) old i)
+
+abbrev μ-loop : tie.MeasureT-loop
+μ-loop file deviations shares cleared n i₀ lines i = n - i
+
+members-requires : tie.Need-members-requires Inv-loop μ-loop
+members-requires c κs = tt
+
+clear-lines-requires : tie.Need-clear-lines-requires Inv-loop μ-loop
+clear-lines-requires c κs = omega (arith, c .members .ensures, c .before .before .before .pre .1)
+
+records-requires : tie.Need-records-requires Inv-loop μ-loop
+records-requires c κs = tt
+
+loop-holds : tie.Need-loop-holds Inv-loop μ-loop
+loop-holds c = (omega arith, λ old e. e)
+
+-- once the lines are cleared
+module _ (c : tie.At-loop Inv-loop μ-loop) where
+  abbrev start : tie.Start Inv-loop μ-loop
+  start = c .before .before .before .before .before .before .before
+
+  abbrev h : Hour
+  h = hourIn (start .args .file .now)
+
+  abbrev old : List Line
+  old = start .args .lines .now
+
+  kept : HourKept h
+  kept = start .pre .0 .kept .hour-kept
+
+  -- the lines are those of the records so far
+  posted : c .loop .lines ≡ linesAfter h old (c .loop .i)
+  unfolding linesAfter
+  posted = c .loop .inv .1 old (c .before .before .before .clear-lines .ensures ∙ ap (λ k. replacingFirst (λ m. emptyLine) k old) (c .before .before .before .before .members .ensures))
+
+  so-many : c .loop .i ≤ h .count
+  so-many = omega (arith, c .loop .inv .0, c .before .records .ensures)
+
+  pub as-long : length (c .loop .lines) ≡ length old
+  as-long = ap length posted ∙ lines-length kept old (c .loop .i) so-many (start .pre .1)
+
+there : (c : tie.In-loop Inv-loop μ-loop) → c .before .loop .i < h (c .before) .count
+there c = omega arith
+
+member-of-requires : tie.Need-member-of-requires Inv-loop μ-loop
+member-of-requires c κs = tt
+
+mul-grains : tie.Need-mul-grains Inv-loop μ-loop
+mul-grains c = omega (arith, there (c .before), start (c .before .before) .pre .0 .deviations-room)
+
+shared-slice-copy-out-grains : tie.Need-shared-slice-copy-out-grains Inv-loop μ-loop
+shared-slice-copy-out-grains c = omega (arith, there (c .before), start (c .before .before) .pre .0 .deviations-room)
+
+mul-grains-2 : tie.Need-mul-grains-2 Inv-loop μ-loop
+mul-grains-2 c = omega (arith, there (c .before .before), start (c .before .before .before) .pre .0 .shares-room)
+
+shared-slice-copy-out-grains-2 : tie.Need-shared-slice-copy-out-grains-2 Inv-loop μ-loop
+shared-slice-copy-out-grains-2 c = omega (arith, there (c .before .before), start (c .before .before .before) .pre .0 .shares-room)
+
+grains-requires : tie.Need-grains-requires Inv-loop μ-loop
+grains-requires c κs =
+    let turn = c .before .before .before in
+    let worked = start (turn .before) .pre .0 in
+    let i = turn .before .loop .i in
+    record {
+      kept = worked .kept;
+      there = there turn;
+      deviation-is = toZ-ofZ w64 (getD (start (turn .before) .args .deviations .now) i (pos 0)) (sfits-of (c .before .grains-arg .given)) ∙ worked .deviations-are i (there turn);
+      share-is = toZ-ofZ w64 (getD (start (turn .before) .args .shares .now) i (pos 0)) (sfits-of (c .grains-arg2 .given)) ∙ worked .shares-are i (there turn);
+    }
+
+grains-is : (c : tie.After-grains Inv-loop μ-loop) → let turn = c .before .before .before .before in toZ w64 (ofZ w64 (c .grains .result)) ≡ grains (h (turn .before)) (turn .before .loop .i)
+grains-is c = toZ-ofZ w64 _ (sfits-of (c .grains .ok)) ∙ c .grains .ensures
+
+post-line-requires : tie.Need-post-line-requires Inv-loop μ-loop
+post-line-requires c κs =
+    let turn = c .before .before .before .before .before in
+    let at = turn .before in
+    can-post (kept at) (old at) (at .loop .i) (there turn) (posted at) (c .before .before .before .before .member-of .ensures) (grains-is (c .before)) (start at .pre .1)
+
+add-i : tie.Need-add-i Inv-loop μ-loop
+add-i c = omega arith
+
+loop-less : tie.Need-loop-less Inv-loop μ-loop
+loop-less c = omega arith
+
+loop-again : tie.Need-loop-again Inv-loop μ-loop
+loop-again c =
+    let turn = c .before .before .before .before .before .before .before in
+    let at = turn .before in
+    (omega arith, λ before e. c .before .post-line .ensures ∙ next-lines (kept at) before (at .loop .i) (there turn) (at .loop .inv .1 before e) (c .before .before .before .before .before .before .member-of .ensures) (grains-is (c .before .before .before)))
+
+same-length : tie.Need-same-length Inv-loop μ-loop
+same-length c = as-long (c .before)
+
+returns : tie.Need-returns Inv-loop μ-loop
+returns c =
+    let all : c .before .loop .i ≡ h (c .before) .count = omega arith in
+    posted (c .before) ∙ ap (linesAfter (h (c .before)) (old (c .before))) all
+
+pub put-lines-spec : {M : Type 1} → statement M
+put-lines-spec = tie.close (tie.spec Inv-loop μ-loop members-requires clear-lines-requires records-requires loop-holds member-of-requires mul-grains shared-slice-copy-out-grains mul-grains-2 shared-slice-copy-out-grains-2 grains-requires post-line-requires add-i loop-less loop-again same-length returns)
