@@ -7,7 +7,7 @@ ghost use Rattle.rules.specs.Record as Record;
 ghost use Rattle.rules.specs.HourFile as HourFile;
 ghost use Rattle.rules.specs.HourFile.{hourly};
 
-mod refusals;
+pub mod refusals;
 
 pub use refusals::examine;
 
