@@ -1,0 +1,106 @@
+-- Functions of a file: words, records, the tally and its figures, the answers of searches.
+use mathlib.Core.Path.{_≡_}
+use contract.Lifetimes.{Lfts}
+use denote.Ref.{now}
+use Rattle.determined.specs.Determined.{OneResult, OnePart}
+use Rattle.determined.proofs.Laws.{agree, agree-answer, agree-entry, agree-found}
+use Rattle.hourfile.proofs.length_bad.Reads as length-bad
+use Rattle.hourfile.proofs.blocks.Reads as blocks
+use Rattle.hourfile.proofs.word.Reads as word
+use Rattle.hourfile.proofs.block_word.Reads as block-word
+use Rattle.hourfile.proofs.head_word.Reads as head-word
+use Rattle.hourfile.proofs.records.Reads as records
+use Rattle.hourfile.proofs.record_word.Reads as record-word
+use Rattle.hourfile.proofs.body.Reads as body
+use Rattle.hourfile.proofs.refusals.examine.Reads as examine
+use Rattle.posting.proofs.hour.members.Reads as members
+use Rattle.posting.proofs.hour.areas.Reads as areas
+use Rattle.posting.proofs.hour.price.Reads as price
+use Rattle.posting.proofs.hour.member_of.Reads as member-of
+use Rattle.posting.proofs.hour.area_of.Reads as area-of
+use Rattle.posting.proofs.hour.demand_of.Reads as demand-of
+use Rattle.posting.proofs.hour.entry_of.Reads as entry-of
+use Rattle.posting.proofs.deviations.deviation_of.Reads as deviation-of
+use Rattle.posting.proofs.lines.grains.Reads as grains
+use Rattle.posting.proofs.tally.tally_with.Reads as tally-with
+use Rattle.posting.proofs.tally.tally_of.Reads as tally-of
+use Rattle.posting.proofs.tally.ufe_of.Reads as ufe-of
+use Rattle.posting.proofs.tally.ufe_figures.Reads as ufe-figures
+use Rattle.posting.proofs.tally.area_without_demand.Reads as area-without-demand
+use Rattle.posting.proofs.lines.member_over.Reads as member-over
+use Rattle.settle.proofs.too_short.Reads as too-short
+
+pub one-length-bad : (κs : Lfts 1) → OneResult (length-bad.Post κs)
+one-length-bad κs a x y s t = agree
+
+pub one-blocks : (κs : Lfts 1) → OneResult (blocks.Post κs)
+one-blocks κs a x y s t = agree
+
+pub one-word : (κs : Lfts 1) → OneResult (word.Post κs)
+one-word κs a x y s t = agree
+
+pub one-block-word : (κs : Lfts 1) → OneResult (block-word.Post κs)
+one-block-word κs a x y s t = agree
+
+pub one-head-word : (κs : Lfts 1) → OneResult (head-word.Post κs)
+one-head-word κs a x y s t = agree
+
+pub one-records : (κs : Lfts 1) → OneResult (records.Post κs)
+one-records κs a x y s t = agree
+
+pub one-record-word : (κs : Lfts 1) → OneResult (record-word.Post κs)
+one-record-word κs a x y s t = agree
+
+pub one-body : (κs : Lfts 1) → OnePart (body.Post κs) now
+one-body κs a x y s t = agree
+
+pub one-examine : (κs : Lfts 1) → OneResult (examine.Post κs)
+one-examine κs a x y s t = agree-answer
+
+pub one-members : (κs : Lfts 1) → OneResult (members.Post κs)
+one-members κs a x y s t = agree
+
+pub one-areas : (κs : Lfts 1) → OneResult (areas.Post κs)
+one-areas κs a x y s t = agree
+
+pub one-price : (κs : Lfts 1) → OneResult (price.Post κs)
+one-price κs a x y s t = agree
+
+pub one-member-of : (κs : Lfts 1) → OneResult (member-of.Post κs)
+one-member-of κs a x y s t = agree
+
+pub one-area-of : (κs : Lfts 1) → OneResult (area-of.Post κs)
+one-area-of κs a x y s t = agree
+
+pub one-demand-of : (κs : Lfts 1) → OneResult (demand-of.Post κs)
+one-demand-of κs a x y s t = agree
+
+pub one-entry-of : (κs : Lfts 1) → OneResult (entry-of.Post κs)
+one-entry-of κs a x y s t = agree-entry
+
+pub one-deviation-of : (κs : Lfts 1) → OneResult (deviation-of.Post κs)
+one-deviation-of κs a x y s t = agree
+
+pub one-grains : (κs : Lfts 1) → OneResult (grains.Post κs)
+one-grains κs a x y s t = agree
+
+pub one-tally-with : (κs : Lfts 1) → OneResult (tally-with.Post κs)
+one-tally-with κs a x y s t = agree
+
+pub one-tally-of : (κs : Lfts 1) → OneResult (tally-of.Post κs)
+one-tally-of κs a x y s t = agree
+
+pub one-ufe-of : (κs : Lfts 1) → OneResult (ufe-of.Post κs)
+one-ufe-of κs a x y s t = agree
+
+pub one-ufe-figures : (κs : Lfts 1) → OneResult (ufe-figures.Post κs)
+one-ufe-figures κs a x y s t = agree
+
+pub one-area-without-demand : (κs : Lfts 1) → OneResult (area-without-demand.Post κs)
+one-area-without-demand κs a x y s t = agree-found
+
+pub one-member-over : (κs : Lfts 1) → OneResult (member-over.Post κs)
+one-member-over κs a x y s t = agree-found
+
+pub one-too-short : (κs : Lfts 1) → OneResult (too-short.Post κs)
+one-too-short κs a x y s t = agree

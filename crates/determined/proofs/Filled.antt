@@ -1,0 +1,70 @@
+-- Functions that fill a caller's buffers.
+use mathlib.Core.Path.{_≡_, refl, ap₂}
+use mathlib.Core.List.{List}
+use lib.IntN.{ℤ}
+use contract.Lifetimes.{Lfts}
+use denote.Ref.{now}
+use Rattle.rules.specs.declared.Answer.{Answer}
+use Rattle.amount.proofs.RoundTrips.{one-reading}
+use Rattle.settle.specs.Parallel.{lent}
+use Rattle.pool.specs.Apart.{buffers}
+use Rattle.rules.proofs.Rows.{one-result}
+use Rattle.determined.specs.Determined.{OneResult, OneOutcome}
+use Rattle.determined.proofs.Laws.{agree, agree-answer}
+use Rattle.amount.proofs.write.Reads as write
+use Rattle.amount.proofs.read.Reads as read
+use Rattle.amount.proofs.decimal.put_digits.Reads as put-digits
+use Rattle.share.proofs.shares.Reads as shares
+use Rattle.posting.proofs.deviations.put_deviations.Reads as put-deviations
+use Rattle.posting.proofs.shares.put_shares.Reads as put-shares
+use Rattle.posting.proofs.lines.put_charges.Reads as put-charges
+use Rattle.posting.proofs.lines.put_lines.Reads as put-lines
+use Rattle.settle.proofs.settle_figured.Reads as settle-figured
+use Rattle.settle.proofs.settle.Reads as settle
+use Rattle.pool.proofs.Port.settle.Reads as pool-settle
+use Rattle.report.proofs.statement.Reads as statement
+
+pub one-write : (κs : Lfts 1) → OneOutcome (write.Post κs) (λ s. now (s .1 .0))
+one-write κs a x y s t p q = (agree-answer (p .0) (q .0), agree (p .1) (q .1))
+
+pub one-read : (κs : Lfts 1) → OneResult (read.Post κs)
+one-read κs a x y s t p q = one-reading _ x y (record { verdict-is = p .0; amount-is = p .1 }) (record { verdict-is = q .0; amount-is = q .1 })
+
+pub one-put-digits : (κs : Lfts 1) → OneOutcome (put-digits.Post κs) (λ s. now (s .0))
+one-put-digits κs a x y s t p q = (refl, agree p q)
+
+pub one-shares : (κs : Lfts 2) → OneOutcome (shares.Post κs) (λ s. now (s .1 .1 .0))
+one-shares κs a x y s t p q = (refl, agree p q)
+
+pub one-put-deviations : (κs : Lfts 2) → OneOutcome (put-deviations.Post κs) (λ s. now (s .1 .0))
+one-put-deviations κs a x y s t p q = (refl, agree p q)
+
+pub one-put-shares : (κs : Lfts 2) → OneOutcome (put-shares.Post κs) (λ s. now (s .1 .1 .0))
+one-put-shares κs a x y s t p q = (refl, agree p q)
+
+pub one-put-charges : (κs : Lfts 2) → OneOutcome (put-charges.Post κs) (λ s. now (s .1 .0))
+one-put-charges κs a x y s t p q = (refl, agree p q)
+
+pub one-statement : (κs : Lfts 2) → OneOutcome (statement.Post κs) (λ s. now (s .1 .0))
+one-statement κs a x y s t p q = (agree (p .0) (q .0), agree (p .1) (q .1))
+
+pub one-put-lines : (κs : Lfts 5) → OneOutcome (put-lines.Post κs) (λ s. now (s .1 .1 .1 .0))
+one-put-lines κs a x y s t p q = (refl, agree (p .0) (q .0))
+
+pub one-put-counts : (κs : Lfts 5) → OneOutcome (put-lines.Post κs) (λ s. now (s .1 .1 .1 .1 .0))
+one-put-counts κs a x y s t p q = (refl, agree (p .1) (q .1))
+
+-- the five buffers of settling, as its contract names them
+pub one-settle-figured : (κs : Lfts 6) →
+    OneOutcome (settle-figured.Post κs) (λ s. lent (now (s .1 .1 .0)) (now (s .1 .1 .1 .0)) (now (s .1 .1 .1 .1 .0)) (now (s .1 .1 .1 .1 .1 .0)) (now (s .1 .1 .1 .1 .1 .1 .0)))
+one-settle-figured κs a x y s t p q = (agree-answer (p .verdict-is) (q .verdict-is), agree (p .buffers-are) (q .buffers-are))
+
+pub one-settle : (κs : Lfts 6) →
+    OneOutcome (settle.Post κs) (λ s. lent (now (s .1 .0)) (now (s .1 .1 .0)) (now (s .1 .1 .1 .0)) (now (s .1 .1 .1 .1 .0)) (now (s .1 .1 .1 .1 .1 .0)))
+one-settle κs a x y s t p q = (
+  ap₂ (λ (a : Answer) (u : List ℤ). record { answer = a; ufe = u }) (agree-answer (p .verdict-is) (q .verdict-is)) (agree (p .ufe-is) (q .ufe-is)),
+  agree (p .buffers-are) (q .buffers-are),
+)
+
+pub one-pool-settle : (κs : Lfts 5) → OneOutcome (pool-settle.Post κs) (λ s. buffers (now (s .1 .1 .0)) (now (s .1 .1 .1 .0)) (now (s .1 .1 .1 .1 .0)) (now (s .1 .0)))
+one-pool-settle κs a x y s t p q = one-result _ _ x y _ _ p q

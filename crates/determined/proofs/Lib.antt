@@ -1,0 +1,5 @@
+-- For each public function, crate by crate: no second result fits its contract.
+pub mod Laws
+pub mod Values
+pub mod Files
+pub mod Filled

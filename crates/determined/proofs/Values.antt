@@ -1,0 +1,105 @@
+-- Functions of values: numbers, kinds, entries, tallies, lines.
+use mathlib.Core.Path.{_≡_}
+use contract.Lifetimes.{Lfts}
+use Rattle.determined.specs.Determined.{OneResult}
+use Rattle.determined.proofs.Laws.{agree}
+use Rattle.sign.proofs.size_of.Reads as size-of
+use Rattle.sign.proofs.with_sign_of.Reads as with-sign-of
+use Rattle.answer.proofs.number_of.Reads as number-of
+use Rattle.answer.proofs.place_of.Reads as place-of
+use Rattle.amount.proofs.decimal.digit.Reads as digit
+use Rattle.amount.proofs.decimal.digits.Reads as digits
+use Rattle.wordrules.proofs.keeps.Reads as keeps
+use Rattle.wordrules.proofs.block_rule.Reads as block-rule
+use Rattle.wordrules.proofs.head_rule.Reads as head-rule
+use Rattle.wordrules.proofs.record_keeps.Reads as record-keeps
+use Rattle.formula.proofs.entry.kind_of.Reads as kind-of
+use Rattle.formula.proofs.entry.is_load.Reads as is-load
+use Rattle.formula.proofs.deviation.generator_deviation.Reads as generator-deviation
+use Rattle.formula.proofs.deviation.load_deviation.Reads as load-deviation
+use Rattle.formula.proofs.deviation.import_deviation.Reads as import-deviation
+use Rattle.formula.proofs.deviation.export_deviation.Reads as export-deviation
+use Rattle.formula.proofs.deviation.deviation.Reads as deviation
+use Rattle.formula.proofs.deviation.entering.Reads as entering
+use Rattle.formula.proofs.deviation.accounted.Reads as accounted
+use Rattle.formula.proofs.posting.empty_tally.Reads as empty-tally
+use Rattle.formula.proofs.posting.tallied.Reads as tallied
+use Rattle.formula.proofs.posting.empty_line.Reads as empty-line
+use Rattle.formula.proofs.posting.line_with.Reads as line-with
+use Rattle.formula.proofs.cents.cents.Reads as cents
+use Rattle.hourfile.proofs.signed.Reads as signed
+
+pub one-size-of : (κs : Lfts 0) → OneResult (size-of.Post κs)
+one-size-of κs a x y s t = agree
+
+pub one-with-sign-of : (κs : Lfts 0) → OneResult (with-sign-of.Post κs)
+one-with-sign-of κs a x y s t = agree
+
+pub one-number-of : (κs : Lfts 0) → OneResult (number-of.Post κs)
+one-number-of κs a x y s t = agree
+
+pub one-place-of : (κs : Lfts 0) → OneResult (place-of.Post κs)
+one-place-of κs a x y s t = agree
+
+pub one-digit : (κs : Lfts 0) → OneResult (digit.Post κs)
+one-digit κs a x y s t = agree
+
+pub one-digits : (κs : Lfts 0) → OneResult (digits.Post κs)
+one-digits κs a x y s t = agree
+
+pub one-keeps : (κs : Lfts 0) → OneResult (keeps.Post κs)
+one-keeps κs a x y s t = agree
+
+pub one-block-rule : (κs : Lfts 0) → OneResult (block-rule.Post κs)
+one-block-rule κs a x y s t = agree
+
+pub one-head-rule : (κs : Lfts 0) → OneResult (head-rule.Post κs)
+one-head-rule κs a x y s t = agree
+
+pub one-record-keeps : (κs : Lfts 0) → OneResult (record-keeps.Post κs)
+one-record-keeps κs a x y s t = agree
+
+pub one-kind-of : (κs : Lfts 0) → OneResult (kind-of.Post κs)
+one-kind-of κs a x y s t = agree
+
+pub one-is-load : (κs : Lfts 0) → OneResult (is-load.Post κs)
+one-is-load κs a x y s t = agree
+
+pub one-generator-deviation : (κs : Lfts 0) → OneResult (generator-deviation.Post κs)
+one-generator-deviation κs a x y s t = agree
+
+pub one-load-deviation : (κs : Lfts 0) → OneResult (load-deviation.Post κs)
+one-load-deviation κs a x y s t = agree
+
+pub one-import-deviation : (κs : Lfts 0) → OneResult (import-deviation.Post κs)
+one-import-deviation κs a x y s t = agree
+
+pub one-export-deviation : (κs : Lfts 0) → OneResult (export-deviation.Post κs)
+one-export-deviation κs a x y s t = agree
+
+pub one-deviation : (κs : Lfts 0) → OneResult (deviation.Post κs)
+one-deviation κs a x y s t = agree
+
+pub one-entering : (κs : Lfts 0) → OneResult (entering.Post κs)
+one-entering κs a x y s t = agree
+
+pub one-accounted : (κs : Lfts 0) → OneResult (accounted.Post κs)
+one-accounted κs a x y s t = agree
+
+pub one-empty-tally : (κs : Lfts 0) → OneResult (empty-tally.Post κs)
+one-empty-tally κs a x y s t = agree
+
+pub one-tallied : (κs : Lfts 0) → OneResult (tallied.Post κs)
+one-tallied κs a x y s t = agree
+
+pub one-empty-line : (κs : Lfts 0) → OneResult (empty-line.Post κs)
+one-empty-line κs a x y s t = agree
+
+pub one-line-with : (κs : Lfts 0) → OneResult (line-with.Post κs)
+one-line-with κs a x y s t = agree
+
+pub one-cents : (κs : Lfts 0) → OneResult (cents.Post κs)
+one-cents κs a x y s t = agree
+
+pub one-signed : (κs : Lfts 0) → OneResult (signed.Post κs)
+one-signed κs a x y s t = agree

@@ -1,0 +1,16 @@
+-- When a promise leaves no second result. A promise is a function's contract as its callers read it: a claim about the arguments, the
+-- result and what the arguments are at exit.
+use mathlib.Core.Path.{_≡_}
+
+module _ {A X S : Type 0} (promise : A → X → S → Type 0) where
+  -- two results that keep the promise are the same
+  abbrev pub OneResult : Type 0
+  OneResult = (a : A) (x y : X) (s t : S) → promise a x s → promise a y t → x ≡ y
+
+  -- and so is what they leave in a buffer
+  abbrev pub OneOutcome : {B : Type 0} → (S → B) → Type 0
+  OneOutcome buffer = (a : A) (x y : X) (s t : S) → promise a x s → promise a y t → (x ≡ y) × (buffer s ≡ buffer t)
+
+  -- of a result that is a part of what was lent: what the part holds
+  abbrev pub OnePart : {B : Type 0} → (X → B) → Type 0
+  OnePart holds = (a : A) (x y : X) (s t : S) → promise a x s → promise a y t → holds x ≡ holds y
