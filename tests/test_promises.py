@@ -1,0 +1,71 @@
+"""That docs/PROMISES.md and the crate `determined` are whole: every public function stands in both, and the must-fail edits named are
+those that exist. Run from the project's root:   python3 -m unittest tests/test_promises.py"""
+
+import re
+import unittest
+from pathlib import Path
+
+ROOT = Path(__file__).resolve().parent.parent
+CRATES = ROOT / "crates"
+PROMISES = (ROOT / "docs" / "PROMISES.md").read_text()
+
+# Crates whose functions are no promise to anybody: laws only (a crate must hold a function), and what test programs print with.
+WITHOUT_PROMISES = {"whole", "rules", "determined", "showing"}
+
+
+def public_modules(lib):
+    return {name for name in re.findall(r"^pub mod (\w+);", lib, re.M)}
+
+
+def public_functions():
+    """(crate, module or '', function) for every function that another crate can call."""
+    found = []
+    for lib in sorted(CRATES.glob("*/src/lib.rt")):
+        crate = lib.parent.parent.name
+        if crate in WITHOUT_PROMISES:
+            continue
+        open_modules = public_modules(lib.read_text())
+        for source in sorted(lib.parent.glob("*.rt")):
+            module = "" if source == lib else source.stem
+            if module and module not in open_modules:
+                continue
+            for name in re.findall(r'^(?:#\[no_mangle\]\s*)?pub (?:extern "C" )?fn (\w+)', source.read_text(), re.M):
+                found.append((crate, module, name))
+    return found
+
+
+class Promises(unittest.TestCase):
+    def test_functions_are_seen(self):
+        self.assertGreater(len(public_functions()), 50)
+
+    def test_every_public_function_has_its_row(self):
+        sections = dict(re.findall(r"^## (.*?)\n(.*?)(?=^## |\Z)", PROMISES, re.M | re.S))
+        for crate, module, name in public_functions():
+            with self.subTest(crate=crate, function=name):
+                rows = "".join(text for title, text in sections.items() if f"`{crate}`" in title)
+                self.assertRegex(rows, rf"(?m)^\| .*\b{name}`")
+
+    def test_every_public_function_is_determined(self):
+        laws = "".join(path.read_text() for path in (CRATES / "determined" / "proofs").glob("*.antt"))
+        for crate, module, name in public_functions():
+            with self.subTest(crate=crate, function=name):
+                path = ".".join(part for part in (module, name) if part)
+                alias = re.search(rf"^use Rattle\.{crate}\.proofs\.(?:Port\.)?{re.escape(path)}\.Reads as (\S+)$", laws, re.M)
+                self.assertIsNotNone(alias)
+                self.assertRegex(laws, rf"(?m)^pub one-\S+ :(?:.|\n    )*\({re.escape(alias.group(1))}\.Post ")
+
+    def test_every_edit_is_named(self):
+        for edit in sorted(CRATES.glob("*/must-fail/*.edit")):
+            with self.subTest(edit=str(edit.relative_to(ROOT))):
+                self.assertIn(f"`{edit.stem}`", PROMISES)
+
+    def test_every_edit_named_exists(self):
+        tables = [line.split("|")[-2] for line in PROMISES.splitlines() if line.startswith("| ")]
+        edits = {edit.stem for edit in CRATES.glob("*/must-fail/*.edit")}
+        for name in re.findall(r"`(\w+)`", "".join(tables)):
+            with self.subTest(edit=name):
+                self.assertIn(name, edits)
+
+
+if __name__ == "__main__":
+    unittest.main()
