@@ -6,7 +6,8 @@ ghost use lib.ListN.{length};
 use libc::STDOUT_FILENO;
 use rules::Settled;
 
-fn print_signed(number: i64) {
+// A number whole, with its minus; the program `figures` prints its numbers with it too.
+pub fn print_signed(number: i64) {
     if number < 0 {
         io::write_all(STDOUT_FILENO, b"-");
     }

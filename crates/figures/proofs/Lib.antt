@@ -1,0 +1,2 @@
+-- The laws behind the proofs of `figures`.
+pub mod Shown

@@ -1,0 +1,2 @@
+-- What the contracts of `figures` cite.
+pub mod Small

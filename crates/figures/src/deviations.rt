@@ -1,0 +1,91 @@
+// Deviations: the figures of document 01, and what N changes for a generator and an import.
+ghost use Rattle.rules.specs.Kept.{EntryKept};
+use formula::deviation::deviation;
+use formula::entry::Entry;
+use libc::STDOUT_FILENO;
+use rules::Kind;
+
+fn print_kind(kind: Kind) {
+    match kind {
+        Kind::Generator => io::write_all(STDOUT_FILENO, b"generator"),
+        Kind::RealTimeLoad => io::write_all(STDOUT_FILENO, b"load"),
+        Kind::ProfileLoad => io::write_all(STDOUT_FILENO, b"profile load"),
+        Kind::Import => io::write_all(STDOUT_FILENO, b"import"),
+        Kind::Export => io::write_all(STDOUT_FILENO, b"export"),
+        Kind::Unknown => io::write_all(STDOUT_FILENO, b"unknown"),
+    }
+    ;
+}
+
+// A letter and its number; a number that is 0 is left out, as document 01 does.
+fn print_letter(letter: &[u8], number: i64) {
+    if number != 0 {
+        io::write_all(STDOUT_FILENO, letter);
+        showing::print_signed(number);
+    }
+}
+
+// A record's kind, its numbers in the order of the hour file, and its deviation.
+fn show(kind: Kind, s: i64, a: i64, j: i64, n: i64, o: i64, m: i64, f: i64, h: i64)
+    requires { ⌜ EntryKept (record { kind = kind; S = s; A = a; J = j; N = n; O = o; M = m; F = f; H = h }) ⌝ }
+{
+    print_kind(kind);
+    print_letter(b" S ", s);
+    print_letter(b" A ", a);
+    print_letter(b" J ", j);
+    print_letter(b" N ", n);
+    print_letter(b" O ", o);
+    print_letter(b" M ", m);
+    print_letter(b" F ", f);
+    print_letter(b" H ", h);
+    io::write_all(STDOUT_FILENO, b": ");
+    showing::print_signed(deviation(Entry {
+        kind: kind,
+        s: s,
+        a: a,
+        j: j,
+        n: n,
+        o: o,
+        m: m,
+        f: f,
+        h: h,
+    }));
+    io::write_all(STDOUT_FILENO, b"\n");
+}
+
+// With N 30 the deviation is 10,000×N more, not H×N more. N 40 leaves some energy unavailable, N 150 none.
+pub fn show_generators() {
+    // S, A, J, N, O, M, F, H
+    show(Kind::Generator, 1000, 900, 0, 0, 0, 2000, 9800, 9800);
+    show(Kind::Generator, 1000, 900, 0, 30, 0, 2000, 9800, 9800);
+    show(Kind::Generator, 1000, 900, 50, 30, 0, 2000, 9800, 9800);
+    show(Kind::Generator, 1000, 1100, 0, 0, 0, 2000, 9800, 9800);
+    show(Kind::Generator, 1000, 1000, 0, 0, 600, 1500, 10000, 10000);
+    show(Kind::Generator, 1000, 1000, 0, 0, 500, 1500, 10000, 10000);
+    show(Kind::Generator, 1000, 1000, 0, 40, 600, 1500, 10000, 10000);
+    show(Kind::Generator, 1000, 1000, 0, 150, 600, 1500, 10000, 10000);
+}
+
+// O 400 is below A: nothing is unavailable.
+pub fn show_loads() {
+    show(Kind::RealTimeLoad, 500, 450, 0, 0, 0, 0, 0, 0);
+    show(Kind::RealTimeLoad, 500, 450, 0, 30, 500, 0, 0, 0);
+    show(Kind::RealTimeLoad, 500, 450, 0, 30, 0, 0, 0, 0);
+    show(Kind::RealTimeLoad, 500, 450, 0, 0, 500, 0, 0, 0);
+    show(Kind::RealTimeLoad, 500, 450, 0, 0, 400, 0, 0, 0);
+    show(Kind::ProfileLoad, 500, 450, -20, 0, 0, 0, 0, 0);
+}
+
+// With N 20 the deviation is 10,000×N more, not H×N more.
+pub fn show_imports() {
+    show(Kind::Import, 300, 300, 0, 0, 0, 0, 10000, 9000);
+    show(Kind::Import, 300, 300, 50, 0, 0, 0, 10000, 9000);
+    show(Kind::Import, 300, 300, 50, 20, 0, 0, 10000, 9000);
+    show(Kind::Import, 300, 300, -50, 0, 0, 0, 10000, 9000);
+}
+
+pub fn show_exports() {
+    show(Kind::Export, 200, 180, 0, 0, 0, 0, 0, 0);
+    show(Kind::Export, 200, 180, 30, 0, 0, 0, 0, 0);
+    show(Kind::Export, 200, 180, -30, 0, 0, 0, 0, 0);
+}

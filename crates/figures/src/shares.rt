@@ -1,0 +1,57 @@
+// Shares of a number over demands: whole parts, then a unit each to the largest remainders, on equal ones to the earlier.
+ghost use mathlib.Core.Path.{_≡_};
+ghost use Prim.Native.Nat.{ℕ, _≤_, _<_};
+ghost use lib.IntN.{natAbs};
+ghost use lib.ListN.{length, getD};
+ghost use Rattle.figures.specs.Small.{Small};
+use libc::STDOUT_FILENO;
+
+// Sizes, each with the sign of `u`.
+fn print_sizes(u: i64, sizes: &[u64])
+    requires { ⌜ ((i : ℕ) → i < length (now sizes) → getD (now sizes) i 0 < 9223372036854775808) ⌝ }
+{
+    let mut i = 0;
+    while i < sizes.len() {
+        io::write_all(STDOUT_FILENO, b" ");
+        showing::print_signed(sign::with_sign_of(u, sizes[i]));
+        i += 1;
+    }
+}
+
+// `sizes` has a place for each demand.
+fn show_into(u: i64, demands: &[u64], sizes: &mut [u64])
+    requires { ⌜ Small (now demands) × (length (now demands) ≤ 3) × (natAbs u ≤ 1000) × (length (now sizes) ≡ length (now demands)) ⌝ }
+{
+    io::write_all(STDOUT_FILENO, b"U ");
+    showing::print_signed(u);
+    io::write_all(STDOUT_FILENO, b" over D");
+    print_sizes(0, demands);
+    share::shares(demands, sign::size_of(u), sizes);
+    io::write_all(STDOUT_FILENO, b":");
+    print_sizes(u, sizes);
+    io::write_all(STDOUT_FILENO, b"\n");
+}
+
+// This function only makes the room.
+fn show(u: i64, demands: &[u64])
+    requires { ⌜ Small (now demands) × (length (now demands) ≤ 3) × (natAbs u ≤ 1000) ⌝ }
+{
+    let n = demands.len();
+    let mut sizes = [0u64; 3];
+    show_into(u, demands, &mut sizes[..n]);
+}
+
+// U 5 over D 2, 1: the second has the larger remainder. U 2 over D 3, 1 and over D 1, 3: equal remainders, the first has the unit.
+pub fn show_shares() {
+    show(10, &[1, 1, 1]);
+    show(-10, &[1, 1, 1]);
+    show(11, &[1, 1, 1]);
+    show(1, &[1, 1, 1]);
+    show(5, &[2, 1]);
+    show(-5, &[2, 1]);
+    show(2, &[3, 1]);
+    show(2, &[1, 3]);
+    show(-2, &[1, 3]);
+    show(7, &[0, 5]);
+    show(0, &[0, 0]);
+}
