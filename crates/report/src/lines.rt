@@ -5,9 +5,9 @@ ghost use lib.ListN.{length, replicate};
 ghost use Rattle.rules.specs.Record.{members};
 ghost use Rattle.rules.specs.Refusals.{verdictOf};
 ghost use Rattle.rules.specs.Settling.{write};
-ghost use Rattle.rules.specs.Statement.{firstLine, memberLines, refusedLine};
+ghost use Rattle.rules.specs.Statement.{firstLine, refusedLine};
 ghost use Rattle.posting.specs.Hour.{hourIn};
-ghost use Rattle.report.specs.Lines.{Charged, chargeLine};
+ghost use Rattle.report.specs.Lines.{Charged, chargeLine, membersPart};
 ghost use Rattle.report.specs.Put.{Put};
 use crate::text::put_bytes;
 use crate::text::put_count;
@@ -52,7 +52,7 @@ fn put_member(out: &mut [u8], at: usize, member: usize, cents: i64) -> usize
 // A line a member, in order.
 pub fn put_members(file: &[u8], charges: &[i64], out: &mut [u8], at: usize) -> usize
     requires { ⌜ Charged (now file) (now charges) × (at + 18 * members (hourIn (now file)) ≤ length (now out)) ⌝ }
-    ensures { λ r. ⌜ Put (now (out .entry)) at (memberLines (hourIn (now (file .entry))) (members (hourIn (now (file .entry))))) r (now (out .exit)) ⌝ }
+    ensures { λ r. ⌜ Put (now (out .entry)) at (membersPart (now (file .entry))) r (now (out .exit)) ⌝ }
 {
     let members = posting::hour::members(file);
     let mut place = at;

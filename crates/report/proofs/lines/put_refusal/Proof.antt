@@ -40,7 +40,7 @@ returns c =
     let q = b .before .before .before .before .before in
     let p = q .before .before .before .before .before in
     let known = p .before .before .before in
-    rw (known .before .number-of .ensures, known .place-of .ensures) at
+    rw (← known .before .number-of .ensures, ← known .place-of .ensures)
     (put-on (put-count-on (bytes " at ") _ (p .put-count .ensures .0) (q .put-count2 .ensures .0)) (b .put-bytes .ensures))
 
 pub put-refusal-spec : {M : Type 1} → statement M
