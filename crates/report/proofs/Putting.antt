@@ -25,6 +25,10 @@ put-on {o} {p} {q} {xs} {ys} {at} f g = record {
 pub put-as : {o p xs ys : List ℕ} {at next : ℕ} → xs ≡ ys → Put o at xs next p → Put o at ys next p
 put-as {o} {p} {xs} {ys} {at} {next} e f = subst (λ (t : List ℕ). Put o at t next p) e f
 
+-- words with their number, after text
+pub put-count-on : (words digits : List ℕ) {o p q xs : List ℕ} {at next last : ℕ} → Put o at xs next p → Put p next (words ++ digits) last q → Put o at (xs ++ words ++ digits) last q
+put-count-on words digits {xs = xs} f g = put-as (sym (append-assoc xs words digits)) (put-on f g)
+
 -- a lent part that comes back with other bytes
 pub part-put : (o ys : List ℕ) (at end : ℕ) → at ≤ end → end ≤ length o → length ys ≡ end - at → Put o at ys end (putMid at (end - at) o ys)
 part-put o ys at end l m e =

@@ -1,6 +1,6 @@
 -- What settling's promise says to the statement, where every buffer has room for every hour.
 use mathlib.Core.Path.{_≡_, sym, _∙_, ap}
-use mathlib.Core.List.{List, _++_}
+use mathlib.Core.List.{List}
 use Prim.Native.Nat.{ℕ, _≤_}
 use native.Mathlib.Omega.{arith}
 use lib.IntN.{pos}
@@ -13,11 +13,11 @@ use Rattle.rules.specs.declared.Settled.{Settled}
 use Rattle.rules.specs.Record.{members}
 use Rattle.rules.specs.Charge.{charge}
 use Rattle.rules.specs.Refusals.{accepted, verdictOf, verdict, hourRows}
-use Rattle.rules.specs.Statement.{firstLine, memberLines, refusedLine, statement}
+use Rattle.rules.specs.Statement.{refusedLine, statement}
 use Rattle.posting.specs.Hour.{hourIn}
 use Rattle.settle.specs.Parallel.{Lent, lentRow, parallelRows, filledLent, settleParallel, FitsParallel}
 use Rattle.settle.proofs.Answered.{numbered, parallel-verdict}
-use Rattle.report.specs.Lines.{Charged}
+use Rattle.report.specs.Lines.{Charged, acceptedLines}
 use Rattle.report.specs.Stated.{Rooms}
 use Rattle.rules.proofs.Stated.{accepted-kept, room-for-all, statement-accepted, statement-refused}
 
@@ -36,7 +36,7 @@ module _ {s : List ℕ} {b after : Lent} {r : Settled} {out : List ℕ}
     all-whole : verdict (hourRows s) ≡ accepted
     all-whole = sym same-verdict ∙ ap verdictOf answered
 
-    pub accepted-statement : firstLine (hourIn s) ++ memberLines (hourIn s) (members (hourIn s)) ≡ statement s
+    pub accepted-statement : acceptedLines s ≡ statement s
     accepted-statement = sym (statement-accepted s all-whole)
 
     charges-filled : after .charges ≡ replacingFirst (charge (hourIn s)) (members (hourIn s)) (b .charges)

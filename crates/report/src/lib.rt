@@ -1,13 +1,10 @@
 // The printed statement of an hour file (document 01, "The printed statement"), as bytes in the caller's slice: of every byte string, and
 // whole or not at all.
-ghost use mathlib.Core.List.{_++_};
 ghost use mathlib.Core.Path.{_≡_};
 ghost use Prim.Native.Nat.{_≤_};
 ghost use lib.ListN.{length};
-ghost use Rattle.rules.specs.Record.{members};
 ghost use Rattle.rules.specs.Statement as Statement;
-ghost use Rattle.posting.specs.Hour.{hourIn};
-ghost use Rattle.report.specs.Lines.{Charged};
+ghost use Rattle.report.specs.Lines.{Charged, acceptedLines};
 ghost use Rattle.report.specs.Put.{Put};
 ghost use Rattle.report.specs.Stated.{Rooms, stated};
 use rules::Answer;
@@ -15,18 +12,19 @@ use rules::Answer;
 mod lines;
 mod text;
 
-// The most bytes that a statement has: 39 for line 1, and 18 for each of 32 members.
+// The most bytes that the statement of any byte string has: 39 for line 1, and 18 for each of 32 members (`statement-fits` of `rules`).
 pub const LONGEST: usize = 615;
 
+// Line 1 and a line for each member.
 fn put_accepted(file: &[u8], charges: &[i64], out: &mut [u8]) -> usize
     requires { ⌜ Charged (now file) (now charges) × (615 ≤ length (now out)) ⌝ }
-    ensures { λ r. ⌜ Put (now (out .entry)) 0 (Statement.firstLine (hourIn (now (file .entry))) ++ Statement.memberLines (hourIn (now (file .entry))) (members (hourIn (now (file .entry))))) r (now (out .exit)) ⌝ }
+    ensures { λ r. ⌜ Put (now (out .entry)) 0 (acceptedLines (now (file .entry))) r (now (out .exit)) ⌝ }
 {
     let after_first = lines::put_first_line(file, out);
     lines::put_members(file, charges, out, after_first)
 }
 
-// The statement of what settling answers, which works in the rooms lent.
+// Settles the file in the buffers lent, which have room for every hour, and puts the statement of what came out.
 fn put_statement(
     file: &[u8],
     charges: &mut [i64],
@@ -48,7 +46,7 @@ fn put_statement(
 }
 
 // Puts the statement of a file at the start of `out`, and hands back how many bytes it has. Where `out` is shorter than the longest
-// statement nothing is put, and the answer is 0. This function only makes room for settling.
+// statement nothing is put, and the answer is 0.
 pub fn statement(file: &[u8], out: &mut [u8]) -> usize
     ensures count { λ r. ⌜ r ≡ stated (now (file .entry)) (now (out .entry)) .count ⌝ }
     ensures out { λ r. ⌜ now (out .exit) ≡ stated (now (file .entry)) (now (out .entry)) .out ⌝ }

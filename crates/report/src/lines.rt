@@ -5,32 +5,25 @@ ghost use lib.ListN.{length, replicate};
 ghost use Rattle.rules.specs.Record.{members};
 ghost use Rattle.rules.specs.Refusals.{verdictOf};
 ghost use Rattle.rules.specs.Settling.{write};
-ghost use Rattle.rules.specs.Statement.{firstLine, memberLines, refusedLine};
+ghost use Rattle.rules.specs.Statement.{firstLine, refusedLine};
 ghost use Rattle.posting.specs.Hour.{hourIn};
-ghost use Rattle.report.specs.Lines.{Charged, chargeLine};
+ghost use Rattle.report.specs.Lines.{Charged, chargeLine, membersPart};
 ghost use Rattle.report.specs.Put.{Put};
 use crate::text::put_bytes;
 use crate::text::put_count;
 use rules::Answer;
 
-// Line 1: the hour's number, the counts of members and of records, each as the file has it. There is room for twenty digits of each.
+// Line 1: the hour's number, the counts of members and of records, each as the file has it.
 pub fn put_first_line(file: &[u8], out: &mut [u8]) -> usize
     requires { ⌜ 84 ≤ length (now out) ⌝ }
     ensures { λ r. ⌜ Put (now (out .entry)) 0 (firstLine (hourIn (now (file .entry)))) r (now (out .exit)) ⌝ }
 {
-    let after_hour = put_count(out, 0, b"hour ", hourfile::head_word(file, 8) as u64);
-    let after_members = put_count(
-        out,
-        after_hour,
-        b" members ",
-        posting::hour::members(file) as u64,
-    );
-    let after_records = put_count(
-        out,
-        after_members,
-        b" records ",
-        hourfile::records(file) as u64,
-    );
+    let hour = hourfile::head_word(file, 8) as u64;
+    let members = posting::hour::members(file) as u64;
+    let records = hourfile::records(file) as u64;
+    let after_hour = put_count(out, 0, b"hour ", hour);
+    let after_members = put_count(out, after_hour, b" members ", members);
+    let after_records = put_count(out, after_members, b" records ", records);
     put_bytes(out, after_records, b"\n")
 }
 
@@ -59,7 +52,7 @@ fn put_member(out: &mut [u8], at: usize, member: usize, cents: i64) -> usize
 // A line a member, in order.
 pub fn put_members(file: &[u8], charges: &[i64], out: &mut [u8], at: usize) -> usize
     requires { ⌜ Charged (now file) (now charges) × (at + 18 * members (hourIn (now file)) ≤ length (now out)) ⌝ }
-    ensures { λ r. ⌜ Put (now (out .entry)) at (memberLines (hourIn (now (file .entry))) (members (hourIn (now (file .entry))))) r (now (out .exit)) ⌝ }
+    ensures { λ r. ⌜ Put (now (out .entry)) at (membersPart (now (file .entry))) r (now (out .exit)) ⌝ }
 {
     let members = posting::hour::members(file);
     let mut place = at;
@@ -71,12 +64,14 @@ pub fn put_members(file: &[u8], charges: &[i64], out: &mut [u8], at: usize) -> u
     place
 }
 
-// A refusal's number and place, and nothing else. There is room for twenty digits of each.
+// A refusal's number and place, and nothing else.
 pub fn put_refusal(answer: Answer, out: &mut [u8]) -> usize
     requires { ⌜ 53 ≤ length (now out) ⌝ }
     ensures { λ r. ⌜ Put (now (out .entry)) 0 (refusedLine (verdictOf answer)) r (now (out .exit)) ⌝ }
 {
-    let after_number = put_count(out, 0, b"refused ", answer::number_of(answer));
-    let after_place = put_count(out, after_number, b" at ", answer::place_of(answer) as u64);
+    let number = answer::number_of(answer);
+    let place = answer::place_of(answer) as u64;
+    let after_number = put_count(out, 0, b"refused ", number);
+    let after_place = put_count(out, after_number, b" at ", place);
     put_bytes(out, after_place, b"\n")
 }

@@ -26,10 +26,11 @@ pub fn put_number(out: &mut [u8], at: usize, number: u64) -> usize
     end
 }
 
-// Words and the number that they announce.
+// Words and the number that they announce, where there is room for the twenty digits that no number of 64 bits exceeds.
 pub fn put_count(out: &mut [u8], at: usize, words: &[u8], number: u64) -> usize
-    requires { ⌜ at + length (now words ++ decimal number) ≤ length (now out) ⌝ }
-    ensures { λ r. ⌜ Put (now (out .entry)) at (now (words .entry) ++ decimal number) r (now (out .exit)) ⌝ }
+    requires { ⌜ at + length (now words) + 20 ≤ length (now out) ⌝ }
+    ensures text { λ r. ⌜ Put (now (out .entry)) at (now (words .entry) ++ decimal number) r (now (out .exit)) ⌝ }
+    ensures most { λ r. ⌜ r ≤ at + length (now (words .entry)) + 20 ⌝ }
 {
     let after = put_bytes(out, at, words);
     put_number(out, after, number)

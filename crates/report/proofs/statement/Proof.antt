@@ -13,7 +13,7 @@ use Rattle.report.proofs.statement.Tie as tie
 
 returns : tie.Need-returns
 unfolding stated
-returns c = let s = c .before .before .before in rw (lt-ltb (length (s .args .out .now)) 615 (c .if1 .taken)) (refl, refl)
+returns c = let s = c .before .before .before in rw (lt-ltb (length (s .args .out .now)) 615 (omega (arith, c .if1 .taken))) (refl, refl)
 
 slice-aggregate-put-statement : tie.Need-slice-aggregate-put-statement
 slice-aggregate-put-statement c = search needs

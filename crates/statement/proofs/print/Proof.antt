@@ -1,9 +1,7 @@
--- `statement::print` lends what was put of its text, and no more. Assumes nothing.
+-- `statement::print` lends what was put of its text, and no more.
 use mathlib.Core.Path.{sym}
 use borrow.Author.Needs.{needs}
 use lib.Seq.{length-take-le}
-use Prim.Native.Nat.{_≤_}
-use lib.ListN.{length}
 use Rattle.report.proofs.Promised.{count-within}
 use Rattle.statement.proofs.print.Statement.{statement}
 use Rattle.statement.proofs.print.Tie as tie

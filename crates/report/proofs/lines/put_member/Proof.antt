@@ -1,11 +1,11 @@
 -- `report::lines::put_member` meets its contract: two digits and a blank, the charge, a line feed, one after the other.
-use mathlib.Core.Path.{_≡_, _∙_}
+use mathlib.Core.Path.{_≡_, _∙_, ap}
 use mathlib.Core.List.{List, [], _∷_, _++_}
 use Prim.Native.Nat.{ℕ, _+_, _/_, _%_, _<_}
 use native.Mathlib.Numerals.{towards-suc}
 use native.Mathlib.Omega.{arith}
 use borrow.Author.Needs.{needs}
-use lib.IntN.{ℤ}
+use lib.IntN.{ℤ, natAbs}
 use lib.ListN.{length, set, replicate, length-set}
 use Rattle.whole.proofs.Machine.{read-back}
 use Rattle.rules.specs.Text.{digitByte, bytes}
@@ -30,7 +30,7 @@ line-by-parts m tens ones z l t o =
 charge-put : (c : tie.After-put-charge) → let s = c .before .before .before .before .before in
     Put (set (set (set (s .args .out .now) (s .args .at) (c .before .before .before .digit .result)) (s .args .at + 1) (c .before .before .digit2 .result)) (s .args .at + 2) 32)
     (s .args .at + 3) (write (replicate 14 32) (s .args .cents) .field) (c .put-charge .result) (c .put-charge .last .0)
-charge-put c = let s = c .before .before .before .before .before in rw (read-back (s .fits .cents)) at (c .put-charge .ensures)
+charge-put c = let s = c .before .before .before .before .before in rw (← read-back (s .fits .cents)) (c .put-charge .ensures)
 
 kept-length : (c : tie.After-put-charge) → length (c .put-charge .last .0) ≡ length (c .before .before .before .before .before .args .out .now)
 kept-length c = put-length (charge-put c) ∙ simp length-set
@@ -62,7 +62,7 @@ add-put-charge c = search needs
 put-charge-requires : tie.Need-put-charge-requires
 put-charge-requires c κs =
     let s = c .before .before .before .before in
-    (simp length-set (omega (arith, s .pre .0)), rw (read-back (s .fits .cents)) (s .pre .2))
+    (simp length-set (omega (arith, s .pre .0)), omega (arith, ap natAbs (read-back (s .fits .cents)), s .pre .2))
 
 slice-aggregate-put-bytes : tie.Need-slice-aggregate-put-bytes
 slice-aggregate-put-bytes c = search needs

@@ -1,26 +1,28 @@
 -- `report::text::put_count` meets its contract: the words, and the number's digits after them.
 use native.Mathlib.Omega.{arith}
-use lib.ListN.{length-append}
 use borrow.Author.Needs.{needs}
-use Rattle.rules.specs.Text.{decimal}
+use Rattle.rules.proofs.Digits.{decimal-at-most-20}
 use Rattle.report.proofs.Putting.{put-on}
 use Rattle.report.proofs.text.put_count.Statement.{statement}
 use Rattle.report.proofs.text.put_count.Tie as tie
 
 put-bytes-requires : tie.Need-put-bytes-requires
-put-bytes-requires c κs = let s = c .before .before .before in omega (arith, length-append (s .args .words .now) (decimal (s .args .number)), s .pre)
+put-bytes-requires c κs = search needs
 
 put-number-requires : tie.Need-put-number-requires
 put-number-requires c κs =
     let p = c .before .before .before in
     let s = p .before .before .before .before in
-    omega (arith, length-append (s .args .words .now) (decimal (s .args .number)), s .pre, p .put-bytes .ensures .next-is, p .put-bytes .kept .0)
+    omega (arith, decimal-at-most-20 (s .args .number), s .pre, p .put-bytes .ensures .next-is, p .put-bytes .kept .0)
 
 same-length : tie.Need-same-length
 same-length c = search needs
 
 returns : tie.Need-returns
-returns c = put-on (c .before .before .before .before .before .before .put-bytes .ensures) (c .before .before .put-number .ensures)
+returns c =
+    let p = c .before .before .before .before .before .before in
+    let n = c .before .before .put-number .ensures in
+    (put-on (p .put-bytes .ensures) n, omega (arith, p .put-bytes .ensures .next-is, n .next-is, decimal-at-most-20 (p .before .before .before .before .args .number)))
 
 pub put-count-spec : {M : Type 1} → statement M
 put-count-spec = tie.close (tie.spec put-bytes-requires put-number-requires same-length returns)

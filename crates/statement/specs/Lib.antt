@@ -1,0 +1,2 @@
+-- What the contracts of `statement` cite.
+pub mod Reading
