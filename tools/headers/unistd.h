@@ -1,0 +1,5 @@
+/* unistd.h: see stddef.h. */
+#pragma once
+#define _SC_PAGESIZE 30
+long sysconf(int);
+void _exit(int) __attribute__((noreturn));
