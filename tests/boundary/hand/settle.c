@@ -101,17 +101,16 @@ static void tally(const uint8_t *file, size_t areas, size_t records, figures *ou
 }
 
 /* The units left go one each to the largest remainder held, the earlier of equal ones, which is then spent. There are always more
-   remainders above 0 than units left. */
-static void hand_out(int64_t left, uint64_t *remainders, size_t loads, int64_t *sizes)
+   remainders above 0 than units left. The largest is found first and its place after: the first loop is then done four at a time. */
+static void hand_out(int64_t left, int32_t *remainders, size_t loads, int64_t *sizes)
 {
     for (; left > 0; left--) {
+        int32_t largest = 0;
+        for (size_t at = 0; at < loads; at++)
+            largest = remainders[at] > largest ? remainders[at] : largest;
         size_t best = 0;
-        uint64_t largest = remainders[0];
-        for (size_t at = 1; at < loads; at++)
-            if (remainders[at] > largest) {
-                largest = remainders[at];
-                best = at;
-            }
+        while (remainders[best] != largest)
+            best++;
         sizes[best]++;
         remainders[best] = 0;
     }
@@ -121,7 +120,7 @@ static void hand_out(int64_t left, uint64_t *remainders, size_t loads, int64_t *
 static void share(const uint8_t *file, size_t area, size_t records, figures *out)
 {
     size_t places[MOST_RECORDS], loads = 0;
-    uint64_t remainders[MOST_RECORDS];
+    int32_t remainders[MOST_RECORDS]; /* below the demand, which is at most 25,000,000 */
     int64_t sizes[MOST_RECORDS];
     uint64_t demand = (uint64_t)out->demand[area];
     int64_t size = out->ufe[area] < 0 ? -out->ufe[area] : out->ufe[area], left = size;
@@ -132,7 +131,7 @@ static void share(const uint8_t *file, size_t area, size_t records, figures *out
         uint64_t product = (uint64_t)word(record, ACTUAL) * (uint64_t)size;
         places[loads] = at;
         sizes[loads] = (int64_t)(product / demand);
-        remainders[loads] = product % demand;
+        remainders[loads] = (int32_t)(product % demand);
         left -= sizes[loads++];
     }
     hand_out(left, remainders, loads, sizes);
