@@ -88,7 +88,7 @@ SIGNATURES = {}
 def twin(crate, module, s, body_of):
     s = '\n'.join(l for l in s.splitlines() if not l.startswith('ghost use') and not (re.match(r'use (\w+)::', l) and re.match(r'use (\w+)::', l).group(1) not in SOURCES and not l.startswith('use crate'))) + '\n'
     for name, (home, size, _) in STRUCTS.items():
-        if home == crate: s = re.sub(rf'^(pub )?struct {name}\s*\{{.*?\n\}}\n', f'pub type {name} = [i16; {size // 2}];\n', s, flags=re.S | re.M)
+        if home == crate: s = re.sub(rf'^(#\[repr\(C\)\]\n)?(pub )?struct {name}\s*\{{.*?\n\}}\n', f'pub type {name} = [i16; {size // 2}];\n', s, flags=re.S | re.M)
     out, i = ['ghost use Prim.Native.Nat.{_≤_};\n'], 0
     for m in re.finditer(r'^ *(pub )?(extern "C" )?fn (\w+)', s, flags=re.M):
         if m.start() < i: continue
@@ -105,8 +105,8 @@ def twin(crate, module, s, body_of):
         i = close(s, b)
         name = (module + '/' if module else '') + m.group(3)
         if crate == CRATE: SIGNATURES[name] = signature
-        called = crate == CRATE or re.search(rf'\b{crate}::{name.replace("/", "::")}\(', MINE)
         result = re.search(r'->\s*(.*)$', signature, flags=re.S)
+        called = crate == CRATE or re.search(rf'\b{crate}::{name.replace("/", "::")}\(', MINE) and not (result and result.group(1).startswith('&'))
         stub = '{\n    ' + (value(result.group(1), crate) or '' if result else '') + '\n}'
         if called: out.append(signature + clauses + '\n' + (s[b:i] if (crate, name) == (CRATE, body_of) else stub))
     s = ''.join(out + [s[i:]])

@@ -1,3 +1,4 @@
 -- What the contracts of `pool` cite beside `rules` and `settle`.
 pub mod Apart
+pub mod HandedOut
 pub mod Demands

@@ -7,6 +7,7 @@ ghost use Rattle.whole.specs.Below.{replacingFirst};
 ghost use Rattle.rules.specs.Record as Record;
 ghost use Rattle.rules.specs.Posting as Posting;
 ghost use Rattle.rules.specs.Refusals.{accepted, verdict, fileRows};
+ghost use Rattle.rules.specs.Settling as Settling;
 ghost use Rattle.rules.specs.Settling.{noFigures};
 ghost use Rattle.rules.specs.Promises.{Fits};
 ghost use Rattle.rules.specs.Kept.{FileKept};
@@ -16,6 +17,10 @@ ghost use Rattle.posting.specs.Lined.{AllWorked};
 ghost use Rattle.posting.specs.Posted.{Tallied};
 ghost use Rattle.settle.specs.Parallel.{Figured};
 ghost use Rattle.pool.specs.Apart.{apart, buffers, FinishedApart, FitsApart};
+ghost use Rattle.pool.specs.HandedOut.{settlement};
+
+pub mod boundary;
+
 use rules::Answer;
 use rules::Found;
 use rules::Line;
@@ -176,4 +181,18 @@ pub fn settle(
     };
     put_lines(file, deviations, shares, lines);
     settled
+}
+
+// The same for programs in C: the answer goes out as its number and place.
+#[no_mangle]
+pub extern "C" fn sneupelaar_settle(
+    file: &[u8],
+    lines: &mut [Line],
+    charges: &mut [i64],
+    shares: &mut [i64],
+    deviations: &mut [i64],
+) -> boundary::NumberedSettled
+    ensures { λ r. ⌜ settlement r (buffers (now (charges .exit)) (now (shares .exit)) (now (deviations .exit)) (now (lines .exit))) ≡ Settling.settle (now (file .entry)) (buffers (now (charges .entry)) (now (shares .entry)) (now (deviations .entry)) (now (lines .entry))) ⌝ }
+{
+    boundary::numbered(settle(file, lines, charges, shares, deviations))
 }

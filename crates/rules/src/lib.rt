@@ -11,7 +11,8 @@ pub enum Kind {
     Unknown,
 }
 
-// A member's line: its exact amount in grains and its record count.
+// A member's line: its exact amount in grains and its record count. It is laid out as in C, for callers that lend lines from there.
+#[repr(C)]
 pub struct Line {
     pub amount: i64,
     pub records: u32,

@@ -1,0 +1,98 @@
+/* bench.c: what the bench counts.
+     bench FOLDER WHAT WHO ROUNDS   WHAT: worst, ordinary, refused (settles that hour of the folder once a round), write, read (1,000 amounts
+                                    a round); WHO: rattle (the archive) or hand. Prints a sum of what was answered: both have the same
+     bench FOLDER WHAT WHO stack    prints how many bytes of stack a round takes */
+#include <stdio.h>
+#include <stdlib.h>
+#include <string.h>
+
+#include "hand.h"
+#include "paint.h"
+
+enum { AMOUNTS = 1000, WIDTH = 14 };
+
+static uint8_t file[SNEUPELAAR_MOST_BYTES];
+static size_t file_length;
+static sneupelaar_line lines[SNEUPELAAR_MOST_MEMBERS];
+static int64_t charges[SNEUPELAAR_MOST_MEMBERS], shares[SNEUPELAAR_MOST_RECORDS], deviations[SNEUPELAAR_MOST_RECORDS];
+static int64_t cents[AMOUNTS];
+static uint8_t texts[AMOUNTS][WIDTH], field[WIDTH];
+static uint64_t sum;
+
+/* The whole range, every number of digits alike, both signs. Texts are made for reading only: writing is counted. */
+static void make_amounts(int with_texts)
+{
+    uint64_t state = 88172645463325252u, most = 1;
+    for (size_t at = 0; at < AMOUNTS; at++) {
+        most = at % 12 == 0 ? 10 : 10 * most;
+        state ^= state << 13;
+        state ^= state >> 7;
+        state ^= state << 17;
+        cents[at] = (int64_t)(state % most) * (at % 2 == 0 ? 1 : -1);
+        if (with_texts)
+            hand_write(cents[at], texts[at], WIDTH);
+    }
+}
+
+static void read_hour(const char *folder, const char *name)
+{
+    char path[4096];
+    snprintf(path, sizeof path, "%s/%s.hour", folder, name);
+    FILE *from = fopen(path, "rb");
+    if (from == NULL)
+        return;
+    file_length = fread(file, 1, sizeof file, from);
+    fclose(from);
+}
+
+/* Every function of the archive and its twin by hand is called from the same text. */
+#define ROUNDS_OF(who, settle, write, read)                                                                                       \
+    static void settle_##who(void)                                                                                                \
+    {                                                                                                                             \
+        sneupelaar_settled settled = settle(file, file_length, lines, SNEUPELAAR_MOST_MEMBERS, charges, SNEUPELAAR_MOST_MEMBERS, \
+            shares, SNEUPELAAR_MOST_RECORDS, deviations, SNEUPELAAR_MOST_RECORDS);                                                \
+        sum += 1000 * settled.number + settled.place + (uint64_t)(charges[0] + shares[49] + deviations[59] + lines[7].amount);   \
+    }                                                                                                                             \
+    static void write_##who(void)                                                                                                 \
+    {                                                                                                                             \
+        for (size_t at = 0; at < AMOUNTS; at++)                                                                                   \
+            sum += write(cents[at], field, WIDTH).number + field[at % WIDTH];                                                     \
+    }                                                                                                                             \
+    static void read_##who(void)                                                                                                  \
+    {                                                                                                                             \
+        for (size_t at = 0; at < AMOUNTS; at++)                                                                                   \
+            sum += (uint64_t)read(texts[at], WIDTH).amount;                                                                       \
+    }
+
+ROUNDS_OF(rattle, sneupelaar_settle, sneupelaar_write, sneupelaar_read)
+ROUNDS_OF(hand, hand_settle, hand_write, hand_read)
+
+typedef void round_of(void);
+
+static round_of *chosen(const char *what, int rattle)
+{
+    if (strcmp(what, "write") == 0)
+        return rattle ? write_rattle : write_hand;
+    if (strcmp(what, "read") == 0)
+        return rattle ? read_rattle : read_hand;
+    return rattle ? settle_rattle : settle_hand;
+}
+
+int main(int count, char **words)
+{
+    if (count != 5) {
+        fprintf(stderr, "bench FOLDER WHAT WHO ROUNDS|stack\n");
+        return 2;
+    }
+    make_amounts(strcmp(words[2], "read") == 0);
+    read_hour(words[1], words[2]);
+    round_of *round = chosen(words[2], strcmp(words[3], "rattle") == 0);
+    if (strcmp(words[4], "stack") == 0) {
+        printf("%lu\n", (unsigned long)stack_depth(round));
+        return 0;
+    }
+    for (unsigned long left = strtoul(words[4], NULL, 10); left > 0; left--)
+        round();
+    printf("%lu\n", (unsigned long)sum);
+    return 0;
+}

@@ -1,0 +1,81 @@
+-- The functions for C: an answer's number and place are its verdict; where a body stands in the file; and no second result fits.
+use Prim.Native.Nat.{ℕ, _+_, _*_, _≤_, _<_}
+use mathlib.Core.Path.{_≡_, refl, sym, _∙_, ap, ap₂}
+use mathlib.Core.Bool.{true, false, _||_}
+use mathlib.Core.List.{List}
+use native.Mathlib.Omega.{arith}
+use lib.IntN.{ℤ}
+use lib.ListN.{length, take, drop}
+use lib.Dec.{leb}
+use borrow.Author.Tests.{leb-true, leb-false}
+use Rattle.whole.proofs.Tests.{split}
+use Rattle.rules.specs.declared.Answer.{Answer}
+use Rattle.rules.specs.declared.Settled.{Settled}
+use Rattle.rules.specs.HourFile.{hourly, lengthBad, blocks, body}
+use Rattle.rules.specs.Promises.{Fits}
+use Rattle.rules.specs.Refusals.{Verdict, refusedAt, verdictOf, numberOf, placeOf}
+use Rattle.rules.specs.Settling.{Buffers, Settlement, Written, ReadAmount, settle, write, read}
+use Rattle.rules.proofs.Words.{body-length, body-empty-bad, body-empty-past}
+use Rattle.pool.specs.declared.boundary.NumberedAnswer.{NumberedAnswer}
+use Rattle.pool.specs.declared.boundary.NumberedReading.{NumberedReading}
+use Rattle.pool.specs.declared.boundary.NumberedSettled.{NumberedSettled}
+use Rattle.pool.specs.HandedOut.{settlement, written, readAmount, bodyPart}
+
+pub numbered-verdict : (a : Answer) {n p : ℕ} → n ≡ numberOf a → p ≡ placeOf a → refusedAt n p ≡ verdictOf a
+numbered-verdict a e f = ap₂ refusedAt e f
+
+-- what settling answered and left behind, by its number and place
+pub numbered-fits : (s : List ℕ) (b : Buffers) {r : Settled} {after : Buffers} {out : NumberedSettled} → Fits s b r after →
+    out ≡ record { number = numberOf (r .answer); place = placeOf (r .answer); ufe = r .ufe } → settlement out after ≡ settle s b
+numbered-fits s b {r} {after} {out} f e =
+    ap (λ (o : NumberedSettled). settlement o after) e
+    ∙ ap₂ (λ (v : Verdict) (u : List ℤ). record { verdict = v; ufe = u; buffers = after }) (f .verdict-is) (f .ufe-is)
+    ∙ ap (λ (x : Buffers). record { verdict = settle s b .verdict; ufe = settle s b .ufe; buffers = x }) (f .buffers-are)
+
+-- ---- where a body stands
+
+module _ (s : List ℕ) (b : ℕ) where
+  -- the bytes from there on, so many, are the body
+  pub part-is-body : take (bodyPart s b .length) (drop (bodyPart s b .from) s) ≡ body hourly s b
+  unfolding bodyPart body
+  part-is-body = split (lengthBad hourly s || leb (blocks s) b) (λ t. rw t) (λ f. rw f)
+
+  pub record Absent : Type 0 where
+    pub empty : length (body hourly s b) ≡ 0
+    pub part : bodyPart s b ≡ record { from = 0; length = 0 }
+
+  pub record There : Type 0 where
+    pub full : length (body hourly s b) ≡ 480
+    pub part : bodyPart s b ≡ record { from = 512 * b + 32; length = 480 }
+    pub before-end : b < blocks s
+
+  pub absent-or-there : {P : Type 0} → (Absent → P) → (There → P) → P
+  unfolding bodyPart
+  absent-or-there absent there = split (lengthBad hourly s)
+      (λ bad. absent (record { empty = ap length (body-empty-bad hourly s b bad); part = rw bad }))
+      (λ good. split (leb (blocks s) b)
+      (λ past. absent (record { empty = ap length (body-empty-past hourly s b (leb-true _ _ past)); part = rw (good, past) }))
+      (λ within. there (record { full = body-length hourly s b good (leb-false _ _ within); part = rw (good, within); before-end = leb-false _ _ within })))
+
+  pub none-there : {n : ℕ} → n ≡ length (body hourly s b) → n ≡ 0 → bodyPart s b ≡ record { from = 0; length = 0 }
+  none-there e z = absent-or-there (λ a. a .part) (λ t. absurd (omega (arith, e, z, t .full)))
+
+  pub one-there : {n : ℕ} → n ≡ length (body hourly s b) → (n ≡ 0 → ⊥) → (bodyPart s b ≡ record { from = 512 * b + 32; length = n }) × (b < blocks s)
+  one-there e some = absent-or-there (λ a. absurd (some (e ∙ a .empty))) (λ t. (t .part ∙ rw (sym (e ∙ t .full)), t .before-end))
+
+-- ---- no second result fits
+
+pub one-settling : (s : List ℕ) (b : Buffers) {r t : NumberedSettled} {after other : Buffers} → settlement r after ≡ settle s b → settlement t other ≡ settle s b → (r ≡ t) × (after ≡ other)
+one-settling s b f g = (
+  ap (λ (x : Settlement). record { number = x .verdict .number; place = x .verdict .place; ufe = x .ufe }) (f ∙ sym g),
+  ap (λ (x : Settlement). x .buffers) (f ∙ sym g),
+)
+
+pub one-writing : (field : List ℕ) (z : ℤ) {r t : NumberedAnswer} {after other : List ℕ} → written r after ≡ write field z → written t other ≡ write field z → (r ≡ t) × (after ≡ other)
+one-writing field z f g = (
+  ap (λ (x : Written). record { number = x .verdict .number; place = x .verdict .place }) (f ∙ sym g),
+  ap (λ (x : Written). x .field) (f ∙ sym g),
+)
+
+pub one-reading : (field : List ℕ) {r t : NumberedReading} → readAmount r ≡ read field → readAmount t ≡ read field → r ≡ t
+one-reading field f g = ap (λ (x : ReadAmount). record { number = x .verdict .number; place = x .verdict .place; amount = x .amount }) (f ∙ sym g)

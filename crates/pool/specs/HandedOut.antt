@@ -1,0 +1,25 @@
+-- What the functions for C hand out, as the results that `rules` defines: an answer is its number and place, a body is where it stands.
+use Prim.Native.Nat.{ℕ, _+_, _*_}
+use mathlib.Core.Bool.{cond, _||_}
+use mathlib.Core.List.{List}
+use lib.Dec.{leb}
+use Rattle.rules.specs.HourFile.{hourly, lengthBad, blocks}
+use Rattle.rules.specs.Refusals.{refusedAt}
+use Rattle.rules.specs.Settling.{Buffers, Settlement, Written, ReadAmount}
+use Rattle.pool.specs.declared.boundary.NumberedAnswer.{NumberedAnswer}
+use Rattle.pool.specs.declared.boundary.NumberedReading.{NumberedReading}
+use Rattle.pool.specs.declared.boundary.NumberedSettled.{NumberedSettled}
+use Rattle.pool.specs.declared.boundary.Part.{Part}
+
+abbrev pub settlement : NumberedSettled → Buffers → Settlement
+settlement r after = record { verdict = refusedAt (r .number) (r .place); ufe = r .ufe; buffers = after }
+
+abbrev pub written : NumberedAnswer → List ℕ → Written
+written r after = record { verdict = refusedAt (r .number) (r .place); field = after }
+
+abbrev pub readAmount : NumberedReading → ReadAmount
+readAmount r = record { verdict = refusedAt (r .number) (r .place); amount = r .amount }
+
+-- the 480 bytes after a block's first 32; where the file has no such body, no bytes from its start
+unfoldable pub bodyPart : List ℕ → ℕ → Part
+bodyPart s b = cond (lengthBad hourly s || leb (blocks s) b) (record { from = 0; length = 0 }) (record { from = 512 * b + 32; length = 480 })

@@ -1,0 +1,79 @@
+/* Settles an hour through the C library:   settle [FILE]   without a file's name it reads standard input.
+ *
+ * Prints the answer's number and place, then for an accepted hour a line for each member: its records, its exact amount in grains and its
+ * charge. Exits with 0 where the hour is accepted, 1 where it is refused, 2 where it can't be read or the result can't be printed. */
+#include <stdint.h>
+#include <stdio.h>
+
+#include "sneupelaar.h"
+
+enum { ACCEPTED = 0, REFUSED = 1, FAILED = 2 };
+
+/* One byte more than the longest hour, so that a longer file is seen to be too long. */
+#define ROOM (SNEUPELAAR_MOST_BYTES + 1)
+
+/* Returns 0 and says why where there is nothing to settle. */
+static int read_file(const char *name, uint8_t *file, size_t *length)
+{
+    FILE *from = name ? fopen(name, "rb") : stdin;
+    if (!from) {
+        perror(name);
+        return 0;
+    }
+    *length = fread(file, 1, ROOM, from);
+    int whole = !ferror(from);
+    if (!whole)
+        perror(name ? name : "standard input");
+    if (name)
+        fclose(from);
+    return whole;
+}
+
+/* The hour's members are word 9 of its first block, lowest byte first: the second word of that block's body. */
+static size_t members(const uint8_t *file, size_t length)
+{
+    sneupelaar_part head = sneupelaar_body(file, length, 0);
+    const uint8_t *word = file + head.from + 4;
+    return word[0] + ((size_t)word[1] << 8) + ((size_t)word[2] << 16) + ((size_t)word[3] << 24);
+}
+
+static void print_member(size_t member, sneupelaar_line line, int64_t charge)
+{
+    uint8_t field[14];
+    sneupelaar_answer written = sneupelaar_write(charge, field, sizeof field);
+    printf("member %zu records %u grains %lld charge ", member, (unsigned)line.records, (long long)line.amount);
+    if (written.number == 0)
+        printf("%.*s\n", (int)sizeof field, (const char *)field);
+    else
+        printf("refused %llu\n", (unsigned long long)written.number);
+}
+
+int main(int count, char **words)
+{
+    static uint8_t file[ROOM];
+    static sneupelaar_line lines[SNEUPELAAR_MOST_MEMBERS];
+    static int64_t charges[SNEUPELAAR_MOST_MEMBERS];
+    static int64_t shares[SNEUPELAAR_MOST_RECORDS], deviations[SNEUPELAAR_MOST_RECORDS];
+    size_t length;
+
+    if (count > 2) {
+        fprintf(stderr, "usage: settle [FILE]\n");
+        return FAILED;
+    }
+    if (!read_file(count == 2 ? words[1] : NULL, file, &length))
+        return FAILED;
+
+    sneupelaar_settled settled =
+        sneupelaar_settle(file, length, lines, SNEUPELAAR_MOST_MEMBERS, charges, SNEUPELAAR_MOST_MEMBERS, shares,
+                          SNEUPELAAR_MOST_RECORDS, deviations, SNEUPELAAR_MOST_RECORDS);
+
+    printf("answer %llu at %llu\n", (unsigned long long)settled.number, (unsigned long long)settled.place);
+    if (settled.number == 0)
+        for (size_t m = 0; m < members(file, length); m++)
+            print_member(m, lines[m], charges[m]);
+    if (fflush(stdout) != 0) {
+        perror("standard output");
+        return FAILED;
+    }
+    return settled.number == 0 ? ACCEPTED : REFUSED;
+}

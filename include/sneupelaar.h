@@ -1,0 +1,107 @@
+/* The settlement library for programs in C and C++: link target/staticlib/libpool.a, which `rt staticlib pool` proves and makes.
+ *
+ * Every function takes every input: any bytes, any numbers, any lengths. What it answers and what every buffer holds afterwards is proved
+ * in crates/pool for each of them. That rests on what a call lends:
+ *   - A pointer and its length lend so many bytes or elements, which are readable, writable where the pointer isn't const, and aligned as
+ *     C asks. With length 0 nothing is read or written, and the pointer may be null.
+ *   - Buffers that one call lends don't overlap, and nothing else writes them while it runs.
+ * Nothing is allocated, kept between calls, read or written but what is lent, so that calls with buffers of their own may run at once. No
+ * function calls back, prints or ends the program.
+ *
+ * x86-64 Linux, System V calling convention; size_t has 64 bits. */
+#ifndef SNEUPELAAR_H
+#define SNEUPELAAR_H
+
+#include <stddef.h>
+#include <stdint.h>
+
+#ifdef __cplusplus
+extern "C" {
+#endif
+
+/* No hour has more: buffers of these sizes are never too short. */
+#define SNEUPELAAR_MOST_BYTES 13312
+#define SNEUPELAAR_MOST_MEMBERS 32
+#define SNEUPELAAR_MOST_RECORDS 250
+#define SNEUPELAAR_AREAS 8
+
+/* An answer is a number and a place. Number 0 is acceptance, at place 0; any other is a refusal:
+ *
+ *   number  given by  what is wrong                                                            place
+ *        1  settle    the file's length: 0, no multiple of 512, or more than 13,312            0
+ *        2  settle    the 128 words of a block don't add up to 0 modulo 2^32                   the first such block
+ *        3  settle    words 0 to 6 of a block, or something after its last record              the first such block
+ *        4  settle    a word of the head is out of its range                                   the first such word, 9 to 127
+ *        5  settle    a record's kind, member, area or another word is out of its range        the first such record
+ *        6  settle    an area has unaccounted for energy (UFE) and no demand to share it over  the first such area
+ *        7  settle    a member's exact amount is beyond 4*10^18 grains                         the first such member
+ *        8  write     the amount is beyond 999,999,999,999 cents in size                       0
+ *        9  write     the field is shorter than the amount's text                              0
+ *       10  read      the field is not an amount's text                                        0
+ *       11  settle    a buffer is too short for the hour                                       0
+ *
+ * Settling looks for 1 to 7 in this order, each over the whole file, then for 11; writing for 8, then 9. The first found is answered.
+ * Blocks, words of the head's block, records, areas and members count from 0. docs/FORMAT.md has the file's and the text's form. */
+
+/* A member's line. 16 bytes: amount at 0, records at 8, then 4 that are padding. */
+typedef struct {
+    int64_t amount;   /* exact, in grains: 10,000,000 are a cent */
+    uint32_t records; /* how many records of the hour are the member's */
+} sneupelaar_line;
+
+/* 16 bytes: number at 0, place at 8. */
+typedef struct {
+    uint64_t number;
+    uint64_t place;
+} sneupelaar_answer;
+
+/* 80 bytes: number at 0, place at 8, ufe at 16. */
+typedef struct {
+    uint64_t number;
+    uint64_t place;
+    int64_t ufe[SNEUPELAAR_AREAS]; /* the UFE of each area, in 1/10,000 kWh */
+} sneupelaar_settled;
+
+/* 24 bytes: number at 0, place at 8, amount at 16. */
+typedef struct {
+    uint64_t number;
+    uint64_t place;
+    int64_t amount; /* in cents */
+} sneupelaar_reading;
+
+/* A part of a file. 16 bytes: from at 0, length at 8. */
+typedef struct {
+    size_t from; /* where its first byte stands in the file */
+    size_t length;
+} sneupelaar_part;
+
+/* Settles an hour file. Lengths are in elements.
+ *
+ * Accepted: for each member m of the hour, charges[m] is its charge in cents and lines[m] its exact amount and record count; for each
+ * record i, shares[i] is its share of its area's UFE, 0 where it is no load, and deviations[i] its deviation, both in 1/10,000 kWh; ufe
+ * has a figure for each area of the hour and 0 past them. What the buffers held there isn't read, and every element past the hour's
+ * members or records is unchanged. A line's padding may change.
+ *
+ * Refused (1 to 7, 11): every buffer is unchanged, and ufe is all 0. 11 is answered where charges or lines are fewer than the hour's
+ * members, or shares or deviations fewer than its records. */
+sneupelaar_settled sneupelaar_settle(const uint8_t *file, size_t file_length, sneupelaar_line *lines, size_t lines_length,
+                                     int64_t *charges, size_t charges_length, int64_t *shares, size_t shares_length,
+                                     int64_t *deviations, size_t deviations_length);
+
+/* Writes an amount of cents into the whole field: blanks, the sign, dollars, a point and two digits, to the right. No byte is added.
+ * Refused (8, 9): the field is unchanged. 14 bytes are wide enough for any amount that isn't refused by 8. */
+sneupelaar_answer sneupelaar_write(int64_t cents, uint8_t *field, size_t width);
+
+/* Reads the amount that fills the whole field, in the form in which it is written: each field that is read is written again as the same
+ * bytes. Refused (10): amount is 0. */
+sneupelaar_reading sneupelaar_read(const uint8_t *field, size_t width);
+
+/* The block reader: which bytes of the file are the body of a block, 480 of them after the block's first 32. Where the file's length is
+ * wrong (1) or it has no such block, from and length are 0. The block's content isn't judged. */
+sneupelaar_part sneupelaar_body(const uint8_t *file, size_t file_length, size_t block);
+
+#ifdef __cplusplus
+}
+#endif
+
+#endif

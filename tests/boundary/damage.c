@@ -1,0 +1,98 @@
+/* damage.c: hours spoiled: bits, counts, ranges left by one, blocks and lengths that are wrong. */
+#include <string.h>
+
+#include "chance.h"
+#include "hours.h"
+
+static size_t blocks_of(const hour_file *hour)
+{
+    return hour->bytes / BLOCK_BYTES;
+}
+
+static void flip_bit(hour_file *hour)
+{
+    size_t bit = below(8 * hour->bytes);
+    hour->words[bit / 32] ^= 1u << bit % 32;
+    if (once_in(2))
+        mend_sum(hour, bit / 32 / BLOCK_WORDS);
+}
+
+/* Words 0 to 6 of a block: each one off, or anything. */
+static void spoil_front(hour_file *hour)
+{
+    size_t block = below(blocks_of(hour));
+    uint32_t *word = hour->words + BLOCK_WORDS * block + below(7);
+    *word = once_in(4) ? (uint32_t)chance() : *word + (once_in(2) ? 1 : -1u);
+    mend_sum(hour, block);
+}
+
+/* A block's count of records, with the records as they were. */
+static void spoil_count(hour_file *hour)
+{
+    static const uint32_t counts[] = { 0, 1, 9, 10, 11, 12, 0x80000000, 0xFFFFFFFF };
+    size_t block = below(blocks_of(hour));
+    hour->words[BLOCK_WORDS * block + 2] = counts[below(sizeof counts / sizeof *counts)];
+    mend_sum(hour, block);
+}
+
+/* Something in a block's last words, past its records or past the head. */
+static void spoil_zeros(hour_file *hour)
+{
+    size_t block = below(blocks_of(hour)), at = BLOCK_WORDS - 1 - below(80);
+    hour->words[BLOCK_WORDS * block + at] = once_in(2) ? 1 : (uint32_t)chance();
+    mend_sum(hour, block);
+}
+
+/* A number one past an end of some range of the tables, or anything. */
+static uint32_t past_an_end(void)
+{
+    static const uint32_t ends[] = { 0, 1, 5, 6, 9, 33, 20001, 100001, -100001u, 1000001, -1000001u, 10000001, 0x7FFFFFFF, 0x80000000 };
+    return once_in(8) ? (uint32_t)chance() : ends[below(sizeof ends / sizeof *ends)];
+}
+
+static void spoil_head(hour_file *hour)
+{
+    size_t at = once_in(4) ? BODY_WORD + below(BLOCK_WORDS - BODY_WORD) : MEMBERS + below(4 * MOST_AREAS + 7);
+    hour->words[at] = past_an_end();
+    mend_sum(hour, 0);
+}
+
+static void spoil_record(hour_file *hour)
+{
+    if (hour->records == 0 || blocks_of(hour) < 2)
+        return;
+    size_t block = 1 + below(blocks_of(hour) - 1);
+    size_t held = block < blocks_of(hour) - 1 ? BLOCK_RECORDS : hour->records - BLOCK_RECORDS * (block - 1);
+    uint32_t *words = hour->words + BLOCK_WORDS * block + BODY_WORD + RECORD_WORDS * below(held), at = below(RECORD_WORDS);
+    words[at] = at == MEMBER ? (uint32_t)hour->members : at == AREA ? hour->words[AREAS] : past_an_end();
+    mend_sum(hour, block);
+}
+
+static void swap_blocks(hour_file *hour)
+{
+    uint32_t held[BLOCK_WORDS];
+    uint32_t *one = hour->words + BLOCK_WORDS * below(blocks_of(hour)), *other = hour->words + BLOCK_WORDS * below(blocks_of(hour));
+    memcpy(held, one, sizeof held);
+    memmove(one, other, sizeof held);
+    memcpy(other, held, sizeof held);
+}
+
+/* No bytes, too few, no multiple of a block, a block less or more than is said, one more than may be. */
+static void spoil_length(hour_file *hour)
+{
+    size_t bytes = hour->bytes;
+    size_t lengths[] = { 0, bytes - 1, bytes + 1, below(bytes), bytes - BLOCK_BYTES, bytes + BLOCK_BYTES, MADE_BLOCKS * BLOCK_BYTES };
+    size_t length = lengths[below(sizeof lengths / sizeof *lengths)];
+    hour->bytes = length > sizeof hour->words ? sizeof hour->words : length;
+}
+
+void damage_hour(hour_file *hour)
+{
+    static void (*const damages[])(hour_file *) = { flip_bit, spoil_front, spoil_count, spoil_zeros, spoil_head, spoil_record, swap_blocks };
+    enum { DAMAGES = sizeof damages / sizeof *damages };
+    damages[below(DAMAGES)](hour);
+    if (once_in(4))
+        damages[below(DAMAGES)](hour);
+    if (once_in(8))
+        spoil_length(hour);
+}

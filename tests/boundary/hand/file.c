@@ -1,0 +1,150 @@
+/* file.c: the block reader, and refusals 1 to 5. */
+#include "file.h"
+
+/* The words that keep a range, in one comparison: moved up by `up` modulo 2^32 they are at most `most`. */
+typedef struct {
+    uint32_t up, most;
+} range;
+
+#define RANGE(low, high) { -(uint32_t)(low), (uint32_t)(high) - (uint32_t)(low) }
+#define ZERO RANGE(0, 0)
+#define ENERGY RANGE(0, 100000)
+#define CHANGE RANGE(-100000, 100000)
+#define MULTIPLIER RANGE(1, 20000)
+
+static const range price = RANGE(-1000000, 1000000);
+static const range tie = RANGE(0, 10000000);
+
+/* Words 3 to 11 of a record, by its kind. */
+static const range record_ranges[][RECORD_WORDS - SCHEDULED] = {
+    [GENERATOR] = { ENERGY, ENERGY, CHANGE, ENERGY, ENERGY, ENERGY, MULTIPLIER, MULTIPLIER, ZERO },
+    [REAL_TIME_LOAD] = { ENERGY, ENERGY, CHANGE, ENERGY, ENERGY, ZERO, ZERO, ZERO, ZERO },
+    [PROFILE_LOAD] = { ENERGY, ENERGY, CHANGE, ENERGY, ENERGY, ZERO, ZERO, ZERO, ZERO },
+    [IMPORT] = { ENERGY, ENERGY, CHANGE, ENERGY, ZERO, ZERO, MULTIPLIER, MULTIPLIER, ZERO },
+    [EXPORT] = { ENERGY, ENERGY, CHANGE, ZERO, ZERO, ZERO, ZERO, ZERO, ZERO },
+};
+
+static int keeps(uint32_t value, range within)
+{
+    return value + within.up <= within.most;
+}
+
+static int length_bad(size_t file_length)
+{
+    return file_length == 0 || file_length % BLOCK_BYTES != 0 || file_length > MOST_BLOCKS * BLOCK_BYTES;
+}
+
+sneupelaar_part hand_body(const uint8_t *file, size_t file_length, size_t block)
+{
+    (void)file;
+    if (length_bad(file_length) || block >= file_length / BLOCK_BYTES)
+        return (sneupelaar_part){ 0, 0 };
+    return (sneupelaar_part){ BLOCK_BYTES * block + 4 * BODY_WORD, BLOCK_BYTES - 4 * BODY_WORD };
+}
+
+static int sum_bad(const uint8_t *block)
+{
+    uint32_t sum = 0;
+    for (size_t at = 0; at < BLOCK_WORDS; at++)
+        sum += word(block, at);
+    return sum != 0;
+}
+
+static int zeros(const uint8_t *block, size_t from, size_t to)
+{
+    for (size_t at = from; at < to; at++)
+        if (word(block, at) != 0)
+            return 0;
+    return 1;
+}
+
+/* Row 3 of one block of so many. */
+static int block_bad(const uint8_t *block, size_t position, size_t blocks)
+{
+    uint32_t third = word(block, 2);
+    if (word(block, 1) != position || !zeros(block, 3, 7))
+        return 1;
+    if (position == 0)
+        return word(block, 0) != 1 || third != blocks - 1;
+    if (word(block, 0) != 2 || third == 0 || third > BLOCK_RECORDS || (third < BLOCK_RECORDS && position != blocks - 1))
+        return 1;
+    return !zeros(block, BODY_WORD + RECORD_WORDS * third, BLOCK_WORDS);
+}
+
+/* The first word from `at` on that is not zero, or `to`. */
+static size_t first_not_zero(const uint8_t *block, size_t at, size_t to)
+{
+    while (at < to && word(block, at) == 0)
+        at++;
+    return at;
+}
+
+/* The first word of an area that breaks its range, or the next area's first. */
+static size_t bad_area_word(const uint8_t *block, size_t at, uint32_t zones)
+{
+    if (word(block, at) >= zones)
+        return at;
+    if (!keeps(word(block, at + 1), tie))
+        return at + 1;
+    if (!keeps(word(block, at + 2), tie))
+        return at + 2;
+    return word(block, at + 3) != 0 ? at + 3 : at + AREA_WORDS;
+}
+
+/* The first word of the first body that breaks row 4, or BLOCK_WORDS. */
+static size_t bad_head_word(const uint8_t *block)
+{
+    uint32_t zones = word(block, ZONES), areas = word(block, AREAS);
+    if (!keeps(word(block, MEMBERS), (range)RANGE(1, MOST_MEMBERS)))
+        return MEMBERS;
+    if (!keeps(zones, (range)RANGE(1, MOST_ZONES)))
+        return ZONES;
+    if (!keeps(areas, (range)RANGE(1, MOST_AREAS)))
+        return AREAS;
+    for (size_t zone = 0; zone < zones; zone++)
+        if (!keeps(word(block, PRICES + zone), price))
+            return PRICES + zone;
+    size_t found = first_not_zero(block, PRICES + zones, FIRST_AREA);
+    if (found < FIRST_AREA)
+        return found;
+    size_t end = FIRST_AREA + AREA_WORDS * areas;
+    for (size_t at = FIRST_AREA; at < end; at += AREA_WORDS) {
+        found = bad_area_word(block, at, zones);
+        if (found < at + AREA_WORDS)
+            return found;
+    }
+    return first_not_zero(block, end, BLOCK_WORDS);
+}
+
+static int record_bad(const uint8_t *record, uint32_t members, uint32_t areas)
+{
+    uint32_t kind = word(record, KIND);
+    if (kind < GENERATOR || kind > EXPORT || word(record, MEMBER) >= members || word(record, AREA) >= areas)
+        return 1;
+    for (size_t at = SCHEDULED; at < RECORD_WORDS; at++)
+        if (!keeps(word(record, at), record_ranges[kind][at - SCHEDULED]))
+            return 1;
+    return 0;
+}
+
+sneupelaar_answer examine(const uint8_t *file, size_t file_length)
+{
+    if (length_bad(file_length))
+        return (sneupelaar_answer){ 1, 0 };
+    size_t blocks = file_length / BLOCK_BYTES;
+    for (size_t block = 0; block < blocks; block++)
+        if (sum_bad(block_at(file, block)))
+            return (sneupelaar_answer){ 2, block };
+    for (size_t block = 0; block < blocks; block++)
+        if (block_bad(block_at(file, block), block, blocks))
+            return (sneupelaar_answer){ 3, block };
+    size_t bad = bad_head_word(file);
+    if (bad < BLOCK_WORDS)
+        return (sneupelaar_answer){ 4, bad };
+    uint32_t members = word(file, MEMBERS), areas = word(file, AREAS);
+    size_t records = records_in(file, file_length);
+    for (size_t record = 0; record < records; record++)
+        if (record_bad(record_at(file, record), members, areas))
+            return (sneupelaar_answer){ 5, record };
+    return (sneupelaar_answer){ 0, 0 };
+}

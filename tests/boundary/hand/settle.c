@@ -1,0 +1,200 @@
+/* settle.c: settling by hand. Every figure is worked in room of this file's own; the caller's buffers are written after the last check. */
+#include <string.h>
+
+#include "file.h"
+
+static const int64_t WHOLE = 10000;                /* a kWh in units; a multiplier of one */
+static const int64_t CENT = 10000000;              /* in grains */
+static const int64_t MOST_GRAINS = 4000000000000000000;
+
+/* A record's numbers under document 01's letters. */
+typedef struct {
+    uint32_t kind, member, area;
+    int64_t s, a, j, n, o, m, f, h;
+} entry;
+
+typedef struct {
+    int64_t demand[MOST_AREAS];
+    int64_t ufe[MOST_AREAS];
+    int64_t deviations[MOST_RECORDS];
+    int64_t shares[MOST_RECORDS];
+    sneupelaar_line lines[MOST_MEMBERS];
+} figures;
+
+static entry entry_at(const uint8_t *file, size_t at)
+{
+    const uint8_t *record = record_at(file, at);
+    return (entry){
+        .kind = word(record, KIND),
+        .member = word(record, MEMBER),
+        .area = word(record, AREA),
+        .s = word(record, SCHEDULED),
+        .a = word(record, ACTUAL),
+        .j = (int32_t)word(record, ADJUSTMENT),
+        .n = word(record, ANCILLARY),
+        .o = word(record, OBLIGATION),
+        .m = word(record, MAXIMUM),
+        .f = word(record, SCHEDULED_MULTIPLIER),
+        .h = word(record, HOUR_AHEAD_MULTIPLIER),
+    };
+}
+
+static int is_load(uint32_t kind)
+{
+    return kind == REAL_TIME_LOAD || kind == PROFILE_LOAD;
+}
+
+static int64_t least(int64_t x, int64_t y)
+{
+    return x < y ? x : y;
+}
+
+static int64_t most(int64_t x, int64_t y)
+{
+    return x > y ? x : y;
+}
+
+static int64_t deviation(const entry *e)
+{
+    switch (e->kind) {
+    case GENERATOR:
+        return e->s * e->f - ((e->a - e->j) * e->h - WHOLE * e->n) - WHOLE * least(0, e->m - e->a - (e->o - e->n));
+    case IMPORT:
+        return e->s * e->f - (e->a - e->j) * e->h + WHOLE * e->n;
+    case EXPORT:
+        return WHOLE * (e->s - e->a - e->j);
+    default:
+        return WHOLE * (e->s - ((e->a - e->j) + e->n) - most(0, (e->o - e->n) - e->a));
+    }
+}
+
+/* What a record adds to its area's UFE. */
+static int64_t energy(const entry *e)
+{
+    switch (e->kind) {
+    case GENERATOR:
+        return WHOLE * e->a - e->a * (WHOLE - e->h);
+    case IMPORT:
+        return -e->a * (WHOLE - e->h);
+    case EXPORT:
+        return 0;
+    default:
+        return -WHOLE * e->a;
+    }
+}
+
+static void tally(const uint8_t *file, size_t areas, size_t records, figures *out)
+{
+    for (size_t area = 0; area < MOST_AREAS; area++) {
+        const uint8_t *ties = file + 4 * (FIRST_AREA + AREA_WORDS * area);
+        out->demand[area] = 0;
+        out->ufe[area] = area < areas ? WHOLE * ((int64_t)word(ties, 1) - word(ties, 2)) : 0;
+    }
+    for (size_t at = 0; at < records; at++) {
+        entry e = entry_at(file, at);
+        out->deviations[at] = deviation(&e);
+        out->shares[at] = 0;
+        out->ufe[e.area] += energy(&e);
+        if (is_load(e.kind))
+            out->demand[e.area] += e.a;
+    }
+}
+
+/* The units left go one each to the largest remainder held, the earlier of equal ones, which is then spent. There are always more
+   remainders above 0 than units left. The largest is found first and its place after: the first loop is then done four at a time. */
+static void hand_out(int64_t left, int32_t *remainders, size_t loads, int64_t *sizes)
+{
+    for (; left > 0; left--) {
+        int32_t largest = 0;
+        for (size_t at = 0; at < loads; at++)
+            largest = remainders[at] > largest ? remainders[at] : largest;
+        size_t best = 0;
+        while (remainders[best] != largest)
+            best++;
+        sizes[best]++;
+        remainders[best] = 0;
+    }
+}
+
+/* The shares of one area, whose demand is not 0. */
+static void share(const uint8_t *file, size_t area, size_t records, figures *out)
+{
+    size_t places[MOST_RECORDS], loads = 0;
+    int32_t remainders[MOST_RECORDS]; /* below the demand, which is at most 25,000,000 */
+    int64_t sizes[MOST_RECORDS];
+    uint64_t demand = (uint64_t)out->demand[area];
+    int64_t size = out->ufe[area] < 0 ? -out->ufe[area] : out->ufe[area], left = size;
+    for (size_t at = 0; at < records; at++) {
+        const uint8_t *record = record_at(file, at);
+        if (word(record, AREA) != area || !is_load(word(record, KIND)))
+            continue;
+        uint64_t product = (uint64_t)word(record, ACTUAL) * (uint64_t)size;
+        places[loads] = at;
+        sizes[loads] = (int64_t)(product / demand);
+        remainders[loads] = (int32_t)(product % demand);
+        left -= sizes[loads++];
+    }
+    hand_out(left, remainders, loads, sizes);
+    for (size_t at = 0; at < loads; at++)
+        out->shares[places[at]] = out->ufe[area] < 0 ? -sizes[at] : sizes[at];
+}
+
+static void post(const uint8_t *file, size_t records, figures *out)
+{
+    int64_t prices[MOST_AREAS];
+    for (size_t area = 0; area < MOST_AREAS; area++)
+        prices[area] = (int32_t)word(file, PRICES + word(file, FIRST_AREA + AREA_WORDS * area));
+    memset(out->lines, 0, sizeof out->lines);
+    for (size_t at = 0; at < records; at++) {
+        const uint8_t *record = record_at(file, at);
+        uint32_t kind = word(record, KIND);
+        int64_t signed_deviation = is_load(kind) || kind == EXPORT ? -out->deviations[at] : out->deviations[at];
+        sneupelaar_line *line = &out->lines[word(record, MEMBER)];
+        line->amount += prices[word(record, AREA)] * (signed_deviation + out->shares[at]);
+        line->records++;
+    }
+}
+
+/* Nearest, halves away from zero. */
+static int64_t cents(int64_t grains)
+{
+    return (grains + (grains < 0 ? -CENT / 2 : CENT / 2)) / CENT;
+}
+
+static sneupelaar_settled refused(uint64_t number, uint64_t place)
+{
+    return (sneupelaar_settled){ .number = number, .place = place };
+}
+
+sneupelaar_settled hand_settle(const uint8_t *file, size_t file_length, sneupelaar_line *lines, size_t lines_length,
+    int64_t *charges, size_t charges_length, int64_t *shares, size_t shares_length, int64_t *deviations, size_t deviations_length)
+{
+    sneupelaar_answer examined = examine(file, file_length);
+    if (examined.number != 0)
+        return refused(examined.number, examined.place);
+    size_t members = word(file, MEMBERS), areas = word(file, AREAS), records = records_in(file, file_length);
+    figures worked;
+    tally(file, areas, records, &worked);
+    for (size_t area = 0; area < areas; area++)
+        if (worked.demand[area] == 0 && worked.ufe[area] != 0)
+            return refused(6, area);
+    for (size_t area = 0; area < areas; area++)
+        if (worked.ufe[area] != 0)
+            share(file, area, records, &worked);
+    post(file, records, &worked);
+    for (size_t member = 0; member < members; member++)
+        if (worked.lines[member].amount > MOST_GRAINS || worked.lines[member].amount < -MOST_GRAINS)
+            return refused(7, member);
+    if (charges_length < members || lines_length < members || shares_length < records || deviations_length < records)
+        return refused(11, 0);
+    for (size_t member = 0; member < members; member++)
+        charges[member] = cents(worked.lines[member].amount);
+    memcpy(lines, worked.lines, members * sizeof *lines);
+    if (records != 0) {
+        memcpy(shares, worked.shares, records * sizeof *shares);
+        memcpy(deviations, worked.deviations, records * sizeof *deviations);
+    }
+    sneupelaar_settled settled = { 0 };
+    memcpy(settled.ufe, worked.ufe, sizeof settled.ufe);
+    return settled;
+}

@@ -1,0 +1,78 @@
+/* harness.c: tries the archive's functions from C.
+     harness CASES SEED               that many cases: a call each of settle, write and read, and body at every position
+     harness lie BUFFER SIDE          a caller that lies about a buffer: the protected pages must end it (status 3)
+     harness spoiled FAULT CASES SEED settling with a fault put in: the cases must end it (status 3 or 4)
+   Status 0: all as by hand, and every answer that can occur was seen; 1: not every one was seen; 2: not called as above. */
+#include <stdio.h>
+#include <stdlib.h>
+#include <string.h>
+
+#include "chance.h"
+#include "guard.h"
+#include "trials.h"
+
+struct seen seen;
+
+static void try_cases(unsigned long cases, settle_function *settle)
+{
+    for (unsigned long at = 0; at < cases; at++) {
+        standing.case_number = at;
+        chance_start(standing.seed, at);
+        try_settling(settle);
+        try_writing();
+        try_reading();
+    }
+}
+
+/* Says how often each of the numbers was answered; 0 where one never was. */
+static int all_seen(const char *function, const unsigned long *counts, const unsigned *numbers, size_t length)
+{
+    int all = 1;
+    printf("  %s:", function);
+    for (size_t at = 0; at < length; at++) {
+        printf("%s %lu", at == 0 ? " accepted" : "", counts[numbers[at]]);
+        if (at + 1 < length)
+            printf(", refused %u", numbers[at + 1]);
+        all &= counts[numbers[at]] != 0;
+    }
+    printf("\n");
+    return all;
+}
+
+/* Refusal 7 cannot occur: within the ranges no amount is that large, which is proved. */
+static int enough_seen(unsigned long cases)
+{
+    static const unsigned settling[] = { 0, 1, 2, 3, 4, 5, 6, 11 }, writing[] = { 0, 8, 9 }, reading[] = { 0, 10 };
+    int enough = all_seen("settle", seen.settled, settling, 8);
+    enough &= all_seen("write", seen.written, writing, 3);
+    enough &= all_seen("read", seen.read, reading, 2);
+    printf("  body: %lu positions\n", seen.bodies);
+    return enough && seen.settled[0] >= cases / 5;
+}
+
+static int usage(void)
+{
+    fprintf(stderr, "harness CASES SEED | harness lie BUFFER SIDE | harness spoiled FAULT CASES SEED\n");
+    return 2;
+}
+
+int main(int count, char **words)
+{
+    guard_start();
+    if (count == 4 && strcmp(words[1], "lie") == 0) {
+        lie(words[2], words[3]);
+        return 0;
+    }
+    int spoils = count == 5 && strcmp(words[1], "spoiled") == 0;
+    settle_function *settle = spoils ? spoiled(words[2]) : sneupelaar_settle;
+    if ((count != 3 && !spoils) || settle == NULL)
+        return usage();
+    unsigned long cases = strtoul(words[count - 2], NULL, 10);
+    standing.seed = strtoul(words[count - 1], NULL, 10);
+    try_cases(cases, settle);
+    printf("%lu cases of seed %lu, all within bounds and as by hand\n", cases, standing.seed);
+    if (enough_seen(cases))
+        return 0;
+    printf("not every answer that can occur was seen, or too few hours were accepted\n");
+    return 1;
+}

@@ -1,0 +1,129 @@
+/* hours.c: hours that keep rows 1 to 5. */
+#include "hours.h"
+
+#include <string.h>
+
+#include "chance.h"
+
+/* How large the numbers of an hour are. */
+static enum { SMALL, USUAL, WIDE, ENDS, MANNERS } manner;
+
+/* Whether a kind uses words 3 to 10 of a record: bit 0 is word 3. */
+static const unsigned uses[] = { [GENERATOR] = 0xFF, [REAL_TIME_LOAD] = 0x1F, [PROFILE_LOAD] = 0x1F, [IMPORT] = 0xCF, [EXPORT] = 0x07 };
+
+static int64_t up_to(int64_t most, int64_t low, int64_t high)
+{
+    int64_t number = between(0, most);
+    if (low < 0 && once_in(2))
+        number = -number;
+    return number < low ? low : number > high ? high : number;
+}
+
+/* A number in a range, as the hour's manner has it. */
+static uint32_t number(int64_t low, int64_t high)
+{
+    switch (manner) {
+    case SMALL:
+        return (uint32_t)up_to(9, low, high);
+    case USUAL:
+        return (uint32_t)up_to(5000, low, high);
+    case ENDS:
+        return (uint32_t)(once_in(2) ? low + once_in(4) : high - once_in(4));
+    default:
+        return (uint32_t)between(low, high);
+    }
+}
+
+static uint32_t *record_words(hour_file *hour, size_t record)
+{
+    return hour->words + BLOCK_WORDS * (1 + record / BLOCK_RECORDS) + BODY_WORD + RECORD_WORDS * (record % BLOCK_RECORDS);
+}
+
+static void make_head(hour_file *hour, size_t zones, size_t areas)
+{
+    uint32_t *words = hour->words;
+    words[8] = (uint32_t)chance();
+    words[MEMBERS] = (uint32_t)hour->members;
+    words[ZONES] = (uint32_t)zones;
+    words[AREAS] = (uint32_t)areas;
+    for (size_t zone = 0; zone < zones; zone++)
+        words[PRICES + zone] = number(-1000000, 1000000);
+    for (size_t area = 0; area < areas; area++) {
+        uint32_t *ties = words + FIRST_AREA + AREA_WORDS * area;
+        ties[0] = (uint32_t)below(zones);
+        ties[1] = number(0, 10000000);
+        ties[2] = hour->records == 0 ? ties[1] : number(0, 10000000); /* without records nobody takes UFE */
+    }
+}
+
+static void make_record(uint32_t *words, size_t kind, size_t member, size_t area)
+{
+    words[KIND] = (uint32_t)kind;
+    words[MEMBER] = (uint32_t)member;
+    words[AREA] = (uint32_t)area;
+    for (size_t at = SCHEDULED; at <= HOUR_AHEAD_MULTIPLIER; at++) {
+        if ((uses[kind] >> (at - SCHEDULED) & 1) == 0)
+            continue;
+        if (at == ADJUSTMENT)
+            words[at] = number(-100000, 100000);
+        else if (at >= SCHEDULED_MULTIPLIER)
+            words[at] = once_in(2) ? 10000 : number(1, 20000);
+        else
+            words[at] = number(0, 100000);
+    }
+}
+
+static void make_records(hour_file *hour, size_t areas, int demanded)
+{
+    for (size_t record = 0; record < hour->records; record++) {
+        uint32_t *words = record_words(hour, record);
+        size_t member = below(hour->members), area = below(areas), kind = GENERATOR + below(EXPORT);
+        if (demanded && record < areas) { /* every area has a load that took something */
+            make_record(words, kind == PROFILE_LOAD ? PROFILE_LOAD : REAL_TIME_LOAD, member, record);
+            words[ACTUAL] += words[ACTUAL] == 0;
+        } else {
+            make_record(words, kind, member, area);
+        }
+    }
+}
+
+static void make_blocks(hour_file *hour)
+{
+    size_t others = (hour->records + BLOCK_RECORDS - 1) / BLOCK_RECORDS;
+    hour->bytes = BLOCK_BYTES * (1 + others);
+    hour->words[0] = 1;
+    hour->words[OTHER_BLOCKS] = (uint32_t)others;
+    for (size_t block = 1; block <= others; block++) {
+        uint32_t *words = hour->words + BLOCK_WORDS * block;
+        words[0] = 2;
+        words[1] = (uint32_t)block;
+        words[2] = (uint32_t)(block < others ? BLOCK_RECORDS : hour->records - BLOCK_RECORDS * (others - 1));
+    }
+    for (size_t block = 0; block <= others; block++)
+        mend_sum(hour, block);
+}
+
+void mend_sum(hour_file *hour, size_t block)
+{
+    uint32_t *words = hour->words + BLOCK_WORDS * block, sum = 0;
+    for (size_t at = 0; at < BLOCK_WORDS; at++)
+        sum += words[at];
+    words[7] -= sum;
+}
+
+void make_hour(hour_file *hour)
+{
+    memset(hour, 0, sizeof *hour);
+    manner = below(MANNERS);
+    hour->members = 1 + below(MOST_MEMBERS);
+    hour->records = once_in(8) ? below(MOST_RECORDS + 1) : below(31);
+    if (once_in(50))
+        hour->records = MOST_RECORDS;
+    size_t zones = 1 + below(MOST_ZONES), areas = 1 + below(MOST_AREAS);
+    int demanded = !once_in(12);
+    if (demanded && hour->records > 0 && hour->records < areas)
+        areas = hour->records;
+    make_head(hour, zones, areas);
+    make_records(hour, areas, demanded);
+    make_blocks(hour);
+}
