@@ -27,7 +27,7 @@ use types.Part.{whole, sub, look-in}
 use sound.WpLaws.{FmC, fmOf, WpFn-mono}
 use denote.RattleType.{owns}
 use denote.Shadow.{pureI}
-use denote.Laws.{Is, shows}
+use denote.Laws.{Is, Lawful, shows}
 use denote.Plain.{uint-vals, uint-tells, uint-makes}
 use denote.Signed.{sint-vals, sint-tells, sint-makes}
 use denote.Builtin.{usize, i64}
@@ -74,7 +74,8 @@ module _ {M : Type 1} (𝓤 : URA M) (H : Heap 𝓤) (A : Atoms 𝓤) (at-mem : 
   abbrev LineWith : Contract 𝓤
   LineWith = tripleOf 𝓤 H A g.signature (g.spec 𝓤 H A at-mem run)
 
-module _ {M : Type 1} (𝓤 : URA M) (H : Heap 𝓤) (A : Atoms 𝓤) (W : Given 𝓤 H A) (at-mem : Memory → SProp 𝓤) (run : Routine → Fun 𝓤) (κ : Lft) (q : Share) (b o : ℕ) (γ : GName) (ls : List Line) (m : ℕ) (grains : ℤ)
+module _ {M : Type 1} (𝓤 : URA M) (H : Heap 𝓤) (A : Atoms 𝓤) (W : Given 𝓤 H A) (at-mem : Memory → SProp 𝓤) (run : Routine → Fun 𝓤)
+    (κ : Lft) (q : Share) (b o : ℕ) (γ : GName) (ls : List Line) (m : ℕ) (grains : ℤ)
     (length-fits : Room T.the-row (length ls)) (m-fits : m < 2 ^ 64) (grains-fit : mag grains < 2 ^ hbits w64) where
   abbrev x : Arg
   x = (record { ptr = (b, o); name = γ; now = ls }, (m, (grains, tt)))
@@ -88,6 +89,12 @@ module _ {M : Type 1} (𝓤 : URA M) (H : Heap 𝓤) (A : Atoms 𝓤) (W : Given
   -- the member's line
   abbrev l : Line
   l = getD ls m emptyLine
+
+  abbrev passed : List Val
+  passed = sliceVal (b, o) (length ls) ∷ vint w64 m ∷ vint w64 (ofZ w64 grains) ∷ []
+
+  abbrev lawful : Lawful 𝓤 H A T.the-row
+  lawful = LL.lawful T.the-type T′.the-laws 𝓤 H A W
 
   abbrev Post : Val → SProp 𝓤
   Post = walkOf 𝓤 H A f.ended stayed (f.clauses 𝓤 H A at-mem run) .post (((κ, tt), (q, tt), tt, x, at), tt)
@@ -113,19 +120,23 @@ module _ {M : Type 1} (𝓤 : URA M) (H : Heap 𝓤) (A : Atoms 𝓤) (W : Given
   unfolding linesWith
   posted r e = ap (set ls m) e
 
-  exits : (r : Line) → r ≡ lineWith l grains → ent 𝓤 (⋆ 𝓤 H A (‵ (fobs γ (codedHoleys T.the-row .code (heres T.the-row (set ls m r)))) ∷ ‵ (fbor κ (Held T.the-row (length (set ls m r)) b o γ)) ∷ ‵ (flft κ q) ∷ [])) (Post vunit)
+  exits : (r : Line) → r ≡ lineWith l grains →
+      ent 𝓤 (⋆ 𝓤 H A (‵ (fobs γ (codedHoleys T.the-row .code (heres T.the-row (set ls m r)))) ∷ ‵ (fbor κ (Held T.the-row (length (set ls m r)) b o γ)) ∷ ‵ (flft κ q) ∷ [])) (Post vunit)
   exits r e =
       qed W (‵ (fobs γ (codedHoleys T.the-row .code (heres T.the-row (set ls m r)))) ∷ ‵ (fbor κ (Held T.the-row (length (set ls m r)) b o γ)) ∷ ‵ (flft κ q) ∷ []) ∵
       suffices ! _ (ends-at 𝓤 H A f.ended stayed (f.clauses 𝓤 H A at-mem run) W (((κ, tt), (q, tt), tt, x, at), tt) vunit tt (set ls m r, (tt, (tt, tt))) (length-set ls m r, (tt, (tt, tt)))) $ says ! (posted r e) $ nothing ! $ move ! (3 ∷ 0 ∷ []) $ join ! $
       frame ! $ fjoin ! $ pureI ! (at-slice T.the-row (record { ptr = (b, o); name = γ; now = set ls m r }) (at .0)) (tt, (tt, tt)) (ap (λ (n : ℕ). sliceVal (b, o) n ∷ []) (sym (length-set ls m r)), subst (Room T.the-row) (sym (length-set ls m r)) length-fits) $ fjoin ! $
-      use0 W (‵ Numbers) own-numbers $ move ! (1 ∷ 0 ∷ []) $ fjoin ! $ feqI ! (List Val) (vunit ∷ []) (vunit ∷ []) refl $ move ! (1 ∷ 0 ∷ []) $ done !
+      use0 W (‵ Numbers) own-numbers $ move ! (1 ∷ 0 ∷ []) $ fjoin ! $ feqI ! (List Val) (vunit ∷ []) (vunit ∷ []) refl $
+      move ! (1 ∷ 0 ∷ []) $ done !
 
   module _ (C : Calls 𝓤 H) (Λ : Loops 𝓤 H) (fm : FmC 𝓤 H (W .laws) C) (known : Triple 𝓤 (C #line-with) (LineWith 𝓤 H A at-mem run)) where
-    walk : (m < length ls) × LineRoom l grains → ent 𝓤 (onEntry 𝓤 H A f.signature (κ, tt) (q, tt) x at) (WpFn 𝓤 H C Λ code.function (sliceVal (b, o) (length ls) ∷ vint w64 m ∷ vint w64 (ofZ w64 grains) ∷ []) Post)
+    walk : (m < length ls) × LineRoom l grains → ent 𝓤 (onEntry 𝓤 H A f.signature (κ, tt) (q, tt) x at) (WpFn 𝓤 H C Λ code.function passed Post)
     walk (within, room) =
-        qed W ((‵ (flft κ q) ⊛ ‵ ftrue) ∷ ‵ (owns (MutSlice (named 0) κ T.the-row ∷ usize ∷ i64 ∷ []) x at) ∷ []) ∵ enter ! C Λ code.function (sliceVal (b, o) (length ls) ∷ vint w64 m ∷ vint w64 (ofZ w64 grains) ∷ []) _ $
+        qed W ((‵ (flft κ q) ⊛ ‵ ftrue) ∷ ‵ (owns (MutSlice (named 0) κ T.the-row ∷ usize ∷ i64 ∷ []) x at) ∷ []) ∵ enter ! C Λ code.function passed _ $
         alloc1 ! (λ l₀. alloc1 ! (λ l₁. alloc1 ! (λ l₂. alloc1 ! (λ l₃. alloc1 ! (λ l₄. alloc1 ! (λ l₅. alloc1 ! (λ l₆. alloc1 ! (λ l₇. alloc1 ! (λ l₈. alloc0 ! $ params1 ! $
-        pass1 ! (init ! 14 refl (tt, (tt, (record { fits = length-fits .0 }, tt)))) $ pass1 ! (init ! 12 refl (tt, record { fits = m-fits })) $ pass1 ! (init ! 10 refl (tt, ofZ-fits w64 grains (record { sfits = grains-fit }))) $ pass0 ! $
+        pass1 ! (init ! 14 refl (tt, (tt, (record { fits = length-fits .0 }, tt)))) $
+        pass1 ! (init ! 12 refl (tt, record { fits = m-fits })) $
+        pass1 ! (init ! 10 refl (tt, ofZ-fits w64 grains (record { sfits = grains-fit }))) $ pass0 ! $
         -- where the line stands: [_8; …; _7; …; _6; …; _5; …; _4; …; _3; …; _2; …; _1; …; room for _0; …; the token; what the parameters own]
         assigns ! (bin ! (load ! (from ! (stop !)) (look ! 12 refl)) (lit ! tt) (record { fits = scaled })) (from ! (stop !)) (init ! 6 refl (tt, record { fits = scaled })) $
         assigns ! (bin ! (load ! (from ! (fld ! refl (stop !))) (look-in ! 14 (sub ! 0 refl (whole !)))) (load ! (from ! (stop !)) (look ! 6 refl)) tt) (from ! (stop !)) (init ! 4 refl (tt, tt)) $
@@ -133,32 +144,38 @@ module _ {M : Type 1} (𝓤 : URA M) (H : Heap 𝓤) (A : Atoms 𝓤) (W : Given
         move ! (19 ∷ []) $ fsplit ! $ fsplit ! $ move ! (1 ∷ []) $ fsplit ! $ move ! (22 ∷ []) $ split ! $ move ! (2 ∷ 3 ∷ 0 ∷ []) $
         opens-slice ! tt T.the-row ls b o $ elem-out ! T.the-row (Is T.the-row) (shows 𝓤 H A T.the-row) vals (LL.tells T.the-type T′.the-laws) fullShare ls m emptyLine b o within (λ was.
         -- before = lines[member]: [the line's cell; what it owns; the others; the open borrow; obs; auth; true; the slice's fact; what the numbers own; _8; …]
-        assigns ! (of-opd ! (load ! (from ! (hop ! (look ! 13 refl) (stop !))) (look-raw ! 0 refl))) (from ! (stop !)) (init ! 11 refl (LL.lawful T.the-type T′.the-laws 𝓤 H A W .typed l _ was .0)) $
-        assigns ! (of-opd ! (load ! (from ! (stop !)) (look ! 11 refl))) (from ! (stop !)) (init ! 17 refl (LL.lawful T.the-type T′.the-laws 𝓤 H A W .typed l _ was .0)) $
+        assigns ! (of-opd ! (load ! (from ! (hop ! (look ! 13 refl) (stop !))) (look-raw ! 0 refl))) (from ! (stop !)) (init ! 11 refl (lawful .typed l _ was .0)) $
+        assigns ! (of-opd ! (load ! (from ! (stop !)) (look ! 11 refl))) (from ! (stop !)) (init ! 17 refl (lawful .typed l _ was .0)) $
         -- the call: what the line owns goes to `line_with`
         move ! (1 ∷ []) $ use1 W (raw (LineWith 𝓤 H A at-mem run .pre to)) (asked room) $
         calls-at ! fm (LineWith 𝓤 H A at-mem run) known to (and-then ! (load ! (from ! (stop !)) (look ! 17 refl)) (and-then ! (load ! (from ! (stop !)) (look ! 19 refl)) (no-more !))) (λ u.
         use1 W (later (some (λ (r : Line). (‵ ftrue ⊛ ‵ (T.the-row .own r (u ∷ []))) ⊛ raw (ensured 𝓤 H A g.ended (g.clauses 𝓤 H A at-mem run) tt (l, (grains, tt)) tt r)))) (id⊢ 𝓤 _) $ await ! tt $ pick ! (λ r.
-        split ! $ move ! (1 ∷ []) $ use1 W (raw (fact 𝓤 (r ≡ lineWith l grains))) (said r) $ heard ! (r ≡ lineWith l grains) (λ e. split ! $ drop ! $
+        split ! $ move ! (1 ∷ []) $ use1 W (raw (fact 𝓤 (r ≡ lineWith l grains))) (said r) $
+        heard ! (r ≡ lineWith l grains) (λ e. split ! $ drop ! $
         peeks ! T.the-row (Is T.the-row) (shows 𝓤 H A T.the-row) r (u ∷ []) (λ is.
-        land ! (from ! (stop !)) (store ! 11 refl (LL.lawful T.the-type T′.the-laws 𝓤 H A W .typed r _ is .0)) $
+        land ! (from ! (stop !)) (store ! 11 refl (lawful .typed r _ is .0)) $
         -- lines[member] = the result: [what the result owns; the line's cell; the others; the open borrow; …], at the same place
         assigns ! (bin ! (load ! (from ! (stop !)) (look ! 21 refl)) (lit ! tt) (record { fits = scaled })) (from ! (stop !)) (store ! 15 refl (tt, record { fits = scaled })) $
         assigns ! (bin ! (load ! (from ! (fld ! refl (stop !))) (look-in ! 23 (sub ! 0 refl (whole !)))) (load ! (from ! (stop !)) (look ! 15 refl)) tt) (from ! (stop !)) (init ! 9 refl (tt, tt)) $
         rewrite ! 9 (λ (p : ℕ). ‵ (fat fullShare tyPtr l₈ 0 (vptr b p))) (sym (place-is 16 o m)) refl $
-        assigns ! (of-opd ! (load ! (from ! (stop !)) (look ! 11 refl))) (from ! (hop ! (look ! 9 refl) (stop !))) (store-raw ! 1 refl (LL.lawful T.the-type T′.the-laws 𝓤 H A W .typed r _ is .0)) $
-        move ! (1 ∷ 0 ∷ []) $ elem-put ! T.the-row fullShare ls m r (u ∷ []) b o within $ closes-slice ! tt T.the-row ls (set ls m r) (length-set ls m r) b o $
+        assigns ! (of-opd ! (load ! (from ! (stop !)) (look ! 11 refl))) (from ! (hop ! (look ! 9 refl) (stop !))) (store-raw ! 1 refl (lawful .typed r _ is .0)) $
+        move ! (1 ∷ 0 ∷ []) $ elem-put ! T.the-row fullShare ls m r (u ∷ []) b o within $
+        closes-slice ! tt T.the-row ls (set ls m r) (length-set ls m r) b o $
         -- [obs; the borrow; the token; true; the slice's fact; what the numbers own; _8; …; _0; …]
         assigns ! (of-opd ! (unit-lit !)) (from ! (stop !)) (init ! 22 refl (tt, tt)) $
-        returns ! (look ! 22 refl) $ forget ! 6 refl $ forget ! 8 refl $ forget ! 10 refl $ forget ! 12 refl $ forget ! 14 refl $ forget ! 16 refl $ forget ! 18 refl $ forget ! 20 refl $ forget ! 22 refl $
-        move ! (22 ∷ 23 ∷ []) $ free1 ! $ move ! (20 ∷ 21 ∷ []) $ free1 ! $ move ! (18 ∷ 19 ∷ []) $ free1 ! $ move ! (16 ∷ 17 ∷ []) $ free1 ! $ move ! (14 ∷ 15 ∷ []) $ free1 ! $ move ! (12 ∷ 13 ∷ []) $ free1 ! $ move ! (10 ∷ 11 ∷ []) $ free1 ! $ move ! (8 ∷ 9 ∷ []) $ free1 ! $ move ! (6 ∷ 7 ∷ []) $ free1 ! $ free0 ! $
+        returns ! (look ! 22 refl) $ forget ! 6 refl $ forget ! 8 refl $ forget ! 10 refl $ forget ! 12 refl $ forget ! 14 refl $
+        forget ! 16 refl $ forget ! 18 refl $ forget ! 20 refl $ forget ! 22 refl $
+        move ! (22 ∷ 23 ∷ []) $ free1 ! $ move ! (20 ∷ 21 ∷ []) $ free1 ! $ move ! (18 ∷ 19 ∷ []) $ free1 ! $ move ! (16 ∷ 17 ∷ []) $
+        free1 ! $ move ! (14 ∷ 15 ∷ []) $ free1 ! $ move ! (12 ∷ 13 ∷ []) $ free1 ! $ move ! (10 ∷ 11 ∷ []) $ free1 ! $
+        move ! (8 ∷ 9 ∷ []) $ free1 ! $ move ! (6 ∷ 7 ∷ []) $ free1 ! $ free0 ! $
         keep ! (0 ∷ 1 ∷ 2 ∷ []) $ by ! (exits r e)))))))))))))))
       where
         scaled : m * 16 < 2 ^ 64
         scaled = omega (arith, length-fits .1)
 
 module _ {M : Type 1} (𝓤 : URA M) (H : Heap 𝓤) (A : Atoms 𝓤) (W : Given 𝓤 H A) (at-mem : Memory → SProp 𝓤) (run : Routine → Fun 𝓤) where
-  post-line-walks : (C : Calls 𝓤 H) (Λ : Loops 𝓤 H) → FmC 𝓤 H (W .laws) C → Triple 𝓤 (C #line-with) (LineWith 𝓤 H A at-mem run) → Walks 𝓤 H A f.ended stayed (WpFn 𝓤 H C Λ code.function) (f.clauses 𝓤 H A at-mem run)
+  post-line-walks : (C : Calls 𝓤 H) (Λ : Loops 𝓤 H) → FmC 𝓤 H (W .laws) C → Triple 𝓤 (C #line-with) (LineWith 𝓤 H A at-mem run)
+      → Walks 𝓤 H A f.ended stayed (WpFn 𝓤 H C Λ code.function) (f.clauses 𝓤 H A at-mem run)
   post-line-walks C Λ fm known = walked 𝓤 H A f.ended stayed (f.clauses 𝓤 H A at-mem run) (WpFn 𝓤 H C Λ code.function)
       (λ κs. (slice-vals, (uint-vals w64, (sint-vals w64, tt)))) (λ κs. (mut-slice-tells (named 0) (κs .0) T.the-row, (uint-tells w64, (sint-tells w64, tt))))
       (λ κs qs bounds a _ are. needs 𝓤 ((a .1 .0 < length (a .0 .now)) × LineRoom (getD (a .0 .now) (a .1 .0) emptyLine) (a .1 .1 .0)) _
@@ -167,9 +184,12 @@ module _ {M : Type 1} (𝓤 : URA M) (H : Heap 𝓤) (A : Atoms 𝓤) (W : Given
   goes : AllGo 𝓤 H A W 1 (f.signature .params) (f.ended .kept) stayed
   goes = (goes-slice 𝓤 H A W 1 0 tt (plain (λ _. T.the-row)), (goes-none 𝓤 H A W 1 (λ _. usize) yes (λ κs x f. refl), (goes-none 𝓤 H A W 1 (λ _. i64) yes (λ κs x f. refl), tt)))
 
-post-line-meets : {M : Type 1} (𝓤 : URA M) (H : Heap 𝓤) (A : Atoms 𝓤) → Given 𝓤 H A → (at-mem : Memory → SProp 𝓤) (run : Routine → Fun 𝓤) (𝓣 : Tables 𝓤 H) → Triple 𝓤 (𝓣 .C #line-with) (LineWith 𝓤 H A at-mem run)
+post-line-meets : {M : Type 1} (𝓤 : URA M) (H : Heap 𝓤) (A : Atoms 𝓤) → Given 𝓤 H A → (at-mem : Memory → SProp 𝓤) (run : Routine → Fun 𝓤) (𝓣 : Tables 𝓤 H)
+    → Triple 𝓤 (𝓣 .C #line-with) (LineWith 𝓤 H A at-mem run)
     → Meets 𝓤 H A f.signature (WpFn 𝓤 H (𝓣 .C) (𝓣 .Λ) code.function) (f.spec 𝓤 H A at-mem run)
-post-line-meets 𝓤 H A W at-mem run 𝓣 known = walk-meets 𝓤 H A f.ended stayed W (goes 𝓤 H A W at-mem run) (f.clauses 𝓤 H A at-mem run) (WpFn 𝓤 H (𝓣 .C) (𝓣 .Λ) code.function) (WpFn-mono 𝓤 H (W .laws) 𝓣 code.function)
+post-line-meets 𝓤 H A W at-mem run 𝓣 known =
+    walk-meets 𝓤 H A f.ended stayed W (goes 𝓤 H A W at-mem run) (f.clauses 𝓤 H A at-mem run)
+    (WpFn 𝓤 H (𝓣 .C) (𝓣 .Λ) code.function) (WpFn-mono 𝓤 H (W .laws) 𝓣 code.function)
     (post-line-walks 𝓤 H A W at-mem run (𝓣 .C) (𝓣 .Λ) (fmOf 𝓤 H (W .laws) 𝓣) known)
 
 pub post-line-spec : {M : Type 1} → stated.statement M
