@@ -36,11 +36,11 @@ loop-holds c = (omega arith, sym (replacing-none _ _))
 
 -- src/shares.rt:54:39
 mul-share-in : tie.Need-mul-share-in Inv-loop μ-loop
-mul-share-in c = omega (arith, c .before .before .before .before .pre .0)
+mul-share-in c = omega (arith, c .before .before .before .before .pre .2)
 
 -- src/shares.rt:54:39
 array-copy-out-share-in : tie.Need-array-copy-out-share-in Inv-loop μ-loop
-array-copy-out-share-in c = c .before .before .before .before .pre .0
+array-copy-out-share-in c = c .before .before .before .before .pre .2
 
 -- src/shares.rt:54:51
 mul-share-in-2 : tie.Need-mul-share-in-2 Inv-loop μ-loop
@@ -56,11 +56,11 @@ mul-share-in-3 c = omega arith
 
 -- src/shares.rt:54:61
 slice-copy-out-share-in : tie.Need-slice-copy-out-share-in Inv-loop μ-loop
-slice-copy-out-share-in c = let len = written-length _ _ _ _ (c .before .before .before .loop .inv .1) (omega (arith, c .before .before .before .before .before .before .pre .1)) in omega (arith, c .before .before .before .before .before .before .pre .1)
+slice-copy-out-share-in c = let len = written-length _ _ _ _ (c .before .before .before .loop .inv .1) (omega (arith, c .before .before .before .before .before .before .pre .3)) in omega (arith, c .before .before .before .before .before .before .pre .3)
 
 -- src/shares.rt:54:18
 share-in-requires : tie.Need-share-in-requires Inv-loop μ-loop
-share-in-requires c κs = c .before .before .before .before .before .before .before .pre .2 (c .before .before .before .before .loop .i) (omega arith)
+share-in-requires c κs = (c .before .before .before .before .before .before .before .pre .0, omega (arith, c .before .before .before .before .before .before .before .pre .1), c .before .before .before .before .before .before .before .pre .4 (c .before .before .before .before .loop .i) (omega arith))
 
 -- src/shares.rt:54:9
 mul-t20 : tie.Need-mul-t20 Inv-loop μ-loop
@@ -68,7 +68,7 @@ mul-t20 c = omega arith
 
 -- src/shares.rt:54:9
 slice-set-from-out : tie.Need-slice-set-from-out Inv-loop μ-loop
-slice-set-from-out c = let len = written-length _ _ _ _ (c .before .before .before .before .before .loop .inv .1) (omega (arith, c .before .before .before .before .before .before .before .before .pre .1)) in omega (arith, c .before .before .before .before .before .before .before .before .pre .1)
+slice-set-from-out c = let len = written-length _ _ _ _ (c .before .before .before .before .before .loop .inv .1) (omega (arith, c .before .before .before .before .before .before .before .before .pre .3)) in omega (arith, c .before .before .before .before .before .before .before .before .pre .3)
 
 -- src/shares.rt:55:9
 add-i : tie.Need-add-i Inv-loop μ-loop
@@ -90,11 +90,11 @@ loop-again c =
     let figure = toZ-ofZ w64 (getD (start .args .t2) a (pos 0)) (sfits-of (c .before .before .before .share-in-arg .given)) in
     let before = toZ-ofZ w64 (getD (at .out) (at .i) (pos 0)) (sfits-of (c .before .share-in-arg2 .given)) ∙ unwritten _ _ _ _ (at .inv .1) (at .i) (pos 0) (omega arith) in
     let share = toZ-ofZ w64 _ (sfits-of (c .share-in .ok)) ∙ c .share-in .ensures ∙ ap₂ (λ u x. cond (eqb (areaOf h (at .i)) a) (withSignOf u (getD sizes (at .i) 0)) x) figure before in
-    (omega arith, written-next _ _ _ _ (at .inv .1) _ (omega (arith, start .pre .1)) share)
+    (omega arith, written-next _ _ _ _ (at .inv .1) _ (omega (arith, start .pre .3)) share)
 
 -- src/shares.rt:48:1
 same-length : tie.Need-same-length Inv-loop μ-loop
-same-length c = written-length _ _ _ _ (c .before .loop .inv .1) (omega (arith, c .before .before .before .before .pre .1))
+same-length c = written-length _ _ _ _ (c .before .loop .inv .1) (omega (arith, c .before .before .before .before .pre .3))
 
 -- src/shares.rt:48:1
 returns : tie.Need-returns Inv-loop μ-loop

@@ -10,7 +10,6 @@ use Rattle.posting.proofs.shares.put_demands.Statement.{statement}
 use Rattle.posting.proofs.shares.put_demands.Tie as tie
 use Rattle.posting.proofs.shares.put_demands.Reads as reads
 use Rattle.posting.proofs.shares.put_demands.Lts as lts
-use Rattle.posting.proofs.shares.demand_in.Reads as demand-in-reads
 
 abbrev Inv-loop : tie.InvT-loop
 Inv-loop file a out₀ i₀ out i = (i ≤ length out₀) × (out ≡ replacingFirst (demandIn (hourIn file) a) i out₀)
@@ -23,8 +22,8 @@ loop-holds : tie.Need-loop-holds Inv-loop μ-loop
 loop-holds c = (omega arith, sym (replacing-none _ _))
 
 -- src/shares.rt:31:18
-demand-in-requires : tie.Need-demand-in-requires Inv-loop μ-loop
-demand-in-requires c κs = tt
+demand-there-requires : tie.Need-demand-there-requires Inv-loop μ-loop
+demand-there-requires c κs = let start = c .before .before .before .before in let len = written-length _ _ _ _ (c .before .loop .inv .1) (omega arith) in (start .pre .0, omega (arith, start .pre .1))
 
 -- src/shares.rt:31:9
 mul-out : tie.Need-mul-out Inv-loop μ-loop
@@ -44,7 +43,7 @@ loop-less c = let len = written-length _ _ _ _ (c .before .before .loop .inv .1)
 
 -- src/shares.rt:30:5
 loop-again : tie.Need-loop-again Inv-loop μ-loop
-loop-again c = let len = written-length _ _ _ _ (c .before .before .loop .inv .1) (omega arith) in (omega arith, written-next _ _ _ _ (c .before .before .loop .inv .1) _ (omega arith) (c .demand-in .ensures))
+loop-again c = let len = written-length _ _ _ _ (c .before .before .loop .inv .1) (omega arith) in (omega arith, written-next _ _ _ _ (c .before .before .loop .inv .1) _ (omega arith) (c .demand-there .ensures))
 
 -- src/shares.rt:26:1
 same-length : tie.Need-same-length Inv-loop μ-loop
@@ -61,7 +60,7 @@ put-demands-spec =
     Inv-loop
     μ-loop
     loop-holds
-    demand-in-requires
+    demand-there-requires
     mul-out
     slice-write-out
     add-i

@@ -27,7 +27,7 @@ use Rattle.share.proofs.shares.Reads as shares-reads
 
 -- src/shares.rt:64:5
 put-demands-requires : tie.Need-put-demands-requires
-put-demands-requires c κs = search needs
+put-demands-requires c κs = let start = c .before .before .before .before in (start .pre .0 .sharing .kept, start .pre .1)
 
 -- src/shares.rt:65:52
 mul-size-of : tie.Need-mul-size-of
@@ -83,7 +83,7 @@ shares-requires c κs = rw (size-is c) (shareable (kept c) (start c .args .a) (s
 put-area-requires : tie.Need-put-area-requires
 put-area-requires c κs =
     let k = asked c in
-    (area-place (start k .pre .0), omega (arith, as-many c, start k .pre .0 .sharing .room), got-small (kept k) (start k .args .a) (start k .pre .0 .there) (put k) (start k .args .sizes .now) (demands-are k) (start k .pre .2) (got c) (shared c))
+    (start k .pre .0 .sharing .kept, as-many c, area-place (start k .pre .0), omega (arith, as-many c, start k .pre .0 .sharing .room), got-small (kept k) (start k .args .a) (start k .pre .0 .there) (put k) (start k .args .sizes .now) (demands-are k) (start k .pre .2) (got c) (shared c))
 
 -- src/shares.rt:60:1
 same-length : tie.Need-same-length
