@@ -6,7 +6,6 @@ use mir.Syntax.{w64}
 use mir.ValLaws.{toZ-ofZ}
 use borrow.Author.Needs.{sfits-of}
 use Rattle.rules.specs.Record.{price, zonePrice, zoneOf, signed}
-use Rattle.rules.specs.Kept.{HourKept}
 use Rattle.hourfile.proofs.Rows.{head-inside, head-there}
 use Rattle.posting.specs.Hour.{hourIn}
 use Rattle.posting.proofs.hour.price.Statement.{statement}

@@ -1,6 +1,6 @@
 -- `posting::tally::tally_of` meets its contract. The loop's invariant: the tally holds the records passed. Each turn is the definition's next posting.
 use mathlib.Core.Path.{_≡_, _∙_, ap}
-use Prim.Native.Nat.{_*_, _-_, _≤_, _<_}
+use Prim.Native.Nat.{_*_, _-_, _≤_}
 use native.Mathlib.Omega.{arith}
 use lib.Dec.{lit<}
 use lib.IntN.{pos}
