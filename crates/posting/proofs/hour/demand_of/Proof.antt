@@ -1,39 +1,28 @@
-use Rattle.posting.specs.Hour.{hourIn}
+-- `posting::hour::demand_of` meets its contract: a load's word 4, and 0 for any other kind.
 use mathlib.Core.Path.{_≡_, sym, _∙_, ap}
-use Prim.Native.Nat.{ℕ}
-use mathlib.Core.Bool.{Bool, true, false, cond}
+use mathlib.Core.Bool.{true, false}
+use native.Mathlib.Omega.{arith}
 use Rattle.rules.specs.Record.{entry, entryOf, kindOf, isLoad}
 use Rattle.rules.specs.Posting.{demandOf}
-use borrow.Author.Needs.{needs}
+use Rattle.posting.specs.Hour.{hourIn}
 use Rattle.posting.proofs.hour.demand_of.Statement.{statement}
 use Rattle.posting.proofs.hour.demand_of.Tie as tie
-use Rattle.posting.proofs.hour.demand_of.Reads as reads
-use Rattle.posting.proofs.hour.demand_of.Lts as lts
-use Rattle.formula.proofs.entry.is_load.Reads as is-load-reads
-use Rattle.formula.proofs.entry.kind_of.Reads as kind-of-reads
-use Rattle.hourfile.proofs.record_word.Reads as record-word-reads
 
--- src/hour.rt:64:56
 record-word-requires : tie.Need-record-word-requires
-record-word-requires c κs = search needs
+record-word-requires c κs = tt
 
--- src/hour.rt:64:32
 kind-of-requires : tie.Need-kind-of-requires
-kind-of-requires c κs = search needs
+kind-of-requires c κs = tt
 
--- src/hour.rt:64:8
 is-load-requires : tie.Need-is-load-requires
-is-load-requires c κs = search needs
+is-load-requires c κs = tt
 
--- src/hour.rt:65:16
 record-word-requires-2 : tie.Need-record-word-requires-2
-record-word-requires-2 c κs = search needs
+record-word-requires-2 c κs = tt
 
--- src/hour.rt:65:16
 cast-result : tie.Need-cast-result
-cast-result c = search needs
+cast-result c = omega arith
 
--- src/hour.rt:65:9
 returns : tie.Need-returns
 unfolding demandOf entryOf entry
 returns c =
@@ -41,7 +30,6 @@ returns c =
     let load : isLoad (kindOf (hourIn (c .before .before .before .before .before .before .args .file .now) .rec (c .before .before .before .before .before .before .args .i) 0)) ≡ true = sym (ap isLoad kind) ∙ sym (c .before .before .is-load .ensures) ∙ c .before .if1 .taken in
     rw load (c .record-word2 .ensures)
 
--- src/hour.rt:61:1
 returns-2 : tie.Need-returns-2
 unfolding demandOf entryOf entry
 returns-2 c =

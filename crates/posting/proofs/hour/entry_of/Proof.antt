@@ -1,97 +1,68 @@
-use Rattle.posting.proofs.Wide.{word-is}
-use Prim.Native.Nat.{ℕ, _<_}
+-- `posting::hour::entry_of` meets its contract, letter by letter: each is one word of the record.
+use mathlib.Core.Path.{_∙_, ap}
 use native.Mathlib.Omega.{arith}
-use lib.IntN.{pos}
 use mir.Syntax.{w64}
-use mir.Val.{toZ}
 use mir.ValLaws.{toZ-ofZ}
 use borrow.Author.Needs.{sfits-of}
-use Rattle.whole.proofs.Machine.{i64-is}
-use Rattle.rules.specs.Record.{kindOf, signed}
-use mathlib.Core.Path.{_≡_, refl, sym, _∙_, ap}
-use Rattle.rules.specs.Record.{entry, entryOf}
-use borrow.Author.Needs.{needs}
+use Rattle.rules.specs.Record.{kindOf, signed, entry, entryOf}
+use Rattle.posting.proofs.Wide.{word-is}
 use Rattle.posting.proofs.hour.entry_of.Statement.{statement}
 use Rattle.posting.proofs.hour.entry_of.Tie as tie
-use Rattle.posting.proofs.hour.entry_of.Reads as reads
-use Rattle.posting.proofs.hour.entry_of.Lts as lts
-use Rattle.formula.proofs.entry.kind_of.Reads as kind-of-reads
-use Rattle.hourfile.proofs.record_word.Reads as record-word-reads
-use Rattle.hourfile.proofs.signed.Reads as signed-reads
 
--- src/hour.rt:48:39
 record-word-requires : tie.Need-record-word-requires
-record-word-requires c κs = search needs
+record-word-requires c κs = tt
 
--- src/hour.rt:48:15
 kind-of-requires : tie.Need-kind-of-requires
-kind-of-requires c κs = search needs
+kind-of-requires c κs = tt
 
--- src/hour.rt:49:12
 record-word-requires-2 : tie.Need-record-word-requires-2
-record-word-requires-2 c κs = search needs
+record-word-requires-2 c κs = tt
 
--- src/hour.rt:49:12
 cast-t6 : tie.Need-cast-t6
-cast-t6 c = search needs
+cast-t6 c = omega arith
 
--- src/hour.rt:50:12
 record-word-requires-3 : tie.Need-record-word-requires-3
-record-word-requires-3 c κs = search needs
+record-word-requires-3 c κs = tt
 
--- src/hour.rt:50:12
 cast-t8 : tie.Need-cast-t8
-cast-t8 c = search needs
+cast-t8 c = omega arith
 
--- src/hour.rt:51:29
 record-word-requires-4 : tie.Need-record-word-requires-4
-record-word-requires-4 c κs = search needs
+record-word-requires-4 c κs = tt
 
--- src/hour.rt:51:12
 signed-requires : tie.Need-signed-requires
-signed-requires c κs = search needs
+signed-requires c κs = tt
 
--- src/hour.rt:52:12
 record-word-requires-5 : tie.Need-record-word-requires-5
-record-word-requires-5 c κs = search needs
+record-word-requires-5 c κs = tt
 
--- src/hour.rt:52:12
 cast-t12 : tie.Need-cast-t12
-cast-t12 c = search needs
+cast-t12 c = omega arith
 
--- src/hour.rt:53:12
 record-word-requires-6 : tie.Need-record-word-requires-6
-record-word-requires-6 c κs = search needs
+record-word-requires-6 c κs = tt
 
--- src/hour.rt:53:12
 cast-t14 : tie.Need-cast-t14
-cast-t14 c = search needs
+cast-t14 c = omega arith
 
--- src/hour.rt:54:12
 record-word-requires-7 : tie.Need-record-word-requires-7
-record-word-requires-7 c κs = search needs
+record-word-requires-7 c κs = tt
 
--- src/hour.rt:54:12
 cast-t16 : tie.Need-cast-t16
-cast-t16 c = search needs
+cast-t16 c = omega arith
 
--- src/hour.rt:55:12
 record-word-requires-8 : tie.Need-record-word-requires-8
-record-word-requires-8 c κs = search needs
+record-word-requires-8 c κs = tt
 
--- src/hour.rt:55:12
 cast-t18 : tie.Need-cast-t18
-cast-t18 c = search needs
+cast-t18 c = omega arith
 
--- src/hour.rt:56:12
 record-word-requires-9 : tie.Need-record-word-requires-9
-record-word-requires-9 c κs = search needs
+record-word-requires-9 c κs = tt
 
--- src/hour.rt:56:12
 cast-t20 : tie.Need-cast-t20
-cast-t20 c = search needs
+cast-t20 c = omega arith
 
--- src/hour.rt:44:1
 returns : tie.Need-returns
 unfolding entryOf entry
 returns c = λ k. record {

@@ -1,20 +1,15 @@
+-- `posting::hour::member_of` meets its contract: it is the record's word 1.
+use native.Mathlib.Omega.{arith}
 use Rattle.rules.specs.Record.{memberOf}
-use borrow.Author.Needs.{needs}
 use Rattle.posting.proofs.hour.member_of.Statement.{statement}
 use Rattle.posting.proofs.hour.member_of.Tie as tie
-use Rattle.posting.proofs.hour.member_of.Reads as reads
-use Rattle.posting.proofs.hour.member_of.Lts as lts
-use Rattle.hourfile.proofs.record_word.Reads as record-word-reads
 
--- src/hour.rt:34:5
 record-word-requires : tie.Need-record-word-requires
-record-word-requires c κs = search needs
+record-word-requires c κs = tt
 
--- src/hour.rt:34:5
 cast-result : tie.Need-cast-result
-cast-result c = search needs
+cast-result c = omega arith
 
--- src/hour.rt:31:1
 returns : tie.Need-returns
 unfolding memberOf
 returns c = c .record-word .ensures
