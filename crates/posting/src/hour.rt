@@ -1,5 +1,5 @@
-// The numbers of an hour file as the sums take them. A reader of a file by a record's place is total: what the file has not is 0. A reader
-// of a record's part, as `hourfile::record` hands it out, tests nothing, so that a word costs one load.
+// The numbers of an hour file as the sums take them. Those of a record are read from its part of the file, as `hourfile::record` hands it
+// out, without a test: a word costs one load.
 ghost use mathlib.Core.Path.{_≡_};
 ghost use Prim.Native.Nat.{_<_};
 ghost use lib.ListN.{length};
@@ -31,47 +31,6 @@ pub fn price(file: &[u8], a: usize) -> i64
 {
     let zone = hourfile::whole_word(file, 16 + 4 * a) as usize;
     hourfile::signed(hourfile::whole_word(file, 12 + zone))
-}
-
-// ---- a record by its place
-
-pub fn member_of(file: &[u8], i: usize) -> usize
-    ensures { λ r. ⌜ r ≡ Record.memberOf (hourIn (now (file .entry))) i ⌝ }
-{
-    hourfile::record_word(file, i, 1) as usize
-}
-
-pub fn area_of(file: &[u8], i: usize) -> usize
-    ensures { λ r. ⌜ r ≡ Record.areaOf (hourIn (now (file .entry))) i ⌝ }
-{
-    hourfile::record_word(file, i, 2) as usize
-}
-
-// A record's numbers under document 01's letters.
-pub fn entry_of(file: &[u8], i: usize) -> Entry
-    ensures { λ r. ⌜ meant r ≡ Record.entryOf (hourIn (now (file .entry))) i ⌝ }
-{
-    Entry {
-        kind: formula::entry::kind_of(hourfile::record_word(file, i, 0)),
-        s: hourfile::record_word(file, i, 3) as i64,
-        a: hourfile::record_word(file, i, 4) as i64,
-        j: hourfile::signed(hourfile::record_word(file, i, 5)),
-        n: hourfile::record_word(file, i, 6) as i64,
-        o: hourfile::record_word(file, i, 7) as i64,
-        m: hourfile::record_word(file, i, 8) as i64,
-        f: hourfile::record_word(file, i, 9) as i64,
-        h: hourfile::record_word(file, i, 10) as i64,
-    }
-}
-
-// What a record demands of its area's UFE: only a load demands.
-pub fn demand_of(file: &[u8], i: usize) -> u64
-    ensures { λ r. ⌜ r ≡ demandOf (hourIn (now (file .entry))) i ⌝ }
-{
-    if formula::entry::is_load(formula::entry::kind_of(hourfile::record_word(file, i, 0))) {
-        return hourfile::record_word(file, i, 4) as u64;
-    }
-    0
 }
 
 // ---- a record by its part of the file
@@ -122,4 +81,36 @@ pub fn demand_in(row: &[u8]) -> u64
         return hourfile::whole_word(row, 4) as u64;
     }
     0
+}
+
+// ---- a record by its place, in a file that keeps its ranges
+
+pub fn member_of(file: &[u8], i: usize) -> usize
+    requires { ⌜ FileKept (now file) × (i < hourIn (now file) .count) ⌝ }
+    ensures { λ r. ⌜ r ≡ Record.memberOf (hourIn (now (file .entry))) i ⌝ }
+{
+    member_in(hourfile::record(file, i))
+}
+
+pub fn area_of(file: &[u8], i: usize) -> usize
+    requires { ⌜ FileKept (now file) × (i < hourIn (now file) .count) ⌝ }
+    ensures { λ r. ⌜ r ≡ Record.areaOf (hourIn (now (file .entry))) i ⌝ }
+{
+    area_in(hourfile::record(file, i))
+}
+
+// A record's numbers under document 01's letters.
+pub fn entry_of(file: &[u8], i: usize) -> Entry
+    requires { ⌜ FileKept (now file) × (i < hourIn (now file) .count) ⌝ }
+    ensures { λ r. ⌜ meant r ≡ Record.entryOf (hourIn (now (file .entry))) i ⌝ }
+{
+    entry_in(hourfile::record(file, i))
+}
+
+// What a record demands of its area's UFE: only a load demands.
+pub fn demand_of(file: &[u8], i: usize) -> u64
+    requires { ⌜ FileKept (now file) × (i < hourIn (now file) .count) ⌝ }
+    ensures { λ r. ⌜ r ≡ demandOf (hourIn (now (file .entry))) i ⌝ }
+{
+    demand_in(hourfile::record(file, i))
 }

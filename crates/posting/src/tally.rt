@@ -1,6 +1,6 @@
 // The hour's tally, posted in file order, and what it gives: each area's UFE, and refusal 6.
 ghost use mathlib.Core.Path.{_≡_};
-ghost use Prim.Native.Nat.{_<_};
+ghost use Prim.Native.Nat.{_+_, _<_};
 ghost use Rattle.rules.specs.Record as Record;
 ghost use Rattle.rules.specs.Ufe.{ufe};
 ghost use Rattle.rules.specs.Posting.{tallyAfter};
@@ -8,12 +8,23 @@ ghost use Rattle.rules.specs.Refusals.{foundAt, badArea};
 ghost use Rattle.rules.specs.Settling.{ufeFigures};
 ghost use Rattle.rules.specs.Kept.{FileKept};
 ghost use Rattle.posting.specs.Hour.{hourIn};
-ghost use Rattle.posting.specs.Posted.{Tallied};
+ghost use Rattle.posting.specs.Posted.{TalliedUpTo, Tallied};
 use rules::Found;
 use rules::Tally;
 
-// All records, in file order: the demand and the energy of each go to its own area. The tally is changed in place, for a tally that is handed
-// to a function and back is copied.
+// One record more: its demand and its energy go to its own area.
+pub fn tally_with(file: &[u8], t: Tally, i: usize) -> Tally
+    requires { ⌜ TalliedUpTo (now file) t i ⌝ }
+    ensures { λ r. ⌜ r ≡ tallyAfter (hourIn (now (file .entry))) (i + 1) ⌝ }
+{
+    let row = hourfile::record(file, i);
+    let area = crate::hour::area_in(row);
+    let demand = crate::hour::demand_in(row);
+    let energy = formula::deviation::accounted(crate::hour::entry_in(row));
+    formula::posting::tallied(t, area, demand, energy)
+}
+
+// All records, in file order.
 pub fn tally_of(file: &[u8]) -> Tally
     requires { ⌜ FileKept (now file) ⌝ }
     ensures { λ r. ⌜ r ≡ tallyAfter (hourIn (now (file .entry))) (hourIn (now (file .entry)) .count) ⌝ }
@@ -22,13 +33,7 @@ pub fn tally_of(file: &[u8]) -> Tally
     let mut t = formula::posting::empty_tally();
     let mut i = 0;
     while i < n {
-        let row = hourfile::record(file, i);
-        let area = crate::hour::area_in(row);
-        let demand = crate::hour::demand_in(row);
-        let energy = formula::deviation::accounted(crate::hour::entry_in(row));
-        t.records = t.records + 1;
-        t.demand[area] = t.demand[area] + demand;
-        t.energy[area] = t.energy[area] + energy;
+        t = tally_with(file, t, i);
         i += 1;
     }
     t
