@@ -1,4 +1,4 @@
-// The hour file: the block reader, and the words of a block, of the head and of a record. Any byte string and any position is taken;
+// The hour file: the block reader, the words of a block and of the head, and the part that is a record. Any byte string and any position is taken;
 // where a file has no such word, the word is 0. Refusals 1 to 5 are `examine`.
 ghost use mathlib.Core.Path.{_≡_};
 ghost use Prim.Native.Nat.{_+_, _*_, _/_, _≤_, _<_};
@@ -151,19 +151,6 @@ pub fn record(file: &[u8], i: usize) -> &[u8]
     let from = 544 + 48 * i + 32 * (i / 10);
     let to = from + 48;
     &file[from..to]
-}
-
-// Word `w` of record `i`.
-pub fn record_word(file: &[u8], i: usize, w: usize) -> u32
-    ensures { λ r. ⌜ r ≡ HourFile.hourOf hourly (now (file .entry)) .rec i w ⌝ }
-{
-    if records(file) <= i {
-        return 0;
-    }
-    if w < 12 {
-        return block_word(file, 1 + i / 10, 8 + 12 * (i % 10) + w);
-    }
-    0
 }
 
 // A word in two's complement.
