@@ -1,1 +1,2 @@
 pub mod Examined
+pub mod Rows

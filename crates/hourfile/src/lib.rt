@@ -1,4 +1,4 @@
-// The hour file: the block reader, and the words of a block, of the head and of a record. Any byte string and any position is taken;
+// The hour file: the block reader, the words of a block and of the head, and the part that is a record. Any byte string and any position is taken;
 // where a file has no such word, the word is 0. Refusals 1 to 5 are `examine`.
 ghost use mathlib.Core.Path.{_≡_};
 ghost use Prim.Native.Nat.{_+_, _*_, _/_, _≤_, _<_};
@@ -6,6 +6,7 @@ ghost use lib.ListN.{length, getD};
 ghost use Rattle.rules.specs.Record as Record;
 ghost use Rattle.rules.specs.HourFile as HourFile;
 ghost use Rattle.rules.specs.HourFile.{hourly};
+ghost use Rattle.hourfile.specs.Part.{recordPart};
 
 pub mod refusals;
 
@@ -66,8 +67,8 @@ fn byte(part: &[u8], i: usize) -> u32
     0
 }
 
-// Word `k` where all its bytes are there.
-fn whole_word(part: &[u8], k: usize) -> u32
+// Word `k` where all its bytes are there: one load.
+pub fn whole_word(part: &[u8], k: usize) -> u32
     requires { ⌜ 4 * k + 3 < length (now part) ⌝ }
     ensures { λ r. ⌜ r ≡ HourFile.word (now (part .entry)) k ⌝ }
 {
@@ -141,17 +142,15 @@ pub fn records(file: &[u8]) -> usize
     10 * (n - 2) + (block_word(file, n - 1, 2) as usize)
 }
 
-// Word `w` of record `i`.
-pub fn record_word(file: &[u8], i: usize, w: usize) -> u32
-    ensures { λ r. ⌜ r ≡ HourFile.hourOf hourly (now (file .entry)) .rec i w ⌝ }
+// Record `i`, a part of the file itself: 48 bytes, from byte 544 on; the 32 bytes of a block's own words lie before every ten. Whoever
+// reads several words of a record takes this part once.
+pub fn record(file: &[u8], i: usize) -> &[u8]
+    requires { ⌜ 592 + 48 * i + 32 * (i / 10) ≤ length (now file) ⌝ }
+    ensures { λ r. ⌜ now r ≡ recordPart (now (file .entry)) i ⌝ }
 {
-    if records(file) <= i {
-        return 0;
-    }
-    if w < 12 {
-        return block_word(file, 1 + i / 10, 8 + 12 * (i % 10) + w);
-    }
-    0
+    let from = 544 + 48 * i + 32 * (i / 10);
+    let to = from + 48;
+    &file[from..to]
 }
 
 // A word in two's complement.

@@ -2,7 +2,7 @@
 // looked through in its order and left at the first fault, so that a refused file costs no more than an accepted one.
 ghost use mathlib.Core.Path.{_≡_};
 ghost use mathlib.Core.Bool.{not, _&&_};
-ghost use Prim.Native.Nat.{_+_, _-_, _*_, _/_, _%_, _≤_};
+ghost use Prim.Native.Nat.{_+_, _-_, _*_, _%_, _≤_};
 ghost use lib.ListN.{length, take, drop};
 ghost use lib.Dec.{leb, eqb};
 ghost use Rattle.whole.specs.Below.{sumBelow, firstBelow};
@@ -169,16 +169,6 @@ enum Fault {
     Nowhere,
 }
 
-// Record `i`, a part of the file itself: 48 bytes, from byte 544 on; the 32 bytes of a block's own words lie before every ten.
-fn record(file: &[u8], i: usize) -> &[u8]
-    requires { ⌜ 592 + 48 * i + 32 * (i / 10) ≤ length (now file) ⌝ }
-    ensures { λ r. ⌜ now r ≡ take 48 (drop (544 + 48 * i + 32 * (i / 10)) (now (file .entry))) ⌝ }
-{
-    let from = 544 + 48 * i + 32 * (i / 10);
-    let to = from + 48;
-    &file[from..to]
-}
-
 // Whether word `w` of a record of this kind breaks kind, number, range or zero, in a file of so many members and areas.
 fn record_word_bad(row: &[u8], members: u32, areas: u32, kind: u32, w: usize) -> bool
     ensures { λ r. ⌜ r ≡ not (Ranges.keeps (Ranges.recordRule members areas kind w) (HourFile.word (now (row .entry)) w)) ⌝ }
@@ -197,7 +187,7 @@ fn first_fault(file: &[u8]) -> Fault
     let mut i = 0;
     let mut w = 0;
     'rows: while i < n {
-        let row = record(file, i);
+        let row = crate::record(file, i);
         let kind = crate::word(row, 0);
         w = 0;
         while w < 12 {

@@ -1,17 +1,16 @@
 -- An area's UFE over its loads: what is asked of the engine, and that its sizes, with the UFE's sign, are the shares of the area's records.
-use mathlib.Core.Path.{_≡_, refl, sym, _∙_, ap, ap₂}
-use mathlib.Core.Bool.{Bool, true, false, cond, _&&_}
+use mathlib.Core.Path.{_≡_, sym, _∙_, ap, ap₂}
+use mathlib.Core.Bool.{Bool, cond}
 use mathlib.Core.List.{List}
 use Prim.Native.Nat.{ℕ, _+_, _*_, _≤_, _<_, zero-le}
-use native.Mathlib.Nat.{le-refl}
 use native.Mathlib.Omega.{arith}
+use lib.Dec.{ltb, eqb}
 use lib.IntN.{ℤ, pos, natAbs}
 use lib.ListN.{length, getD}
-use lib.Dec.{ltb, eqb}
 use mir.Syntax.{w64}
 use mir.Val.{ofZ}
 use borrow.Author.Tests.{lt-ltb, le-ltb, eq-eqb, eqb-true, eqb-false, ltb-true, ltb-false}
-use Rattle.whole.specs.Below.{sumBelow, valuesBelow, replacingFirst}
+use Rattle.whole.specs.Below.{valuesBelow, replacingFirst}
 use Rattle.whole.specs.Signed.{withSignOf}
 use Rattle.whole.proofs.Tests.{split, cond-ind}
 use Rattle.whole.proofs.Ranges.{u-fits}
@@ -22,7 +21,6 @@ use Rattle.rules.specs.Record.{Hour, areas, areaOf, isLoad}
 use Rattle.rules.specs.Ufe.{inArea, ufe, demand, demands}
 use Rattle.rules.specs.Share.{allDemand, shareSize}
 use Rattle.rules.specs.Charge.{shareOf}
-use Rattle.rules.specs.Settling.{ufeFigures}
 use Rattle.rules.specs.Kept.{HourKept}
 use Rattle.rules.proofs.Shares.{size-ext, size-at-most}
 use Rattle.rules.proofs.Fair.{share-in}

@@ -1,21 +1,20 @@
 -- A record posted to its member's line: there is room, and the lines then hold one record more.
-use mathlib.Core.Path.{_≡_, refl, sym, _∙_, ap}
-use mathlib.Core.Bool.{Bool, true, false, cond}
+use mathlib.Core.Path.{_≡_, sym, _∙_, ap}
 use mathlib.Core.List.{List}
-use Prim.Native.Nat.{ℕ, _+_, _≤_, _<_}
+use Prim.Native.Nat.{ℕ, _+_, _<_}
 use native.Mathlib.Nat.{le-of-lt}
 use native.Mathlib.Omega.{arith}
 use lib.Dec.{eqb}
 use lib.IntN.{ℤ, pos, _+ℤ_}
-use lib.ListN.{length, getD, set}
-use Rattle.whole.specs.Below.{oneIf, countBelow, totalBelow, replacingFirst}
+use lib.ListN.{length, getD}
+use Rattle.whole.specs.Below.{replacingFirst}
 use Rattle.whole.proofs.Ranges.{_u+_, u-fits}
 use Rattle.whole.proofs.Sums.{counted-if, count-none, count-add-one, count-most}
 use Rattle.whole.proofs.Totals.{added-if, total-none, total-add-one}
 use Rattle.whole.proofs.Buffers.{getD-replacing, length-replacing, replacing-ext, replacing-changed, replacing-same}
 use Rattle.rules.specs.Record.{Hour, members, memberOf}
 use Rattle.rules.specs.Charge.{grains, amount, recordsOf}
-use Rattle.rules.specs.Kept.{HourKept, FileKept}
+use Rattle.rules.specs.Kept.{FileKept}
 use Rattle.rules.proofs.Bounds.{amount-running, grains-under}
 use Rattle.formula.specs.Room.{LineRoom}
 use Rattle.posting.specs.Hour.{hourIn}

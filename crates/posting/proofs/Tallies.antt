@@ -1,5 +1,5 @@
 -- The tally of an hour that keeps its ranges: each posting has room, and the next record's posting is the next tally.
-use mathlib.Core.Path.{_≡_, refl, sym, _∙_, ap}
+use mathlib.Core.Path.{_≡_, sym, _∙_, ap}
 use mathlib.Core.Bool.{Bool, true, false, not, and-false, _&&_}
 use mathlib.Core.List.{List}
 use Prim.Native.Nat.{ℕ, _+_, _≤_, _<_, zero-le}
@@ -11,7 +11,7 @@ use lib.IntN.{ℤ, pos, natAbs, _+ℤ_, _-ℤ_, _*ℤ_}
 use lib.ListN.{getD, replicate, getD-replicate}
 use lib.Seq.{ext-getD}
 use mir.Syntax.{w64}
-use mir.Val.{SFits, ofZ}
+use mir.Val.{ofZ}
 use borrow.Author.Tests.{ltb-true, ltb-false, eq-eqb, ne-eqb}
 use Rattle.whole.specs.Below.{replacingFirst}
 use Rattle.whole.specs.Signed.{Under}
@@ -26,7 +26,7 @@ use Rattle.rules.specs.Deviation.{unitsPerKWh}
 use Rattle.rules.specs.Ufe.{ufe, demand, demands}
 use Rattle.rules.specs.Posting.{accounted, tallied, demandOf, tallyAfter}
 use Rattle.rules.specs.Settling.{ufeFigures}
-use Rattle.rules.specs.Kept.{HourKept, FileKept}
+use Rattle.rules.specs.Kept.{HourKept}
 use Rattle.rules.proofs.Posting.{tally-records, tally-demand, tally-energy, tally-gives-demands, tally-gives-ufe}
 use Rattle.rules.proofs.Bounds.{accounted-under, demand-running, energy-running, ufe-under}
 use Rattle.formula.specs.Room.{TallyRoom}

@@ -12,7 +12,7 @@ pub fn deviation_of(file: &[u8], i: usize) -> i64
     requires { ⌜ FileKept (now file) × (i < hourIn (now file) .count) ⌝ }
     ensures { λ r. ⌜ r ≡ deviation (entryOf (hourIn (now (file .entry))) i) ⌝ }
 {
-    formula::deviation::deviation(crate::hour::entry_of(file, i))
+    formula::deviation::deviation(crate::hour::entry_in(hourfile::record(file, i)))
 }
 
 // One a record, into the first places; the places past them are unchanged.

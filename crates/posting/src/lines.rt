@@ -18,8 +18,9 @@ pub fn grains(file: &[u8], i: usize, deviation: i64, share: i64) -> i64
     requires { ⌜ Worked (now file) i deviation share ⌝ }
     ensures { λ r. ⌜ r ≡ Charge.grains (hourIn (now (file .entry))) i ⌝ }
 {
-    let kind = formula::entry::kind_of(hourfile::record_word(file, i, 0));
-    let price = crate::hour::price(file, crate::hour::area_of(file, i));
+    let row = hourfile::record(file, i);
+    let kind = crate::hour::kind_in(row);
+    let price = crate::hour::price(file, crate::hour::area_in(row));
     price * (formula::deviation::entering(kind, deviation) + share)
 }
 
@@ -43,7 +44,7 @@ fn post(file: &[u8], i: usize, deviation: i64, share: i64, amounts: &mut [i64], 
     ensures of_amounts { λ _. ⌜ now (amounts .exit) ≡ amountsWith (hourIn (now (file .entry))) i (now (amounts .entry)) ⌝ }
     ensures of_counts { λ _. ⌜ now (counts .exit) ≡ countsWith (hourIn (now (file .entry))) i (now (counts .entry)) ⌝ }
 {
-    let m = crate::hour::member_of(file, i);
+    let m = crate::hour::member_in(hourfile::record(file, i));
     let before = Line {
         amount: amounts[m],
         records: counts[m],

@@ -9,36 +9,40 @@ ghost use Rattle.whole.specs.Below.{valuesBelow, replacingFirst};
 ghost use Rattle.whole.specs.Signed.{withSignOf};
 ghost use Rattle.rules.specs.Record.{areaOf};
 ghost use Rattle.rules.specs.Charge.{shareOf};
+ghost use Rattle.rules.specs.Kept.{FileKept};
 ghost use Rattle.posting.specs.Hour.{hourIn};
 ghost use Rattle.posting.specs.Shared.{demandIn, sharesBelow, withSizes, Sharing, SharedUpTo};
 
 // What a record demands of an area's UFE: 0 unless it is a load there.
-fn demand_in(file: &[u8], a: usize, i: usize) -> u64
+fn demand_there(file: &[u8], a: usize, i: usize) -> u64
+    requires { ⌜ FileKept (now file) × (i < hourIn (now file) .count) ⌝ }
     ensures { λ r. ⌜ r ≡ demandIn (hourIn (now (file .entry))) a i ⌝ }
 {
-    if crate::hour::area_of(file, i) == a {
-        return crate::hour::demand_of(file, i);
+    let row = hourfile::record(file, i);
+    if crate::hour::area_in(row) == a {
+        return crate::hour::demand_in(row);
     }
     0
 }
 
 // The demands of an area's loads, with 0 for every other record, so that the engine can take all records as they stand.
 fn put_demands(file: &[u8], a: usize, out: &mut [u64])
+    requires { ⌜ FileKept (now file) × (length (now out) ≡ hourIn (now file) .count) ⌝ }
     ensures { λ _. ⌜ now (out .exit) ≡ valuesBelow (demandIn (hourIn (now (file .entry))) a) (length (now (out .entry))) ⌝ }
 {
     let mut i = 0;
     while i < out.len() {
-        out[i] = demand_in(file, a, i);
+        out[i] = demand_there(file, a, i);
         i += 1;
     }
 }
 
 // A record's share where the area's sizes are known: the size with the UFE's sign, or for another area's record what it had.
 fn share_in(file: &[u8], a: usize, i: usize, ufe: i64, size: u64, before: i64) -> i64
-    requires { ⌜ size < 9223372036854775808 ⌝ }
+    requires { ⌜ FileKept (now file) × (i < hourIn (now file) .count) × (size < 9223372036854775808) ⌝ }
     ensures { λ r. ⌜ r ≡ cond (eqb (areaOf (hourIn (now (file .entry))) i) a) (withSignOf ufe size) before ⌝ }
 {
-    if crate::hour::area_of(file, i) == a {
+    if crate::hour::area_in(hourfile::record(file, i)) == a {
         return sign::with_sign_of(ufe, size);
     }
     before
@@ -46,7 +50,7 @@ fn share_in(file: &[u8], a: usize, i: usize, ufe: i64, size: u64, before: i64) -
 
 // An area's sizes, with the UFE's sign, to its own records.
 fn put_area(file: &[u8], figures: [i64; 8], a: usize, sizes: &[u64], out: &mut [i64])
-    requires { ⌜ (a < 8) × (length (now sizes) ≤ length (now out)) × ((i : ℕ) → i < length (now sizes) → getD (now sizes) i 0 < 9223372036854775808) ⌝ }
+    requires { ⌜ FileKept (now file) × (length (now sizes) ≡ hourIn (now file) .count) × (a < 8) × (length (now sizes) ≤ length (now out)) × ((i : ℕ) → i < length (now sizes) → getD (now sizes) i 0 < 9223372036854775808) ⌝ }
     ensures { λ _. ⌜ now (out .exit) ≡ replacingFirst (withSizes (hourIn (now (file .entry))) a (getD figures a (pos 0)) (now (sizes .entry)) (now (out .entry))) (length (now (sizes .entry))) (now (out .entry)) ⌝ }
 {
     let mut i = 0;

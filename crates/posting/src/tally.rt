@@ -17,9 +17,10 @@ pub fn tally_with(file: &[u8], t: Tally, i: usize) -> Tally
     requires { ⌜ TalliedUpTo (now file) t i ⌝ }
     ensures { λ r. ⌜ r ≡ tallyAfter (hourIn (now (file .entry))) (i + 1) ⌝ }
 {
-    let area = crate::hour::area_of(file, i);
-    let demand = crate::hour::demand_of(file, i);
-    let energy = formula::deviation::accounted(crate::hour::entry_of(file, i));
+    let row = hourfile::record(file, i);
+    let area = crate::hour::area_in(row);
+    let demand = crate::hour::demand_in(row);
+    let energy = formula::deviation::accounted(crate::hour::entry_in(row));
     formula::posting::tallied(t, area, demand, energy)
 }
 

@@ -1,22 +1,22 @@
 -- Settling's answers, row by row: what each refusal leaves, and what acceptance does.
 use mathlib.Core.Path.{_≡_, refl, sym, _∙_, ap}
-use mathlib.Core.Bool.{Bool, true, false, cond}
+use mathlib.Core.Bool.{false}
 use mathlib.Core.Option.{none, some}
 use mathlib.Core.List.{List, [], _∷_, _++_, append-assoc}
 use Prim.Native.Nat.{ℕ}
 use lib.IntN.{ℤ}
-use Rattle.whole.proofs.Tests.{split, never}
+use Rattle.whole.proofs.Tests.{split}
 use Rattle.rules.specs.declared.Answer.{Answer}
 use Rattle.rules.specs.declared.Answer.the-variants.{Accepted, BadLength, BadSum, BadBlock, BadHead, BadRecord, BadArea, BadAmount, OutOfRange, TooNarrow, NotAnAmount, TooShort}
 use Rattle.rules.specs.Record.{Hour}
-use Rattle.rules.specs.Refusals.{Row, row, Verdict, accepted, refusedAt, verdictOf, verdict, badArea, badAmount, sumRows, fileRows, hourRows}
+use Rattle.rules.specs.Refusals.{row, accepted, verdictOf, verdict, badArea, badAmount, sumRows, fileRows, hourRows}
 use Rattle.rules.specs.Settling.{isAccepted, ufeFigures, noFigures}
 use Rattle.rules.specs.Promises.{AllWhole}
 use Rattle.rules.specs.Kept.{FileKept}
 use Rattle.rules.proofs.Rows.{accepts-when-whole, refused-first, passed-on, file-numbered, one-answer}
 use Rattle.rules.proofs.Kept.{file-kept}
 use Rattle.posting.specs.Hour.{hourIn}
-use Rattle.settle.specs.Parallel.{Lent, lentRow, parallelRows, filledLent, Outcome, settleParallel, FitsParallel, lastRows, Finished}
+use Rattle.settle.specs.Parallel.{Lent, lentRow, parallelRows, filledLent, settleParallel, FitsParallel, lastRows, Finished}
 
 -- every answer but acceptance has a number
 pub numbered : (a : Answer) → (a ≡ Accepted → ⊥) → isAccepted (verdictOf a) ≡ false

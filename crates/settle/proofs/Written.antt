@@ -1,34 +1,32 @@
 -- What `settle` answered and wrote, from its promise alone. It is what `rules` settles where the two lists of amounts and counts are one list
 -- of lines, so that the three demands hold of it; and nothing else fits.
-use mathlib.Core.Path.{_≡_, refl, sym, _∙_, ap, ap₂}
-use mathlib.Core.Bool.{Bool, true, false, cond}
+use mathlib.Core.Path.{_≡_, sym, _∙_, ap, ap₂}
 use mathlib.Core.List.{List, [], _∷_, _++_}
 use Prim.Native.Nat.{ℕ, _≤_, _<_}
 use native.Mathlib.Omega.{arith}
+use lib.Dec.{ltb}
 use lib.IntN.{ℤ, pos}
 use lib.ListN.{length, getD}
 use lib.Seq.{ext-getD}
-use lib.Dec.{ltb}
 use borrow.Author.Tests.{ltb-true, ltb-false, eqb-true}
 use Rattle.whole.specs.Below.{valuesBelow, replacingFirst}
 use Rattle.whole.proofs.Tests.{split}
 use Rattle.whole.proofs.Buffers.{length-values, getD-values, length-replacing, getD-replacing, getD-kept}
 use Rattle.rules.specs.declared.Answer.{Answer}
 use Rattle.rules.specs.declared.Answer.the-variants.{Accepted}
-use Rattle.rules.specs.declared.Line.{Line}
 use Rattle.rules.specs.declared.Settled.{Settled}
 use Rattle.rules.specs.Record.{Hour, members}
 use Rattle.rules.specs.Charge.{amount, recordsOf}
 use Rattle.rules.specs.Refusals.{Row, row, tooShort, hourRows, verdict}
-use Rattle.rules.specs.Settling.{Buffers, Settlement, isAccepted, bufferRows, settleRows, lineOf, filled, settle}
+use Rattle.rules.specs.Settling.{Settlement, isAccepted, bufferRows, settleRows, lineOf, filled, settle}
 use Rattle.rules.specs.Posting.{emptyLine}
 use Rattle.rules.specs.Promises.{Accepts, ByFormula, Fits}
 use Rattle.rules.specs.Outcome.{FairOutcome}
 use Rattle.rules.proofs.Rows.{one-answer, settle-accepts, settle-verdict, settle-numbered, zero-accepts, whole-parts}
-use Rattle.rules.proofs.Demands.{Room, buffers-room}
+use Rattle.rules.proofs.Demands.{buffers-room}
 use Rattle.rules.proofs.Outcome.{by-formula, fair-outcome}
 use Rattle.posting.specs.Hour.{hourIn}
-use Rattle.settle.specs.Parallel.{Lent, lines, lentRow, parallelRows, filledLent, Outcome, settleParallel, FitsParallel}
+use Rattle.settle.specs.Parallel.{Lent, lines, lentRow, parallelRows, filledLent, settleParallel, FitsParallel}
 use Rattle.settle.specs.Written.{lineAt, asBuffers}
 
 -- ---- two lists or one

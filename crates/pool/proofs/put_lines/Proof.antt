@@ -70,7 +70,7 @@ there : (c : tie.In-loop Inv-loop μ-loop) → c .before .loop .i < h (c .before
 there c = omega arith
 
 member-of-requires : tie.Need-member-of-requires Inv-loop μ-loop
-member-of-requires c κs = tt
+member-of-requires c κs = (start (c .before) .pre .0 .kept, there c)
 
 mul-grains : tie.Need-mul-grains Inv-loop μ-loop
 mul-grains c = omega (arith, there (c .before), start (c .before .before) .pre .0 .deviations-room)

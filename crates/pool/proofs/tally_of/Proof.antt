@@ -34,13 +34,13 @@ unfolding tallyAfter
 loop-holds c = (omega arith, c .empty-tally .ensures)
 
 area-of-requires : tie.Need-area-of-requires Inv-loop μ-loop
-area-of-requires c κs = tt
+area-of-requires c κs = (c .before .before .before .before .before .pre, omega arith)
 
 demand-of-requires : tie.Need-demand-of-requires Inv-loop μ-loop
-demand-of-requires c κs = tt
+demand-of-requires c κs = (c .before .before .before .before .before .before .pre, omega arith)
 
 entry-of-requires : tie.Need-entry-of-requires Inv-loop μ-loop
-entry-of-requires c κs = tt
+entry-of-requires c κs = (c .before .before .before .before .before .before .before .pre, omega arith)
 
 -- a turn: record i, of which the tally has those before it
 module _ (c : tie.After-demand-of Inv-loop μ-loop) where

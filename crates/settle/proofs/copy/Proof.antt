@@ -1,17 +1,16 @@
-use mathlib.Core.Path.{_≡_, refl, sym, _∙_, ap}
+-- `settle::copy` meets its contract. The loop's invariant: the places passed hold what is held there.
+use mathlib.Core.Path.{_≡_, sym, _∙_, ap}
 use Prim.Native.Nat.{_-_, _≤_}
 use native.Mathlib.Omega.{arith}
+use lib.IntN.{pos}
 use lib.ListN.{length, getD}
-use Rattle.whole.specs.Below.{replacingFirst}
-use Rattle.whole.proofs.Buffers.{replacing-none, written-length, written-next}
 use mir.Syntax.{w64}
 use mir.ValLaws.{toZ-ofZ}
 use borrow.Author.Needs.{sfits-of}
-use lib.IntN.{pos}
+use Rattle.whole.specs.Below.{replacingFirst}
+use Rattle.whole.proofs.Buffers.{replacing-none, written-length, written-next}
 use Rattle.settle.proofs.copy.Statement.{statement}
 use Rattle.settle.proofs.copy.Tie as tie
-use Rattle.settle.proofs.copy.Reads as reads
-use Rattle.settle.proofs.copy.Lts as lts
 
 abbrev Inv-loop : tie.InvT-loop
 Inv-loop held out₀ i₀ out i = (i ≤ length held) × (out ≡ replacingFirst (λ k. getD held k (pos 0)) i out₀)
@@ -19,43 +18,33 @@ Inv-loop held out₀ i₀ out i = (i ≤ length held) × (out ≡ replacingFirst
 abbrev μ-loop : tie.MeasureT-loop
 μ-loop held out₀ i₀ out i = length held - i
 
--- src/lib.rt:64:5
 loop-holds : tie.Need-loop-holds Inv-loop μ-loop
 loop-holds c = (omega arith, sym (replacing-none _ _))
 
--- src/lib.rt:65:18
 mul-out : tie.Need-mul-out Inv-loop μ-loop
 mul-out c = omega arith
 
--- src/lib.rt:65:18
 shared-slice-copy-out-out : tie.Need-shared-slice-copy-out-out Inv-loop μ-loop
 shared-slice-copy-out-out c = omega arith
 
--- src/lib.rt:65:9
 mul-t8 : tie.Need-mul-t8 Inv-loop μ-loop
 mul-t8 c = omega arith
 
--- src/lib.rt:65:9
 slice-set-from-out : tie.Need-slice-set-from-out Inv-loop μ-loop
 slice-set-from-out c = omega (arith, written-length _ _ _ _ (c .before .before .loop .inv .1) (omega arith))
 
--- src/lib.rt:66:9
 add-i : tie.Need-add-i Inv-loop μ-loop
 add-i c = omega arith
 
--- src/lib.rt:64:5
 loop-less : tie.Need-loop-less Inv-loop μ-loop
 loop-less c = omega arith
 
--- src/lib.rt:64:5
 loop-again : tie.Need-loop-again Inv-loop μ-loop
 loop-again c = (omega arith, written-next _ _ _ _ (c .before .before .loop .inv .1) _ (omega arith) (toZ-ofZ w64 (getD (c .before .before .before .args .held .now) (c .before .before .loop .i) (pos 0)) (sfits-of (c .out .given))))
 
--- src/lib.rt:59:1
 same-length : tie.Need-same-length Inv-loop μ-loop
 same-length c = written-length _ _ _ _ (c .before .loop .inv .1) (omega arith)
 
--- src/lib.rt:59:1
 returns : tie.Need-returns Inv-loop μ-loop
 returns c =
     let start = c .before .before in

@@ -1,3 +1,4 @@
+-- `settle::copy_counts` meets its contract. The loop's invariant: the places passed hold what is held there.
 use mathlib.Core.Path.{_≡_, refl, sym, _∙_, ap}
 use Prim.Native.Nat.{_-_, _≤_}
 use native.Mathlib.Omega.{arith}
@@ -6,8 +7,6 @@ use Rattle.whole.specs.Below.{replacingFirst}
 use Rattle.whole.proofs.Buffers.{replacing-none, written-length, written-next}
 use Rattle.settle.proofs.copy_counts.Statement.{statement}
 use Rattle.settle.proofs.copy_counts.Tie as tie
-use Rattle.settle.proofs.copy_counts.Reads as reads
-use Rattle.settle.proofs.copy_counts.Lts as lts
 
 abbrev Inv-loop : tie.InvT-loop
 Inv-loop held out₀ i₀ out i = (i ≤ length held) × (out ≡ replacingFirst (λ k. getD held k 0) i out₀)
@@ -15,43 +14,33 @@ Inv-loop held out₀ i₀ out i = (i ≤ length held) × (out ≡ replacingFirst
 abbrev μ-loop : tie.MeasureT-loop
 μ-loop held out₀ i₀ out i = length held - i
 
--- src/lib.rt:75:5
 loop-holds : tie.Need-loop-holds Inv-loop μ-loop
 loop-holds c = (omega arith, sym (replacing-none _ _))
 
--- src/lib.rt:76:18
 mul-out : tie.Need-mul-out Inv-loop μ-loop
 mul-out c = omega arith
 
--- src/lib.rt:76:18
 shared-slice-read-out : tie.Need-shared-slice-read-out Inv-loop μ-loop
 shared-slice-read-out c = omega arith
 
--- src/lib.rt:76:9
 mul-out-2 : tie.Need-mul-out-2 Inv-loop μ-loop
 mul-out-2 c = omega arith
 
--- src/lib.rt:76:9
 slice-write-out : tie.Need-slice-write-out Inv-loop μ-loop
 slice-write-out c = omega (arith, written-length _ _ _ _ (c .before .before .loop .inv .1) (omega arith))
 
--- src/lib.rt:77:9
 add-i : tie.Need-add-i Inv-loop μ-loop
 add-i c = omega arith
 
--- src/lib.rt:75:5
 loop-less : tie.Need-loop-less Inv-loop μ-loop
 loop-less c = omega arith
 
--- src/lib.rt:75:5
 loop-again : tie.Need-loop-again Inv-loop μ-loop
 loop-again c = (omega arith, written-next _ _ _ _ (c .before .before .loop .inv .1) _ (omega arith) refl)
 
--- src/lib.rt:70:1
 same-length : tie.Need-same-length Inv-loop μ-loop
 same-length c = written-length _ _ _ _ (c .before .loop .inv .1) (omega arith)
 
--- src/lib.rt:70:1
 returns : tie.Need-returns Inv-loop μ-loop
 returns c =
     let start = c .before .before in

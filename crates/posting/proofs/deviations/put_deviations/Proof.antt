@@ -1,20 +1,17 @@
-use Rattle.whole.proofs.Buffers.{replacing-none, written-length, written-next}
+-- `posting::deviations::put_deviations` meets its contract. The loop's invariant: the places passed hold the deviations.
+use mathlib.Core.Path.{_≡_, sym, _∙_, ap}
+use Prim.Native.Nat.{_-_, _≤_}
+use native.Mathlib.Omega.{arith}
 use mir.Syntax.{w64}
 use mir.ValLaws.{toZ-ofZ}
 use borrow.Author.Needs.{sfits-of}
-use mathlib.Core.Path.{_≡_, refl, sym, _∙_, ap}
-use Prim.Native.Nat.{_-_, _≤_}
-use native.Mathlib.Omega.{arith}
 use Rattle.whole.specs.Below.{replacingFirst}
+use Rattle.whole.proofs.Buffers.{replacing-none, written-length, written-next}
 use Rattle.rules.specs.Record.{entryOf}
 use Rattle.rules.specs.Deviation.{deviation}
 use Rattle.posting.specs.Hour.{hourIn}
 use Rattle.posting.proofs.deviations.put_deviations.Statement.{statement}
 use Rattle.posting.proofs.deviations.put_deviations.Tie as tie
-use Rattle.posting.proofs.deviations.put_deviations.Reads as reads
-use Rattle.posting.proofs.deviations.put_deviations.Lts as lts
-use Rattle.hourfile.proofs.records.Reads as records-reads
-use Rattle.posting.proofs.deviations.deviation_of.Reads as deviation-of-reads
 
 abbrev Inv-loop : tie.InvT-loop
 Inv-loop file out₀ n i₀ out i = (i ≤ n) × (out ≡ replacingFirst (λ k. deviation (entryOf (hourIn file) k)) i out₀)
@@ -22,43 +19,33 @@ Inv-loop file out₀ n i₀ out i = (i ≤ n) × (out ≡ replacingFirst (λ k. 
 abbrev μ-loop : tie.MeasureT-loop
 μ-loop file out₀ n i₀ out i = n - i
 
--- src/deviations.rt:23:9
 records-requires : tie.Need-records-requires Inv-loop μ-loop
 records-requires c κs = tt
 
--- src/deviations.rt:25:5
 loop-holds : tie.Need-loop-holds Inv-loop μ-loop
 loop-holds c = (omega arith, sym (replacing-none _ _))
 
--- src/deviations.rt:26:18
 deviation-of-requires : tie.Need-deviation-of-requires Inv-loop μ-loop
 deviation-of-requires c κs = (c .before .before .before .before .pre .0, omega arith)
 
--- src/deviations.rt:26:9
 mul-t7 : tie.Need-mul-t7 Inv-loop μ-loop
 mul-t7 c = let len = written-length _ _ _ _ (c .before .before .loop .inv .1) (omega (arith, c .before .before .before .before .before .pre)) in omega arith
 
--- src/deviations.rt:26:9
 slice-set-from-out : tie.Need-slice-set-from-out Inv-loop μ-loop
 slice-set-from-out c = let len = written-length _ _ _ _ (c .before .before .loop .inv .1) (omega (arith, c .before .before .before .before .before .pre)) in omega (arith, c .before .before .before .before .before .pre)
 
--- src/deviations.rt:27:9
 add-i : tie.Need-add-i Inv-loop μ-loop
 add-i c = omega arith
 
--- src/deviations.rt:25:5
 loop-less : tie.Need-loop-less Inv-loop μ-loop
 loop-less c = omega arith
 
--- src/deviations.rt:25:5
 loop-again : tie.Need-loop-again Inv-loop μ-loop
 loop-again c = (omega arith, written-next _ _ _ _ (c .before .before .loop .inv .1) _ (omega (arith, c .before .before .before .before .before .pre)) (toZ-ofZ w64 _ (sfits-of (c .deviation-of .ok)) ∙ c .deviation-of .ensures))
 
--- src/deviations.rt:19:1
 same-length : tie.Need-same-length Inv-loop μ-loop
 same-length c = written-length _ _ _ _ (c .before .loop .inv .1) (omega (arith, c .before .before .before .before .pre))
 
--- src/deviations.rt:19:1
 returns : tie.Need-returns Inv-loop μ-loop
 returns c =
     let h = hourIn (c .before .before .before .before .args .file .now) in

@@ -1,131 +1,18 @@
-use Rattle.posting.proofs.Wide.{word-is}
-use Prim.Native.Nat.{ℕ, _<_}
-use native.Mathlib.Omega.{arith}
-use lib.IntN.{pos}
-use mir.Syntax.{w64}
-use mir.Val.{toZ}
-use mir.ValLaws.{toZ-ofZ}
-use borrow.Author.Needs.{sfits-of}
-use Rattle.whole.proofs.Machine.{i64-is}
-use Rattle.rules.specs.Record.{kindOf, signed}
-use mathlib.Core.Path.{_≡_, refl, sym, _∙_, ap}
-use Rattle.rules.specs.Record.{entry, entryOf}
-use borrow.Author.Needs.{needs}
+-- `posting::hour::entry_of` meets its contract: the record's part has the record's numbers.
+use mathlib.Core.Path.{_∙_}
+use Rattle.hourfile.proofs.Rows.{record-inside, row-length}
+use Rattle.posting.proofs.Rows.{row-entry}
 use Rattle.posting.proofs.hour.entry_of.Statement.{statement}
 use Rattle.posting.proofs.hour.entry_of.Tie as tie
-use Rattle.posting.proofs.hour.entry_of.Reads as reads
-use Rattle.posting.proofs.hour.entry_of.Lts as lts
-use Rattle.formula.proofs.entry.kind_of.Reads as kind-of-reads
-use Rattle.hourfile.proofs.record_word.Reads as record-word-reads
-use Rattle.hourfile.proofs.signed.Reads as signed-reads
 
--- src/hour.rt:48:39
-record-word-requires : tie.Need-record-word-requires
-record-word-requires c κs = search needs
+record-requires : tie.Need-record-requires
+record-requires c κs = record-inside (c .before .pre .0) (c .before .pre .1)
 
--- src/hour.rt:48:15
-kind-of-requires : tie.Need-kind-of-requires
-kind-of-requires c κs = search needs
+entry-in-requires : tie.Need-entry-in-requires
+entry-in-requires c κs = let start = c .before .before in row-length (start .pre .0) (start .pre .1) (c .record .ensures)
 
--- src/hour.rt:49:12
-record-word-requires-2 : tie.Need-record-word-requires-2
-record-word-requires-2 c κs = search needs
-
--- src/hour.rt:49:12
-cast-t6 : tie.Need-cast-t6
-cast-t6 c = search needs
-
--- src/hour.rt:50:12
-record-word-requires-3 : tie.Need-record-word-requires-3
-record-word-requires-3 c κs = search needs
-
--- src/hour.rt:50:12
-cast-t8 : tie.Need-cast-t8
-cast-t8 c = search needs
-
--- src/hour.rt:51:29
-record-word-requires-4 : tie.Need-record-word-requires-4
-record-word-requires-4 c κs = search needs
-
--- src/hour.rt:51:12
-signed-requires : tie.Need-signed-requires
-signed-requires c κs = search needs
-
--- src/hour.rt:52:12
-record-word-requires-5 : tie.Need-record-word-requires-5
-record-word-requires-5 c κs = search needs
-
--- src/hour.rt:52:12
-cast-t12 : tie.Need-cast-t12
-cast-t12 c = search needs
-
--- src/hour.rt:53:12
-record-word-requires-6 : tie.Need-record-word-requires-6
-record-word-requires-6 c κs = search needs
-
--- src/hour.rt:53:12
-cast-t14 : tie.Need-cast-t14
-cast-t14 c = search needs
-
--- src/hour.rt:54:12
-record-word-requires-7 : tie.Need-record-word-requires-7
-record-word-requires-7 c κs = search needs
-
--- src/hour.rt:54:12
-cast-t16 : tie.Need-cast-t16
-cast-t16 c = search needs
-
--- src/hour.rt:55:12
-record-word-requires-8 : tie.Need-record-word-requires-8
-record-word-requires-8 c κs = search needs
-
--- src/hour.rt:55:12
-cast-t18 : tie.Need-cast-t18
-cast-t18 c = search needs
-
--- src/hour.rt:56:12
-record-word-requires-9 : tie.Need-record-word-requires-9
-record-word-requires-9 c κs = search needs
-
--- src/hour.rt:56:12
-cast-t20 : tie.Need-cast-t20
-cast-t20 c = search needs
-
--- src/hour.rt:44:1
 returns : tie.Need-returns
-unfolding entryOf entry
-returns c = λ k. record {
-  kind = (c .before .before .before .before .before .before .before .before .before .kind-of .ensures ∙ ap kindOf (c .before .before .before .before .before .before .before .before .before .before .record-word .ensures)) k;
-  S = (word-is (c .before .before .before .before .before .before .before .before .record-word2 .ok) (c .before .before .before .before .before .before .before .before .record-word2 .ensures)) k;
-  A = (word-is (c .before .before .before .before .before .before .before .record-word3 .ok) (c .before .before .before .before .before .before .before .record-word3 .ensures)) k;
-  J = (toZ-ofZ w64 _ (sfits-of (c .before .before .before .before .before .signed .ok)) ∙ c .before .before .before .before .before .signed .ensures ∙ ap signed (c .before .before .before .before .before .before .record-word4 .ensures)) k;
-  N = (word-is (c .before .before .before .before .record-word5 .ok) (c .before .before .before .before .record-word5 .ensures)) k;
-  O = (word-is (c .before .before .before .record-word6 .ok) (c .before .before .before .record-word6 .ensures)) k;
-  M = (word-is (c .before .before .record-word7 .ok) (c .before .before .record-word7 .ensures)) k;
-  F = (word-is (c .before .record-word8 .ok) (c .before .record-word8 .ensures)) k;
-  H = (word-is (c .record-word9 .ok) (c .record-word9 .ensures)) k;
-}
+returns c = let start = c .before .before .before in c .entry-in .ensures ∙ row-entry (start .pre .0) (start .pre .1) (c .before .record .ensures)
 
 pub entry-of-spec : {M : Type 1} → statement M
-entry-of-spec =
-    tie.close
-    (tie.spec
-    record-word-requires
-    kind-of-requires
-    record-word-requires-2
-    cast-t6
-    record-word-requires-3
-    cast-t8
-    record-word-requires-4
-    signed-requires
-    record-word-requires-5
-    cast-t12
-    record-word-requires-6
-    cast-t14
-    record-word-requires-7
-    cast-t16
-    record-word-requires-8
-    cast-t18
-    record-word-requires-9
-    cast-t20
-    returns)
+entry-of-spec = tie.close (tie.spec record-requires entry-in-requires returns)

@@ -1,23 +1,18 @@
-use Rattle.rules.specs.Record.{memberOf}
-use borrow.Author.Needs.{needs}
+-- `posting::hour::member_of` meets its contract: the record's part has the record's numbers.
+use mathlib.Core.Path.{_∙_}
+use Rattle.hourfile.proofs.Rows.{record-inside, row-length}
+use Rattle.posting.proofs.Rows.{row-member}
 use Rattle.posting.proofs.hour.member_of.Statement.{statement}
 use Rattle.posting.proofs.hour.member_of.Tie as tie
-use Rattle.posting.proofs.hour.member_of.Reads as reads
-use Rattle.posting.proofs.hour.member_of.Lts as lts
-use Rattle.hourfile.proofs.record_word.Reads as record-word-reads
 
--- src/hour.rt:34:5
-record-word-requires : tie.Need-record-word-requires
-record-word-requires c κs = search needs
+record-requires : tie.Need-record-requires
+record-requires c κs = record-inside (c .before .pre .0) (c .before .pre .1)
 
--- src/hour.rt:34:5
-cast-result : tie.Need-cast-result
-cast-result c = search needs
+member-in-requires : tie.Need-member-in-requires
+member-in-requires c κs = let start = c .before .before in row-length (start .pre .0) (start .pre .1) (c .record .ensures)
 
--- src/hour.rt:31:1
 returns : tie.Need-returns
-unfolding memberOf
-returns c = c .record-word .ensures
+returns c = let start = c .before .before .before in c .member-in .ensures ∙ row-member (start .pre .0) (start .pre .1) (c .before .record .ensures)
 
 pub member-of-spec : {M : Type 1} → statement M
-member-of-spec = tie.close (tie.spec record-word-requires cast-result returns)
+member-of-spec = tie.close (tie.spec record-requires member-in-requires returns)

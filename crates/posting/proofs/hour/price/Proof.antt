@@ -1,64 +1,71 @@
-use Prim.Native.Nat.{_+_}
+-- `posting::hour::price` meets its contract: an area's zone is one of at most four, whose prices stand in the head.
+use mathlib.Core.Path.{_≡_, _∙_, ap}
+use Prim.Native.Nat.{_+_, _*_, _<_}
+use native.Mathlib.Omega.{arith}
 use mir.Syntax.{w64}
 use mir.ValLaws.{toZ-ofZ}
 use borrow.Author.Needs.{sfits-of}
-use Rattle.posting.specs.Hour.{hourIn}
-use mathlib.Core.Path.{_∙_, ap, ap₂}
 use Rattle.rules.specs.Record.{price, zonePrice, zoneOf, signed}
-use borrow.Author.Needs.{needs}
+use Rattle.hourfile.proofs.Rows.{head-inside, head-there}
+use Rattle.posting.specs.Hour.{hourIn}
 use Rattle.posting.proofs.hour.price.Statement.{statement}
 use Rattle.posting.proofs.hour.price.Tie as tie
-use Rattle.posting.proofs.hour.price.Reads as reads
-use Rattle.posting.proofs.hour.price.Lts as lts
-use Rattle.hourfile.proofs.head_word.Reads as head-word-reads
-use Rattle.hourfile.proofs.signed.Reads as signed-reads
 
--- src/hour.rt:27:47
-mul-head-word : tie.Need-mul-head-word
-mul-head-word c = search needs
+area-few : (c : tie.Start) → c .args .a < 8
+area-few c = omega (arith, c .pre .0 .hour-kept .areas-most, c .pre .1)
 
--- src/hour.rt:27:42
-add-head-word : tie.Need-add-head-word
-add-head-word c = search needs
+mul-whole-word : tie.Need-mul-whole-word
+mul-whole-word c = omega (arith, area-few (c .before))
 
--- src/hour.rt:27:16
-head-word-requires : tie.Need-head-word-requires
-head-word-requires c κs = search needs
+add-whole-word : tie.Need-add-whole-word
+add-whole-word c = omega (arith, area-few (c .before))
 
--- src/hour.rt:27:16
+whole-word-requires : tie.Need-whole-word-requires
+whole-word-requires c κs = head-inside (c .before .pre .0) (16 + 4 * c .before .args .a) (omega (arith, area-few (c .before)))
+
 cast-zone : tie.Need-cast-zone
-cast-zone c = search needs
+cast-zone c = omega arith
 
--- src/hour.rt:28:48
-add-head-word-2 : tie.Need-add-head-word-2
-add-head-word-2 c = search needs
+module _ (c : tie.After-whole-word) where
+  abbrev start : tie.Start
+  start = c .before .before
 
--- src/hour.rt:28:22
-head-word-requires-2 : tie.Need-head-word-requires-2
-head-word-requires-2 c κs = search needs
+  zone-is : c .whole-word .result ≡ zoneOf (hourIn (start .args .file .now)) (start .args .a)
+  unfolding zoneOf
+  zone-is = c .whole-word .ensures ∙ head-there (start .pre .0) (16 + 4 * start .args .a) (omega (arith, area-few start)) (omega arith)
 
--- src/hour.rt:28:5
+  zone-few : 12 + c .whole-word .result < 16
+  zone-few = omega (arith, zone-is, start .pre .0 .hour-kept .area-kept (start .args .a) (start .pre .1) .zone-there, start .pre .0 .hour-kept .zones-most)
+
+add-whole-word-2 : tie.Need-add-whole-word-2
+add-whole-word-2 c = omega (arith, zone-few c)
+
+whole-word-requires-2 : tie.Need-whole-word-requires-2
+whole-word-requires-2 c κs = head-inside (start c .pre .0) (12 + c .whole-word .result) (omega (arith, zone-few c))
+
 signed-requires : tie.Need-signed-requires
-signed-requires c κs = search needs
+signed-requires c κs = tt
 
--- src/hour.rt:23:1
 returns : tie.Need-returns
-unfolding price zonePrice zoneOf
+unfolding price zonePrice
 returns c =
-    let s = c .before .before .before .before .args .file .now in
+    let zoned = c .before .before in
+    let h = hourIn (start zoned .args .file .now) in
     toZ-ofZ w64 (c .signed .result) (sfits-of (c .signed .ok))
     ∙ c .signed .ensures
-    ∙ ap signed (c .before .head-word2 .ensures ∙ ap (λ w. hourIn s .head (12 + w)) (c .before .before .head-word .ensures))
+    ∙ ap signed (c .before .whole-word2 .ensures
+    ∙ head-there (start zoned .pre .0) (12 + zoned .whole-word .result) (omega (arith, zone-few zoned)) (omega arith)
+    ∙ ap (λ z. h .head (12 + z)) (zone-is zoned))
 
 pub price-spec : {M : Type 1} → statement M
 price-spec =
     tie.close
     (tie.spec
-    mul-head-word
-    add-head-word
-    head-word-requires
+    mul-whole-word
+    add-whole-word
+    whole-word-requires
     cast-zone
-    add-head-word-2
-    head-word-requires-2
+    add-whole-word-2
+    whole-word-requires-2
     signed-requires
     returns)

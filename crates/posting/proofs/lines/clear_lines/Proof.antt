@@ -1,4 +1,5 @@
-use mathlib.Core.Path.{_≡_, refl, sym, _∙_, ap, ap₂}
+-- `posting::lines::clear_lines` meets its contract. The loop's invariant: the places passed are 0 in both buffers, the others unchanged.
+use mathlib.Core.Path.{_≡_, refl, sym, _∙_, ap}
 use Prim.Native.Nat.{_-_, _≤_}
 use native.Mathlib.Omega.{arith}
 use lib.IntN.{pos}
@@ -6,8 +7,6 @@ use Rattle.whole.specs.Below.{replacingFirst}
 use Rattle.whole.proofs.Buffers.{replacing-none, written-length, written-next}
 use Rattle.posting.proofs.lines.clear_lines.Statement.{statement}
 use Rattle.posting.proofs.lines.clear_lines.Tie as tie
-use Rattle.posting.proofs.lines.clear_lines.Reads as reads
-use Rattle.posting.proofs.lines.clear_lines.Lts as lts
 
 abbrev Inv-loop : tie.InvT-loop
 Inv-loop amounts₀ counts₀ n m₀ amounts counts m = (m ≤ n) × (amounts ≡ replacingFirst (λ k. pos 0) m amounts₀) × (counts ≡ replacingFirst (λ k. 0) m counts₀)
@@ -15,47 +14,36 @@ Inv-loop amounts₀ counts₀ n m₀ amounts counts m = (m ≤ n) × (amounts �
 abbrev μ-loop : tie.MeasureT-loop
 μ-loop amounts₀ counts₀ n m₀ amounts counts m = n - m
 
--- src/lines.rt:33:5
 loop-holds : tie.Need-loop-holds Inv-loop μ-loop
 loop-holds c = (omega arith, sym (replacing-none _ _), sym (replacing-none _ _))
 
--- src/lines.rt:34:9
 mul-amounts : tie.Need-mul-amounts Inv-loop μ-loop
 mul-amounts c = omega (arith, written-length _ _ _ _ (c .before .loop .inv .1) (omega arith))
 
--- src/lines.rt:34:9
 slice-set-of-amounts : tie.Need-slice-set-of-amounts Inv-loop μ-loop
 slice-set-of-amounts c = omega (arith, written-length _ _ _ _ (c .before .loop .inv .1) (omega arith))
 
--- src/lines.rt:35:9
 mul-counts : tie.Need-mul-counts Inv-loop μ-loop
 mul-counts c = omega (arith, written-length _ _ _ _ (c .before .loop .inv .2) (omega arith))
 
--- src/lines.rt:35:9
 slice-write-counts : tie.Need-slice-write-counts Inv-loop μ-loop
 slice-write-counts c = omega (arith, written-length _ _ _ _ (c .before .loop .inv .2) (omega arith))
 
--- src/lines.rt:36:9
 add-m : tie.Need-add-m Inv-loop μ-loop
 add-m c = omega arith
 
--- src/lines.rt:33:5
 loop-less : tie.Need-loop-less Inv-loop μ-loop
 loop-less c = omega arith
 
--- src/lines.rt:33:5
 loop-again : tie.Need-loop-again Inv-loop μ-loop
 loop-again c = (omega arith, written-next _ _ _ _ (c .before .loop .inv .1) _ (omega arith) refl, written-next _ _ _ _ (c .before .loop .inv .2) _ (omega arith) refl)
 
--- src/lines.rt:27:1
 same-length : tie.Need-same-length Inv-loop μ-loop
 same-length c = written-length _ _ _ _ (c .before .loop .inv .1) (omega arith)
 
--- src/lines.rt:27:1
 same-length-2 : tie.Need-same-length-2 Inv-loop μ-loop
 same-length-2 c = written-length _ _ _ _ (c .before .loop .inv .2) (omega arith)
 
--- src/lines.rt:27:1
 returns : tie.Need-returns Inv-loop μ-loop
 returns c =
     let start = c .before .before in

@@ -1,50 +1,26 @@
-use mathlib.Core.Path.{_≡_, refl, sym, _∙_, ap, ap₂}
+-- `posting::lines::grains` meets its contract: price, deviation and share each keep their range, so that the product fits.
+use mathlib.Core.Path.{_≡_, _∙_, ap, ap₂}
+use Prim.Native.Nat.{ℕ}
 use mir.Syntax.{w64}
 use mir.ValLaws.{toZ-ofZ}
-use borrow.Author.Needs.{sfits-of}
-use lib.IntN.{ℤ}
-use Prim.Native.Nat.{ℕ}
-use Rattle.whole.specs.Signed.{Under}
 use Rattle.whole.proofs.Machine.{Num, result, _:+_, _:*_, fits, stored, back}
-use Rattle.rules.specs.Record.{Hour, price, entry, entryOf, areaOf, kindOf}
+use Rattle.rules.specs.Record.{Hour, price, entryOf, areaOf}
 use Rattle.rules.specs.Deviation.{deviation}
-use Rattle.rules.specs.Charge.{enteringAs, entering, shareOf, grains}
+use Rattle.rules.specs.Charge.{enteringAs, entering, grains}
 use Rattle.rules.specs.Kept.{RecordKept}
 use Rattle.rules.proofs.Bounds.{deviation-under, entering-under, share-under, price-under}
+use Rattle.hourfile.proofs.Rows.{record-inside, row-length}
 use Rattle.posting.specs.Hour.{hourIn}
-use Rattle.posting.proofs.Tallies.{area-place}
-use borrow.Author.Needs.{needs}
+use Rattle.posting.proofs.Rows.{row-kind, row-area}
 use Rattle.posting.proofs.lines.grains.Statement.{statement}
 use Rattle.posting.proofs.lines.grains.Tie as tie
-use Rattle.posting.proofs.lines.grains.Reads as reads
-use Rattle.posting.proofs.lines.grains.Lts as lts
-use Rattle.formula.proofs.deviation.entering.Reads as entering-reads
-use Rattle.formula.proofs.entry.kind_of.Reads as kind-of-reads
-use Rattle.hourfile.proofs.record_word.Reads as record-word-reads
-use Rattle.posting.proofs.hour.area_of.Reads as area-of-reads
-use Rattle.posting.proofs.hour.price.Reads as price-reads
 
--- src/lines.rt:21:40
-record-word-requires : tie.Need-record-word-requires
-record-word-requires c κs = search needs
+record-requires : tie.Need-record-requires
+record-requires c κs = record-inside (c .before .pre .kept) (c .before .pre .there)
 
--- src/lines.rt:21:9
-kind-of-requires : tie.Need-kind-of-requires
-kind-of-requires c κs = search needs
-
--- src/lines.rt:22:42
-area-of-requires : tie.Need-area-of-requires
-area-of-requires c κs = search needs
-
--- src/lines.rt:22:9
-price-requires : tie.Need-price-requires
-price-requires c κs =
-    let start = c .before .before .before .before in
-    rw (c .area-of .ensures) (area-place (start .pre .kept .hour-kept) (start .args .i) (start .pre .there))
-
-module _ (c : tie.After-price) where
+module _ (c : tie.After-record) where
   abbrev start : tie.Start
-  start = c .before .before .before .before .before
+  start = c .before .before
 
   abbrev h : Hour
   h = hourIn (start .args .file .now)
@@ -58,39 +34,48 @@ module _ (c : tie.After-price) where
   deviation-is : back (start .args .deviation) ≡ deviation (entryOf h i)
   deviation-is = toZ-ofZ w64 (start .args .deviation) (start .fits .deviation) ∙ start .pre .deviation-is
 
--- src/lines.rt:23:14
+kind-in-requires : tie.Need-kind-in-requires
+kind-in-requires c κs = row-length (start c .pre .kept) (start c .pre .there) (c .record .ensures)
+
+area-in-requires : tie.Need-area-in-requires
+area-in-requires c κs = let r = c .before in row-length (start r .pre .kept) (start r .pre .there) (r .record .ensures)
+
+area-is : (c : tie.After-area-in) → c .area-in .result ≡ areaOf (h (c .before .before)) (i (c .before .before))
+area-is c = let r = c .before .before in c .area-in .ensures ∙ row-area (start r .pre .kept) (start r .pre .there) (r .record .ensures)
+
+price-requires : tie.Need-price-requires
+price-requires c κs = let r = c .before .before in (start r .pre .kept, rw (area-is c) (kept r .area-there))
+
 entering-requires : tie.Need-entering-requires
-entering-requires c κs = rw (deviation-is c) (deviation-under (kept c .entry-kept))
+entering-requires c κs = let r = c .before .before .before in rw (deviation-is r) (deviation-under (kept r .entry-kept))
 
 module _ (c : tie.After-entering) where
-  abbrev here : tie.After-price
-  here = c .before
+  abbrev read : tie.After-record
+  read = c .before .before .before .before
 
-  price-is : c .before .price .result ≡ price (h here) (areaOf (h here) (i here))
-  price-is = c .before .price .ensures ∙ ap (price (h here)) (c .before .before .area-of .ensures)
+  price-is : c .before .price .result ≡ price (h read) (areaOf (h read) (i read))
+  price-is = c .before .price .ensures ∙ ap (price (h read)) (area-is (c .before .before))
 
-  entering-is : c .entering .result ≡ entering (entryOf (h here) (i here))
-  unfolding entering entryOf entry
-  entering-is = c .entering .ensures ∙ ap₂ enteringAs (c .before .before .before .kind-of .ensures ∙ ap kindOf (c .before .before .before .before .record-word .ensures)) (deviation-is here)
+  entering-is : c .entering .result ≡ entering (entryOf (h read) (i read))
+  unfolding entering
+  entering-is = c .entering .ensures
+      ∙ ap₂ enteringAs (c .before .before .before .kind-in .ensures ∙ row-kind (start read .pre .kept) (start read .pre .there) (read .record .ensures)) (deviation-is read)
 
   abbrev priced : Num
-  priced = result price-is (price-under (start here .pre .kept .hour-kept) (areaOf (h here) (i here)) (kept here .area-there))
+  priced = result price-is (price-under (start read .pre .kept .hour-kept) (areaOf (h read) (i read)) (kept read .area-there))
 
   abbrev entered : Num
-  entered = result entering-is (entering-under (kept here .entry-kept))
+  entered = result entering-is (entering-under (kept read .entry-kept))
 
   abbrev shared : Num
-  shared = result (start here .pre .share-is) (share-under (start here .pre .kept .hour-kept) (i here) (start here .pre .there))
+  shared = result (start read .pre .share-is) (share-under (start read .pre .kept .hour-kept) (i read) (start read .pre .there))
 
--- src/lines.rt:23:14
 add-result : tie.Need-add-result
 add-result c = fits (entered c :+ shared c) tt
 
--- src/lines.rt:23:5
 mul-result : tie.Need-mul-result
 mul-result c = fits (priced c :* (entered c :+ shared c)) tt
 
--- src/lines.rt:17:1
 returns : tie.Need-returns
 unfolding grains
 returns c = stored (priced c :* (entered c :+ shared c)) tt
@@ -99,9 +84,9 @@ pub grains-spec : {M : Type 1} → statement M
 grains-spec =
     tie.close
     (tie.spec
-    record-word-requires
-    kind-of-requires
-    area-of-requires
+    record-requires
+    kind-in-requires
+    area-in-requires
     price-requires
     entering-requires
     add-result

@@ -1,21 +1,19 @@
-use mathlib.Core.Path.{_≡_, refl, sym, _∙_, ap, ap₂}
-use mir.Syntax.{w64}
-use mir.ValLaws.{toZ-ofZ}
-use borrow.Author.Needs.{sfits-of}
-use mathlib.Core.Bool.{true, false}
+-- `posting::lines::member_over` meets its contract. The loop's invariant: no amount passed is over the limit; the test of a size is the definition's.
+use mathlib.Core.Path.{_≡_, refl, sym, _∙_, ap}
 use mathlib.Core.Option.{none}
-use Prim.Native.Nat.{ℕ, _-_, _≤_, _<_}
+use Prim.Native.Nat.{_-_, _≤_}
 use native.Mathlib.Omega.{arith}
 use lib.IntN.{pos, natAbs}
 use lib.ListN.{length, getD}
+use mir.Syntax.{w64}
+use mir.ValLaws.{toZ-ofZ}
+use borrow.Author.Needs.{sfits-of}
 use borrow.Author.Tests.{lt-ltb, le-ltb}
 use Rattle.whole.specs.Below.{firstBelow}
 use Rattle.whole.proofs.Search.{first-next, first-hit}
 use Rattle.posting.specs.Lined.{overLimit}
 use Rattle.posting.proofs.lines.member_over.Statement.{statement}
 use Rattle.posting.proofs.lines.member_over.Tie as tie
-use Rattle.posting.proofs.lines.member_over.Reads as reads
-use Rattle.posting.proofs.lines.member_over.Lts as lts
 
 abbrev Inv-loop : tie.InvT-loop
 Inv-loop amounts m₀ m = (m ≤ length amounts) × (firstBelow (overLimit amounts) m ≡ none)
@@ -23,49 +21,40 @@ Inv-loop amounts m₀ m = (m ≤ length amounts) × (firstBelow (overLimit amoun
 abbrev μ-loop : tie.MeasureT-loop
 μ-loop amounts m₀ m = length amounts - m
 
--- src/lines.rt:85:5
 loop-holds : tie.Need-loop-holds Inv-loop μ-loop
 unfolding firstBelow
 loop-holds c = (omega arith, refl)
 
--- src/lines.rt:86:58
 mul-size-of : tie.Need-mul-size-of Inv-loop μ-loop
 mul-size-of c = omega arith
 
--- src/lines.rt:86:58
 shared-slice-copy-out-size-of : tie.Need-shared-slice-copy-out-size-of Inv-loop μ-loop
 shared-slice-copy-out-size-of c = omega arith
 
--- src/lines.rt:86:34
 size-of-requires : tie.Need-size-of-requires Inv-loop μ-loop
 size-of-requires c κs = tt
 
 size-is : (c : tie.After-size-of Inv-loop μ-loop) → c .size-of .result ≡ natAbs (getD (c .before .before .before .before .args .amounts .now) (c .before .before .before .loop .m) (pos 0))
 size-is c = c .size-of .ensures ∙ ap natAbs (toZ-ofZ w64 (getD (c .before .before .before .before .args .amounts .now) (c .before .before .before .loop .m) (pos 0)) (sfits-of (c .before .size-of-arg .given)))
 
--- src/lines.rt:87:13
 returns : tie.Need-returns Inv-loop μ-loop
 unfolding overLimit
 returns c =
     let at = c .before .before .before .before .loop in
     sym (first-hit (overLimit (c .before .before .before .before .before .args .amounts .now)) (at .m) (length (c .before .before .before .before .before .args .amounts .now)) (at .inv .1) (lt-ltb 4000000000000000000 (natAbs (getD (c .before .before .before .before .before .args .amounts .now) (at .m) (pos 0))) (omega (arith, size-is (c .before)))) (omega arith))
 
--- src/lines.rt:89:9
 add-m : tie.Need-add-m Inv-loop μ-loop
 add-m c = omega arith
 
--- src/lines.rt:85:5
 loop-less : tie.Need-loop-less Inv-loop μ-loop
 loop-less c = omega arith
 
--- src/lines.rt:85:5
 loop-again : tie.Need-loop-again Inv-loop μ-loop
 unfolding overLimit
 loop-again c =
     let at = c .before .before .before .before .loop in
     (omega arith, first-next (overLimit (c .before .before .before .before .before .args .amounts .now)) (at .m) (at .inv .1) (le-ltb 4000000000000000000 (natAbs (getD (c .before .before .before .before .before .args .amounts .now) (at .m) (pos 0))) (omega (arith, size-is (c .before)))))
 
--- src/lines.rt:81:1
 returns-2 : tie.Need-returns-2 Inv-loop μ-loop
 returns-2 c =
     let all : c .before .loop .m ≡ length (c .before .before .args .amounts .now) = omega arith in

@@ -1,20 +1,16 @@
-use mathlib.Core.Path.{_≡_, refl, sym, _∙_, ap}
+-- `posting::lines::post_all` meets its contract. The loop's invariant: the lines hold the records passed.
+use mathlib.Core.Path.{_≡_, _∙_}
+use Prim.Native.Nat.{_-_, _≤_}
+use native.Mathlib.Omega.{arith}
+use lib.IntN.{pos}
+use lib.ListN.{getD}
 use mir.Syntax.{w64}
 use mir.ValLaws.{toZ-ofZ}
 use borrow.Author.Needs.{sfits-of}
-use Prim.Native.Nat.{_-_, _≤_, _+_}
-use native.Mathlib.Omega.{arith}
-use lib.IntN.{pos}
-use lib.ListN.{length, getD}
 use Rattle.posting.specs.Hour.{hourIn}
-use Rattle.posting.specs.Lined.{LinesRoom}
 use Rattle.posting.proofs.Postings.{Lines, amounts-length, counts-length, none-posted, so-far, one-more, all-posted}
 use Rattle.posting.proofs.lines.post_all.Statement.{statement}
 use Rattle.posting.proofs.lines.post_all.Tie as tie
-use Rattle.posting.proofs.lines.post_all.Reads as reads
-use Rattle.posting.proofs.lines.post_all.Lts as lts
-use Rattle.hourfile.proofs.records.Reads as records-reads
-use Rattle.posting.proofs.lines.post.Reads as post-reads
 
 abbrev Inv-loop : tie.InvT-loop
 Inv-loop file deviations shares amounts₀ counts₀ n i₀ amounts counts i = (i ≤ n) × Lines file amounts₀ counts₀ i amounts counts
@@ -22,31 +18,24 @@ Inv-loop file deviations shares amounts₀ counts₀ n i₀ amounts counts i = (
 abbrev μ-loop : tie.MeasureT-loop
 μ-loop file deviations shares amounts₀ counts₀ n i₀ amounts counts i = n - i
 
--- src/lines.rt:63:9
 records-requires : tie.Need-records-requires Inv-loop μ-loop
 records-requires c κs = tt
 
--- src/lines.rt:65:5
 loop-holds : tie.Need-loop-holds Inv-loop μ-loop
 loop-holds c = (omega arith, none-posted (c .before .before .before .pre .1 .room) (c .before .before .before .pre .1))
 
--- src/lines.rt:66:23
 mul-post : tie.Need-mul-post Inv-loop μ-loop
 mul-post c = omega (arith, c .before .before .before .before .before .pre .0 .deviations-room)
 
--- src/lines.rt:66:23
 shared-slice-copy-out-post : tie.Need-shared-slice-copy-out-post Inv-loop μ-loop
 shared-slice-copy-out-post c = omega (arith, c .before .before .before .before .before .pre .0 .deviations-room)
 
--- src/lines.rt:66:38
 mul-post-2 : tie.Need-mul-post-2 Inv-loop μ-loop
 mul-post-2 c = omega (arith, c .before .before .before .before .before .before .pre .0 .shares-room)
 
--- src/lines.rt:66:38
 shared-slice-copy-out-post-2 : tie.Need-shared-slice-copy-out-post-2 Inv-loop μ-loop
 shared-slice-copy-out-post-2 c = omega (arith, c .before .before .before .before .before .before .pre .0 .shares-room)
 
--- src/lines.rt:66:9
 post-requires : tie.Need-post-requires Inv-loop μ-loop
 post-requires c κs =
     let start = c .before .before .before .before .before .before .before .before .before in
@@ -60,15 +49,12 @@ post-requires c κs =
       },
     )
 
--- src/lines.rt:67:9
 add-i : tie.Need-add-i Inv-loop μ-loop
 add-i c = omega arith
 
--- src/lines.rt:65:5
 loop-less : tie.Need-loop-less Inv-loop μ-loop
 loop-less c = omega arith
 
--- src/lines.rt:65:5
 loop-again : tie.Need-loop-again Inv-loop μ-loop
 loop-again c =
     let start = c .before .before .before .before .before .before .before .before .before .before .before .before .before in
@@ -76,15 +62,12 @@ loop-again c =
     let posted = c .before .before .before .post .ensures in
     (omega arith, one-more (start .pre .1 .room) (start .pre .0 .kept .hour-kept .record-kept (at .i) (omega arith) .member-there) (at .inv .1) (posted .0) (posted .1))
 
--- src/lines.rt:58:1
 same-length : tie.Need-same-length Inv-loop μ-loop
 same-length c = amounts-length (c .before .before .before .before .before .pre .1 .room) (c .before .loop .inv .1)
 
--- src/lines.rt:58:1
 same-length-2 : tie.Need-same-length-2 Inv-loop μ-loop
 same-length-2 c = counts-length (c .before .before .before .before .before .pre .1 .room) (c .before .loop .inv .1)
 
--- src/lines.rt:58:1
 returns : tie.Need-returns Inv-loop μ-loop
 returns c =
     let start = c .before .before .before .before .before in

@@ -1,19 +1,17 @@
-use mathlib.Core.Path.{_≡_, refl, sym, _∙_, ap, ap₂}
-use mir.Syntax.{w64}
-use mir.ValLaws.{toZ-ofZ}
-use borrow.Author.Needs.{sfits-of}
+-- `posting::lines::put_charges` meets its contract. The loop's invariant: the places passed hold the amounts in cents.
+use mathlib.Core.Path.{_≡_, sym, _∙_, ap}
 use Prim.Native.Nat.{_-_, _≤_}
 use native.Mathlib.Omega.{arith}
 use lib.IntN.{pos}
 use lib.ListN.{length, getD}
+use mir.Syntax.{w64}
+use mir.ValLaws.{toZ-ofZ}
+use borrow.Author.Needs.{sfits-of}
 use Rattle.whole.specs.Below.{replacingFirst}
 use Rattle.whole.proofs.Buffers.{replacing-none, written-length, written-next}
 use Rattle.rules.specs.Charge.{cents}
 use Rattle.posting.proofs.lines.put_charges.Statement.{statement}
 use Rattle.posting.proofs.lines.put_charges.Tie as tie
-use Rattle.posting.proofs.lines.put_charges.Reads as reads
-use Rattle.posting.proofs.lines.put_charges.Lts as lts
-use Rattle.formula.proofs.cents.cents.Reads as cents-reads
 
 abbrev Inv-loop : tie.InvT-loop
 Inv-loop amounts charges₀ m₀ charges m = (m ≤ length amounts) × (charges ≡ replacingFirst (λ k. cents (getD amounts k (pos 0))) m charges₀)
@@ -21,42 +19,33 @@ Inv-loop amounts charges₀ m₀ charges m = (m ≤ length amounts) × (charges 
 abbrev μ-loop : tie.MeasureT-loop
 μ-loop amounts charges₀ m₀ charges m = length amounts - m
 
--- src/lines.rt:100:5
 loop-holds : tie.Need-loop-holds Inv-loop μ-loop
 loop-holds c = (omega arith, sym (replacing-none _ _))
 
--- src/lines.rt:101:44
 mul-cents : tie.Need-mul-cents Inv-loop μ-loop
 mul-cents c = omega arith
 
--- src/lines.rt:101:44
 shared-slice-copy-out-cents : tie.Need-shared-slice-copy-out-cents Inv-loop μ-loop
 shared-slice-copy-out-cents c = omega arith
 
--- src/lines.rt:101:22
 cents-requires : tie.Need-cents-requires Inv-loop μ-loop
 cents-requires c κs =
     let start = c .before .before .before in
     let m = c .before .before .loop .m in
     rw (toZ-ofZ w64 (getD (start .args .amounts .now) m (pos 0)) (sfits-of (c .cents-arg .given))) (start .pre .1 m (omega arith))
 
--- src/lines.rt:101:9
 mul-t9 : tie.Need-mul-t9 Inv-loop μ-loop
 mul-t9 c = omega arith
 
--- src/lines.rt:101:9
 slice-set-from-charges : tie.Need-slice-set-from-charges Inv-loop μ-loop
 slice-set-from-charges c = omega (arith, written-length _ _ _ _ (c .before .before .before .loop .inv .1) (omega (arith, c .before .before .before .before .pre .0)), c .before .before .before .before .pre .0)
 
--- src/lines.rt:102:9
 add-m : tie.Need-add-m Inv-loop μ-loop
 add-m c = omega arith
 
--- src/lines.rt:100:5
 loop-less : tie.Need-loop-less Inv-loop μ-loop
 loop-less c = omega arith
 
--- src/lines.rt:100:5
 loop-again : tie.Need-loop-again Inv-loop μ-loop
 loop-again c =
     let start = c .before .before .before .before in
@@ -64,11 +53,9 @@ loop-again c =
     let charge = toZ-ofZ w64 _ (sfits-of (c .cents .ok)) ∙ c .cents .ensures ∙ ap cents (toZ-ofZ w64 (getD (start .args .amounts .now) (at .m) (pos 0)) (sfits-of (c .before .cents-arg .given))) in
     (omega arith, written-next _ _ _ _ (at .inv .1) _ (omega (arith, start .pre .0)) charge)
 
--- src/lines.rt:95:1
 same-length : tie.Need-same-length Inv-loop μ-loop
 same-length c = written-length _ _ _ _ (c .before .loop .inv .1) (omega (arith, c .before .before .pre .0))
 
--- src/lines.rt:95:1
 returns : tie.Need-returns Inv-loop μ-loop
 returns c =
     let start = c .before .before in

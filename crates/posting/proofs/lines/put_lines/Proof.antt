@@ -1,25 +1,19 @@
+-- `posting::lines::put_lines` meets its contract: cleared lines hold no record, so that posting all of them gives the members' lines.
 use mathlib.Core.Path.{_≡_, _∙_, ap}
 use lib.IntN.{pos}
+use borrow.Author.Needs.{needs}
 use Rattle.whole.specs.Below.{replacingFirst}
 use Rattle.whole.proofs.Buffers.{replacing-twice}
-use Rattle.rules.specs.Record.{Hour, members}
+use Rattle.rules.specs.Record.{members}
 use Rattle.rules.specs.Charge.{amount, recordsOf}
 use Rattle.posting.specs.Hour.{hourIn}
 use Rattle.posting.proofs.Postings.{cleared-lines}
-use borrow.Author.Needs.{needs}
 use Rattle.posting.proofs.lines.put_lines.Statement.{statement}
 use Rattle.posting.proofs.lines.put_lines.Tie as tie
-use Rattle.posting.proofs.lines.put_lines.Reads as reads
-use Rattle.posting.proofs.lines.put_lines.Lts as lts
-use Rattle.posting.proofs.hour.members.Reads as members-reads
-use Rattle.posting.proofs.lines.clear_lines.Reads as clear-lines-reads
-use Rattle.posting.proofs.lines.post_all.Reads as post-all-reads
 
--- src/lines.rt:77:34
 members-requires : tie.Need-members-requires
-members-requires c κs = search needs
+members-requires c κs = tt
 
--- src/lines.rt:77:5
 clear-lines-requires : tie.Need-clear-lines-requires
 clear-lines-requires c κs = search needs
 
@@ -33,19 +27,15 @@ module _ (c : tie.After-clear-lines) where
   counts-cleared : c .clear-lines .last .1 .0 ≡ replacingFirst (λ m. 0) (members (hourIn (start .args .file .now))) (start .args .counts .now)
   counts-cleared = c .clear-lines .ensures .1 ∙ ap (λ n. replacingFirst (λ m. 0) n (start .args .counts .now)) (c .before .members .ensures)
 
--- src/lines.rt:78:5
 post-all-requires : tie.Need-post-all-requires
 post-all-requires c κs = (c .before .before .before .before .before .before .before .before .before .before .before .pre .0, cleared-lines (c .before .before .before .before .before .before .before .before .before .before .before .pre .1) (amounts-cleared (c .before .before .before .before .before)) (counts-cleared (c .before .before .before .before .before)))
 
--- src/lines.rt:72:1
 same-length : tie.Need-same-length
 same-length c = search needs
 
--- src/lines.rt:72:1
 same-length-2 : tie.Need-same-length-2
 same-length-2 c = search needs
 
--- src/lines.rt:72:1
 returns : tie.Need-returns
 returns c =
     let d = c .before .before .before .before .before .before .before .before .before in

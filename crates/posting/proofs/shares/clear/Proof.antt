@@ -1,13 +1,12 @@
-use Rattle.whole.proofs.Buffers.{replacing-none, written-length, written-next}
+-- `posting::shares::clear` meets its contract. The loop's invariant: the places passed are 0.
 use mathlib.Core.Path.{_≡_, refl, sym, _∙_, ap}
 use Prim.Native.Nat.{_-_, _≤_}
 use native.Mathlib.Omega.{arith}
 use lib.IntN.{pos}
 use Rattle.whole.specs.Below.{replacingFirst}
+use Rattle.whole.proofs.Buffers.{replacing-none, written-length, written-next}
 use Rattle.posting.proofs.shares.clear.Statement.{statement}
 use Rattle.posting.proofs.shares.clear.Tie as tie
-use Rattle.posting.proofs.shares.clear.Reads as reads
-use Rattle.posting.proofs.shares.clear.Lts as lts
 
 abbrev Inv-loop : tie.InvT-loop
 Inv-loop out₀ n i₀ out i = (i ≤ n) × (out ≡ replacingFirst (λ k. pos 0) i out₀)
@@ -15,35 +14,27 @@ Inv-loop out₀ n i₀ out i = (i ≤ n) × (out ≡ replacingFirst (λ k. pos 0
 abbrev μ-loop : tie.MeasureT-loop
 μ-loop out₀ n i₀ out i = n - i
 
--- src/shares.rt:89:5
 loop-holds : tie.Need-loop-holds Inv-loop μ-loop
 loop-holds c = (omega arith, sym (replacing-none _ _))
 
--- src/shares.rt:90:9
 mul-out : tie.Need-mul-out Inv-loop μ-loop
 mul-out c = let len = written-length _ _ _ _ (c .before .loop .inv .1) (omega (arith, c .before .before .pre)) in omega arith
 
--- src/shares.rt:90:9
 slice-set-of-out : tie.Need-slice-set-of-out Inv-loop μ-loop
 slice-set-of-out c = let len = written-length _ _ _ _ (c .before .loop .inv .1) (omega (arith, c .before .before .pre)) in omega (arith, c .before .before .pre)
 
--- src/shares.rt:91:9
 add-i : tie.Need-add-i Inv-loop μ-loop
 add-i c = omega arith
 
--- src/shares.rt:89:5
 loop-less : tie.Need-loop-less Inv-loop μ-loop
 loop-less c = omega arith
 
--- src/shares.rt:89:5
 loop-again : tie.Need-loop-again Inv-loop μ-loop
 loop-again c = (omega arith, written-next _ _ _ _ (c .before .loop .inv .1) _ (omega arith) refl)
 
--- src/shares.rt:84:1
 same-length : tie.Need-same-length Inv-loop μ-loop
 same-length c = written-length _ _ _ _ (c .before .loop .inv .1) (omega arith)
 
--- src/shares.rt:84:1
 returns : tie.Need-returns Inv-loop μ-loop
 returns c =
     let all : c .before .loop .i ≡ c .before .before .args .n = omega arith in

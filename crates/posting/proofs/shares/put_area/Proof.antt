@@ -1,28 +1,22 @@
+-- `posting::shares::put_area` meets its contract. The loop's invariant: of the places passed the area's own hold a signed size, the others what they held.
+use mathlib.Core.Path.{ap₂, _≡_, sym, _∙_, ap}
+use mathlib.Core.Bool.{cond}
+use Prim.Native.Nat.{_-_, _≤_}
+use native.Mathlib.Omega.{arith}
+use lib.Dec.{eqb}
+use lib.IntN.{pos}
+use lib.ListN.{getD, length}
 use mir.Syntax.{w64}
 use mir.ValLaws.{toZ-ofZ}
 use borrow.Author.Needs.{sfits-of}
-use mathlib.Core.Path.{ap₂}
-use Rattle.whole.proofs.Buffers.{replacing-none, written-length, written-next, unwritten}
-use Rattle.posting.specs.Shared.{withSizes}
-use mathlib.Core.Bool.{cond}
-use mathlib.Core.List.{List}
-use Prim.Native.Nat.{ℕ}
-use lib.IntN.{ℤ, pos}
-use lib.ListN.{getD}
-use lib.Dec.{eqb}
 use Rattle.whole.specs.Signed.{withSignOf}
-use Rattle.rules.specs.Record.{areaOf}
-use mathlib.Core.Path.{_≡_, refl, sym, _∙_, ap}
-use Prim.Native.Nat.{_-_, _≤_}
-use native.Mathlib.Omega.{arith}
-use lib.ListN.{length}
 use Rattle.whole.specs.Below.{replacingFirst}
+use Rattle.whole.proofs.Buffers.{replacing-none, written-length, written-next, unwritten}
+use Rattle.rules.specs.Record.{areaOf}
+use Rattle.posting.specs.Shared.{withSizes}
 use Rattle.posting.specs.Hour.{hourIn}
 use Rattle.posting.proofs.shares.put_area.Statement.{statement}
 use Rattle.posting.proofs.shares.put_area.Tie as tie
-use Rattle.posting.proofs.shares.put_area.Reads as reads
-use Rattle.posting.proofs.shares.put_area.Lts as lts
-use Rattle.posting.proofs.shares.share_in.Reads as share-in-reads
 
 abbrev Inv-loop : tie.InvT-loop
 Inv-loop file a sizes out₀ figures i₀ out i = (i ≤ length sizes) × (out ≡ replacingFirst (withSizes (hourIn file) a (getD figures a (pos 0)) sizes out₀) i out₀)
@@ -30,55 +24,42 @@ Inv-loop file a sizes out₀ figures i₀ out i = (i ≤ length sizes) × (out �
 abbrev μ-loop : tie.MeasureT-loop
 μ-loop file a sizes out₀ figures i₀ out i = length sizes - i
 
--- src/shares.rt:53:5
 loop-holds : tie.Need-loop-holds Inv-loop μ-loop
 loop-holds c = (omega arith, sym (replacing-none _ _))
 
--- src/shares.rt:54:39
 mul-share-in : tie.Need-mul-share-in Inv-loop μ-loop
-mul-share-in c = omega (arith, c .before .before .before .before .pre .0)
+mul-share-in c = omega (arith, c .before .before .before .before .pre .2)
 
--- src/shares.rt:54:39
 array-copy-out-share-in : tie.Need-array-copy-out-share-in Inv-loop μ-loop
-array-copy-out-share-in c = c .before .before .before .before .pre .0
+array-copy-out-share-in c = c .before .before .before .before .pre .2
 
--- src/shares.rt:54:51
 mul-share-in-2 : tie.Need-mul-share-in-2 Inv-loop μ-loop
 mul-share-in-2 c = omega arith
 
--- src/shares.rt:54:51
 shared-slice-read-share-in : tie.Need-shared-slice-read-share-in Inv-loop μ-loop
 shared-slice-read-share-in c = omega arith
 
--- src/shares.rt:54:61
 mul-share-in-3 : tie.Need-mul-share-in-3 Inv-loop μ-loop
 mul-share-in-3 c = omega arith
 
--- src/shares.rt:54:61
 slice-copy-out-share-in : tie.Need-slice-copy-out-share-in Inv-loop μ-loop
-slice-copy-out-share-in c = let len = written-length _ _ _ _ (c .before .before .before .loop .inv .1) (omega (arith, c .before .before .before .before .before .before .pre .1)) in omega (arith, c .before .before .before .before .before .before .pre .1)
+slice-copy-out-share-in c = let len = written-length _ _ _ _ (c .before .before .before .loop .inv .1) (omega (arith, c .before .before .before .before .before .before .pre .3)) in omega (arith, c .before .before .before .before .before .before .pre .3)
 
--- src/shares.rt:54:18
 share-in-requires : tie.Need-share-in-requires Inv-loop μ-loop
-share-in-requires c κs = c .before .before .before .before .before .before .before .pre .2 (c .before .before .before .before .loop .i) (omega arith)
+share-in-requires c κs = (c .before .before .before .before .before .before .before .pre .0, omega (arith, c .before .before .before .before .before .before .before .pre .1), c .before .before .before .before .before .before .before .pre .4 (c .before .before .before .before .loop .i) (omega arith))
 
--- src/shares.rt:54:9
 mul-t20 : tie.Need-mul-t20 Inv-loop μ-loop
 mul-t20 c = omega arith
 
--- src/shares.rt:54:9
 slice-set-from-out : tie.Need-slice-set-from-out Inv-loop μ-loop
-slice-set-from-out c = let len = written-length _ _ _ _ (c .before .before .before .before .before .loop .inv .1) (omega (arith, c .before .before .before .before .before .before .before .before .pre .1)) in omega (arith, c .before .before .before .before .before .before .before .before .pre .1)
+slice-set-from-out c = let len = written-length _ _ _ _ (c .before .before .before .before .before .loop .inv .1) (omega (arith, c .before .before .before .before .before .before .before .before .pre .3)) in omega (arith, c .before .before .before .before .before .before .before .before .pre .3)
 
--- src/shares.rt:55:9
 add-i : tie.Need-add-i Inv-loop μ-loop
 add-i c = omega arith
 
--- src/shares.rt:53:5
 loop-less : tie.Need-loop-less Inv-loop μ-loop
 loop-less c = omega arith
 
--- src/shares.rt:53:5
 loop-again : tie.Need-loop-again Inv-loop μ-loop
 unfolding withSizes
 loop-again c =
@@ -90,13 +71,11 @@ loop-again c =
     let figure = toZ-ofZ w64 (getD (start .args .t2) a (pos 0)) (sfits-of (c .before .before .before .share-in-arg .given)) in
     let before = toZ-ofZ w64 (getD (at .out) (at .i) (pos 0)) (sfits-of (c .before .share-in-arg2 .given)) ∙ unwritten _ _ _ _ (at .inv .1) (at .i) (pos 0) (omega arith) in
     let share = toZ-ofZ w64 _ (sfits-of (c .share-in .ok)) ∙ c .share-in .ensures ∙ ap₂ (λ u x. cond (eqb (areaOf h (at .i)) a) (withSignOf u (getD sizes (at .i) 0)) x) figure before in
-    (omega arith, written-next _ _ _ _ (at .inv .1) _ (omega (arith, start .pre .1)) share)
+    (omega arith, written-next _ _ _ _ (at .inv .1) _ (omega (arith, start .pre .3)) share)
 
--- src/shares.rt:48:1
 same-length : tie.Need-same-length Inv-loop μ-loop
-same-length c = written-length _ _ _ _ (c .before .loop .inv .1) (omega (arith, c .before .before .before .before .pre .1))
+same-length c = written-length _ _ _ _ (c .before .loop .inv .1) (omega (arith, c .before .before .before .before .pre .3))
 
--- src/shares.rt:48:1
 returns : tie.Need-returns Inv-loop μ-loop
 returns c =
     let start = c .before .before .before .before in

@@ -1,20 +1,14 @@
-use mathlib.Core.Path.{_≡_, sym, _∙_, ap}
+-- `posting::shares::put_shares` meets its contract. The loop's invariant: the areas passed are shared, and every other record has 0.
+use mathlib.Core.Path.{_≡_, _∙_, ap}
 use Prim.Native.Nat.{_-_, _≤_}
 use native.Mathlib.Omega.{arith}
 use lib.IntN.{pos}
-use lib.ListN.{length}
 use Rattle.whole.specs.Below.{replacingFirst}
 use Rattle.posting.specs.Hour.{hourIn}
 use Rattle.posting.specs.Shared.{sharesBelow}
 use Rattle.posting.proofs.Areas.{none-shared, same-room, shared-so-far, next-area, all-shared}
 use Rattle.posting.proofs.shares.put_shares.Statement.{statement}
 use Rattle.posting.proofs.shares.put_shares.Tie as tie
-use Rattle.posting.proofs.shares.put_shares.Reads as reads
-use Rattle.posting.proofs.shares.put_shares.Lts as lts
-use Rattle.hourfile.proofs.records.Reads as records-reads
-use Rattle.posting.proofs.hour.areas.Reads as areas-reads
-use Rattle.posting.proofs.shares.clear.Reads as clear-reads
-use Rattle.posting.proofs.shares.share_area.Reads as share-area-reads
 
 abbrev Inv-loop : tie.InvT-loop
 Inv-loop file figures out₀ areas a₀ out a = (a ≤ areas) × (out ≡ replacingFirst (sharesBelow (hourIn file) a) (hourIn file .count) out₀)
@@ -22,15 +16,12 @@ Inv-loop file figures out₀ areas a₀ out a = (a ≤ areas) × (out ≡ replac
 abbrev μ-loop : tie.MeasureT-loop
 μ-loop file figures out₀ areas a₀ out a = areas - a
 
--- src/shares.rt:100:16
 records-requires : tie.Need-records-requires Inv-loop μ-loop
 records-requires c κs = tt
 
--- src/shares.rt:100:5
 clear-requires : tie.Need-clear-requires Inv-loop μ-loop
 clear-requires c κs = omega (arith, c .before .before .before .pre .room, c .records .ensures)
 
--- src/shares.rt:101:9
 areas-requires : tie.Need-areas-requires Inv-loop μ-loop
 areas-requires c κs = tt
 
@@ -38,35 +29,28 @@ areas-requires c κs = tt
 cleared : (c : tie.After-out Inv-loop μ-loop) → c .before .clear .last .0 ≡ replacingFirst (λ i. pos 0) (hourIn (c .before .before .before .before .before .args .file .now) .count) (c .before .before .before .before .before .args .out .now)
 cleared c = c .before .clear .ensures ∙ ap (λ n. replacingFirst (λ i. pos 0) n (c .before .before .before .before .before .args .out .now)) (c .before .before .records .ensures)
 
--- src/shares.rt:103:5
 loop-holds : tie.Need-loop-holds Inv-loop μ-loop
 loop-holds c = (omega arith, none-shared (c .before .before .before .before .before .before .pre) _ (cleared (c .before)))
 
--- src/shares.rt:104:9
 share-area-requires : tie.Need-share-area-requires Inv-loop μ-loop
 share-area-requires c κs =
     let at = c .before .before .loop in
     shared-so-far (c .before .before .before .before .before .before .before .before .before .pre) _ (cleared (c .before .before .before .before)) (at .a) (at .out) (at .inv .1) (omega arith)
 
--- src/shares.rt:105:9
 add-a : tie.Need-add-a Inv-loop μ-loop
 add-a c = omega arith
 
--- src/shares.rt:103:5
 loop-less : tie.Need-loop-less Inv-loop μ-loop
 loop-less c = omega arith
 
--- src/shares.rt:103:5
 loop-again : tie.Need-loop-again Inv-loop μ-loop
 loop-again c =
     let at = c .before .before .before .before .loop in
     (omega arith, next-area (c .before .before .before .before .before .before .before .before .before .before .before .pre) _ (cleared (c .before .before .before .before .before .before)) (at .a) (at .out) (at .inv .1) _ (c .before .share-area .ensures))
 
--- src/shares.rt:96:1
 same-length : tie.Need-same-length Inv-loop μ-loop
 same-length c = same-room (c .before .before .before .before .before .before .before .before .pre) _ (cleared (c .before .before .before)) (c .before .loop .a) _ (c .before .loop .inv .1)
 
--- src/shares.rt:96:1
 returns : tie.Need-returns Inv-loop μ-loop
 returns c = all-shared (c .before .before .before .before .before .before .before .before .pre) _ (cleared (c .before .before .before)) (c .before .loop .a) _ (c .before .loop .inv .1) (omega arith)
 

@@ -1,45 +1,36 @@
-use mir.Syntax.{w64}
-use mir.ValLaws.{toZ-ofZ}
-use borrow.Author.Needs.{sfits-of}
-use mathlib.Core.Path.{_≡_, refl, sym, _∙_, ap}
-use Prim.Native.Nat.{ℕ}
+-- `posting::shares::share_over` meets its contract: the demands as they were put, the sizes as the engine shares them, and their signs.
+use mathlib.Core.Path.{_≡_, _∙_, ap}
 use mathlib.Core.List.{List}
+use Prim.Native.Nat.{ℕ}
 use native.Mathlib.Omega.{arith}
 use lib.IntN.{pos, natAbs}
 use lib.ListN.{length, getD}
+use mir.Syntax.{w64}
+use mir.ValLaws.{toZ-ofZ}
+use borrow.Author.Needs.{sfits-of, needs}
 use Rattle.whole.specs.Below.{valuesBelow, replacingFirst}
 use Rattle.whole.proofs.Buffers.{replacing-ext}
 use Rattle.rules.specs.Record.{Hour}
 use Rattle.rules.specs.Ufe.{ufe}
 use Rattle.rules.specs.Kept.{HourKept}
-use Rattle.share.specs.Shareable.{Shareable, sharesIn}
+use Rattle.share.specs.Shareable.{sharesIn}
 use Rattle.posting.specs.Hour.{hourIn}
-use Rattle.posting.specs.Shared.{demandIn, sharesBelow, withSizes}
+use Rattle.posting.specs.Shared.{demandIn, withSizes}
 use Rattle.posting.proofs.Areas.{shareable, got-length, got-small, one-more-area, area-place, figure-is}
-use borrow.Author.Needs.{needs}
 use Rattle.posting.proofs.shares.share_over.Statement.{statement}
 use Rattle.posting.proofs.shares.share_over.Tie as tie
-use Rattle.posting.proofs.shares.share_over.Reads as reads
-use Rattle.posting.proofs.shares.share_over.Lts as lts
-use Rattle.posting.proofs.shares.put_area.Reads as put-area-reads
-use Rattle.posting.proofs.shares.put_demands.Reads as put-demands-reads
-use Rattle.share.proofs.shares.Reads as shares-reads
 
--- src/shares.rt:64:5
 put-demands-requires : tie.Need-put-demands-requires
-put-demands-requires c κs = search needs
+put-demands-requires c κs = let start = c .before .before .before .before in (start .pre .0 .sharing .kept, start .pre .1)
 
--- src/shares.rt:65:52
 mul-size-of : tie.Need-mul-size-of
 mul-size-of c = omega (arith, area-place (c .before .before .before .before .before .before .before .before .pre .0))
 
--- src/shares.rt:65:52
 array-copy-out-size-of : tie.Need-array-copy-out-size-of
 array-copy-out-size-of c = area-place (c .before .before .before .before .before .before .before .before .pre .0)
 
--- src/shares.rt:65:28
 size-of-requires : tie.Need-size-of-requires
-size-of-requires c κs = search needs
+size-of-requires c κs = tt
 
 module _ (c : tie.After-shares-arg2) where
   abbrev start : tie.Start
@@ -75,29 +66,23 @@ module _ (c : tie.After-put-area-arg2) where
   as-many : length got ≡ h asked .count
   as-many = got-length (kept asked) (start asked .args .a) (start asked .pre .0 .there) (put asked) (start asked .args .sizes .now) (demands-are asked) (start asked .pre .2) got shared
 
--- src/shares.rt:65:5
 shares-requires : tie.Need-shares-requires
 shares-requires c κs = rw (size-is c) (shareable (kept c) (start c .args .a) (start c .pre .0 .there) (put c) (start c .args .sizes .now) (demands-are c) (start c .pre .2))
 
--- src/shares.rt:66:5
 put-area-requires : tie.Need-put-area-requires
 put-area-requires c κs =
     let k = asked c in
-    (area-place (start k .pre .0), omega (arith, as-many c, start k .pre .0 .sharing .room), got-small (kept k) (start k .args .a) (start k .pre .0 .there) (put k) (start k .args .sizes .now) (demands-are k) (start k .pre .2) (got c) (shared c))
+    (start k .pre .0 .sharing .kept, as-many c, area-place (start k .pre .0), omega (arith, as-many c, start k .pre .0 .sharing .room), got-small (kept k) (start k .args .a) (start k .pre .0 .there) (put k) (start k .args .sizes .now) (demands-are k) (start k .pre .2) (got c) (shared c))
 
--- src/shares.rt:60:1
 same-length : tie.Need-same-length
 same-length c = search needs
 
--- src/shares.rt:60:1
 same-length-2 : tie.Need-same-length-2
 same-length-2 c = search needs
 
--- src/shares.rt:60:1
 same-length-3 : tie.Need-same-length-3
 same-length-3 c = search needs
 
--- src/shares.rt:60:1
 returns : tie.Need-returns
 returns c =
     let d = c .before .before in

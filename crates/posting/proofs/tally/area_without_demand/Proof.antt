@@ -1,20 +1,17 @@
-use Rattle.posting.proofs.Tallies.{nobody-demands, somebody-demands, nothing-to-share}
-use Rattle.rules.specs.Record as Record
+-- `posting::tally::area_without_demand` meets its contract. The loop's invariant: no area passed breaks refusal 6.
+use mathlib.Core.Path.{_≡_, refl, sym}
 use mathlib.Core.Logic.{⊎-elim}
-use Rattle.rules.specs.Refusals.{badArea}
-use Rattle.whole.proofs.Search.{first-next, first-hit}
-use mathlib.Core.Path.{_≡_, refl, sym, _∙_, ap}
 use mathlib.Core.Option.{none}
 use Prim.Native.Nat.{_-_, _≤_}
 use native.Mathlib.Omega.{arith}
 use Rattle.whole.specs.Below.{firstBelow}
+use Rattle.whole.proofs.Search.{first-next, first-hit}
+use Rattle.rules.specs.Refusals.{badArea}
+use Rattle.rules.specs.Record as Record
 use Rattle.posting.specs.Hour.{hourIn}
-use Rattle.posting.proofs.Tallies.{noDemand}
+use Rattle.posting.proofs.Tallies.{nobody-demands, somebody-demands, nothing-to-share, noDemand}
 use Rattle.posting.proofs.tally.area_without_demand.Statement.{statement}
 use Rattle.posting.proofs.tally.area_without_demand.Tie as tie
-use Rattle.posting.proofs.tally.area_without_demand.Reads as reads
-use Rattle.posting.proofs.tally.area_without_demand.Lts as lts
-use Rattle.posting.proofs.hour.areas.Reads as areas-reads
 
 abbrev Inv-loop : tie.InvT-loop
 Inv-loop file t ufe areas a₀ a = (a ≤ areas) × (firstBelow (noDemand (hourIn file)) a ≡ none)
@@ -22,32 +19,25 @@ Inv-loop file t ufe areas a₀ a = (a ≤ areas) × (firstBelow (noDemand (hourI
 abbrev μ-loop : tie.MeasureT-loop
 μ-loop file t ufe areas a₀ a = areas - a
 
--- src/tally.rt:71:9
 areas-requires : tie.Need-areas-requires Inv-loop μ-loop
 areas-requires c κs = tt
 
--- src/tally.rt:73:5
 loop-holds : tie.Need-loop-holds Inv-loop μ-loop
 unfolding firstBelow
 loop-holds c = (omega arith, refl)
 
--- src/tally.rt:74:12
 mul-if1 : tie.Need-mul-if1 Inv-loop μ-loop
 mul-if1 c = omega (arith, c .before .before .before .before .pre .0 .kept .hour-kept .areas-most)
 
--- src/tally.rt:74:12
 element-copy-out-if1 : tie.Need-element-copy-out-if1 Inv-loop μ-loop
 element-copy-out-if1 c = omega (arith, c .before .before .before .before .pre .0 .kept .hour-kept .areas-most)
 
--- src/tally.rt:75:16
 mul-if2 : tie.Need-mul-if2 Inv-loop μ-loop
 mul-if2 c = omega (arith, c .before .before .before .before .before .before .pre .0 .kept .hour-kept .areas-most)
 
--- src/tally.rt:75:16
 array-copy-out-if2 : tie.Need-array-copy-out-if2 Inv-loop μ-loop
 array-copy-out-if2 c = omega (arith, c .before .before .before .before .before .before .pre .0 .kept .hour-kept .areas-most)
 
--- src/tally.rt:76:17
 returns : tie.Need-returns Inv-loop μ-loop
 unfolding badArea
 returns c =
@@ -57,15 +47,12 @@ returns c =
     let broken = nobody-demands (start .pre .0) (start .pre .1) a (omega arith) (c .before .before .if1 .taken) (c .if2 .taken) in
     sym (first-hit (noDemand h) a (Record.areas h) (c .before .before .before .before .before .loop .inv .1) broken (omega arith))
 
--- src/tally.rt:79:9
 add-a : tie.Need-add-a Inv-loop μ-loop
 add-a c = omega arith
 
--- src/tally.rt:73:5
 loop-less : tie.Need-loop-less Inv-loop μ-loop
 loop-less c = omega arith
 
--- src/tally.rt:73:5
 loop-again : tie.Need-loop-again Inv-loop μ-loop
 loop-again c =
     let start = c .before .before .before .before .before .before in
@@ -76,7 +63,6 @@ loop-again c =
     (c .if1 .came) in
     (omega arith, first-next (noDemand (hourIn (start .args .file .now))) a (c .before .before .before .loop .inv .1) whole)
 
--- src/tally.rt:67:1
 returns-2 : tie.Need-returns-2 Inv-loop μ-loop
 unfolding badArea
 returns-2 c = let all : Record.areas (hourIn (c .before .before .before .before .args .file .now)) ≡ c .before .loop .a = omega arith in rw all (sym (c .before .loop .inv .1))

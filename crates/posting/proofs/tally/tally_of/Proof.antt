@@ -1,15 +1,11 @@
-use mathlib.Core.Path.{_≡_, refl, sym, _∙_, ap}
+-- `posting::tally::tally_of` meets its contract. The loop's invariant: the tally holds the records passed.
+use mathlib.Core.Path.{_≡_, _∙_, ap}
 use Prim.Native.Nat.{_-_, _≤_}
 use native.Mathlib.Omega.{arith}
 use Rattle.rules.specs.Posting.{tallyAfter}
 use Rattle.posting.specs.Hour.{hourIn}
 use Rattle.posting.proofs.tally.tally_of.Statement.{statement}
 use Rattle.posting.proofs.tally.tally_of.Tie as tie
-use Rattle.posting.proofs.tally.tally_of.Reads as reads
-use Rattle.posting.proofs.tally.tally_of.Lts as lts
-use Rattle.formula.proofs.posting.empty_tally.Reads as empty-tally-reads
-use Rattle.hourfile.proofs.records.Reads as records-reads
-use Rattle.posting.proofs.tally.tally_with.Reads as tally-with-reads
 
 abbrev Inv-loop : tie.InvT-loop
 Inv-loop file n t₀ i₀ t i = (i ≤ n) × (t ≡ tallyAfter (hourIn file) i)
@@ -17,38 +13,30 @@ Inv-loop file n t₀ i₀ t i = (i ≤ n) × (t ≡ tallyAfter (hourIn file) i)
 abbrev μ-loop : tie.MeasureT-loop
 μ-loop file n t₀ i₀ t i = n - i
 
--- src/tally.rt:31:9
 records-requires : tie.Need-records-requires Inv-loop μ-loop
 records-requires c κs = tt
 
--- src/tally.rt:32:9
 empty-tally-requires : tie.Need-empty-tally-requires Inv-loop μ-loop
 empty-tally-requires c κs = tt
 
--- src/tally.rt:34:5
 loop-holds : tie.Need-loop-holds Inv-loop μ-loop
 unfolding tallyAfter
 loop-holds c = (omega arith, c .empty-tally .ensures)
 
--- src/tally.rt:35:9
 tally-with-requires : tie.Need-tally-with-requires Inv-loop μ-loop
 tally-with-requires c κs =
     let start = c .before .before .before .before .before in
     record { kept = start .pre; there = omega arith; posted = c .before .loop .inv .1 }
 
--- src/tally.rt:36:9
 add-i : tie.Need-add-i Inv-loop μ-loop
 add-i c = omega arith
 
--- src/tally.rt:34:5
 loop-less : tie.Need-loop-less Inv-loop μ-loop
 loop-less c = omega arith
 
--- src/tally.rt:34:5
 loop-again : tie.Need-loop-again Inv-loop μ-loop
 loop-again c = (omega arith, c .tally-with .ensures)
 
--- src/tally.rt:27:1
 returns : tie.Need-returns Inv-loop μ-loop
 returns c =
     let start = c .before .before .before .before .before in

@@ -1,61 +1,67 @@
-use mathlib.Core.Path.{_≡_, sym, _∙_, ap}
-use lib.IntN.{ℤ}
+-- `posting::tally::tally_with` meets its contract: the record's part has its area, demand and energy, and the tally has room for them.
+use mathlib.Core.Path.{_≡_, _∙_, ap}
 use mir.Syntax.{w64}
 use mir.Val.{toZ, ofZ}
 use mir.ValLaws.{toZ-ofZ}
 use borrow.Author.Needs.{sfits-of}
-use Rattle.rules.specs.Record.{entryOf}
-use Rattle.rules.specs.Posting.{accounted}
-use Rattle.rules.specs.Kept.{EntryKept}
+use Rattle.rules.specs.Record.{areaOf, entryOf}
+use Rattle.rules.specs.Posting.{accounted, demandOf}
+use Rattle.hourfile.proofs.Rows.{record-inside, row-length}
 use Rattle.posting.specs.Hour.{hourIn}
+use Rattle.posting.proofs.Rows.{row-area, row-entry, row-demand}
 use Rattle.posting.proofs.Tallies.{has-room, next-tally}
-use borrow.Author.Needs.{needs}
 use Rattle.posting.proofs.tally.tally_with.Statement.{statement}
 use Rattle.posting.proofs.tally.tally_with.Tie as tie
-use Rattle.posting.proofs.tally.tally_with.Reads as reads
-use Rattle.posting.proofs.tally.tally_with.Lts as lts
-use Rattle.formula.proofs.deviation.accounted.Reads as accounted-reads
-use Rattle.formula.proofs.posting.tallied.Reads as tallied-reads
-use Rattle.posting.proofs.hour.area_of.Reads as area-of-reads
-use Rattle.posting.proofs.hour.demand_of.Reads as demand-of-reads
-use Rattle.posting.proofs.hour.entry_of.Reads as entry-of-reads
 
--- src/tally.rt:20:9
-area-of-requires : tie.Need-area-of-requires
-area-of-requires c κs = search needs
+record-requires : tie.Need-record-requires
+record-requires c κs = record-inside (c .before .pre .kept) (c .before .pre .there)
 
--- src/tally.rt:21:9
-demand-of-requires : tie.Need-demand-of-requires
-demand-of-requires c κs = search needs
+abbrev start : tie.After-record → tie.Start
+start c = c .before .before
 
--- src/tally.rt:22:48
-entry-of-requires : tie.Need-entry-of-requires
-entry-of-requires c κs = search needs
+area-in-requires : tie.Need-area-in-requires
+area-in-requires c κs = row-length (start c .pre .kept) (start c .pre .there) (c .record .ensures)
 
--- src/tally.rt:22:9
+demand-in-requires : tie.Need-demand-in-requires
+demand-in-requires c κs = let r = c .before in row-length (start r .pre .kept) (start r .pre .there) (r .record .ensures)
+
+entry-in-requires : tie.Need-entry-in-requires
+entry-in-requires c κs = let r = c .before .before in row-length (start r .pre .kept) (start r .pre .there) (r .record .ensures)
+
 accounted-requires : tie.Need-accounted-requires
 accounted-requires c κs =
-    let start = c .before .before .before .before in
-    rw (c .entry-of .ensures) (start .pre .kept .hour-kept .record-kept (start .args .i) (start .pre .there) .entry-kept)
+    let r = c .before .before .before in
+    rw (c .entry-in .ensures ∙ row-entry (start r .pre .kept) (start r .pre .there) (r .record .ensures)) (start r .pre .kept .hour-kept .record-kept (start r .args .i) (start r .pre .there) .entry-kept)
 
-energy-is : (c : tie.After-accounted) → toZ w64 (ofZ w64 (c .accounted .result)) ≡ accounted (entryOf (hourIn (c .before .before .before .before .before .args .file .now)) (c .before .before .before .before .before .args .i))
-energy-is c = toZ-ofZ w64 _ (sfits-of (c .accounted .ok)) ∙ c .accounted .ensures ∙ ap accounted (c .before .entry-of .ensures)
+module _ (c : tie.After-accounted) where
+  abbrev read : tie.After-record
+  read = c .before .before .before .before
 
--- src/tally.rt:23:5
+  area-is : c .before .before .before .area-in .result ≡ areaOf (hourIn (start read .args .file .now)) (start read .args .i)
+  area-is = c .before .before .before .area-in .ensures ∙ row-area (start read .pre .kept) (start read .pre .there) (read .record .ensures)
+
+  demand-is : c .before .before .demand-in .result ≡ demandOf (hourIn (start read .args .file .now)) (start read .args .i)
+  demand-is = c .before .before .demand-in .ensures ∙ row-demand (start read .pre .kept) (start read .pre .there) (read .record .ensures)
+
+  energy-is : toZ w64 (ofZ w64 (c .accounted .result)) ≡ accounted (entryOf (hourIn (start read .args .file .now)) (start read .args .i))
+  energy-is = toZ-ofZ w64 _ (sfits-of (c .accounted .ok))
+      ∙ c .accounted .ensures
+      ∙ ap accounted (c .before .entry-in .ensures ∙ row-entry (start read .pre .kept) (start read .pre .there) (read .record .ensures))
+
 tallied-requires : tie.Need-tallied-requires
-tallied-requires c κs = has-room (c .before .before .before .before .before .pre) (c .before .before .before .area-of .ensures) (c .before .before .demand-of .ensures) (energy-is c)
+tallied-requires c κs = has-room (start (read c) .pre) (area-is c) (demand-is c) (energy-is c)
 
--- src/tally.rt:16:1
 returns : tie.Need-returns
-returns c = c .tallied .ensures ∙ next-tally (c .before .before .before .before .before .before .pre) (c .before .before .before .before .area-of .ensures) (c .before .before .before .demand-of .ensures) (energy-is (c .before))
+returns c = let d = c .before in c .tallied .ensures ∙ next-tally (start (read d) .pre) (area-is d) (demand-is d) (energy-is d)
 
 pub tally-with-spec : {M : Type 1} → statement M
 tally-with-spec =
     tie.close
     (tie.spec
-    area-of-requires
-    demand-of-requires
-    entry-of-requires
+    record-requires
+    area-in-requires
+    demand-in-requires
+    entry-in-requires
     accounted-requires
     tallied-requires
     returns)

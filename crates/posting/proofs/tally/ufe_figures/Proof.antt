@@ -1,24 +1,20 @@
-use Rattle.rules.specs.Record as Record
-use lib.ListN.{length}
+-- `posting::tally::ufe_figures` meets its contract. The loop's invariant: of eight zeros the places passed are replaced by their area's UFE.
+use mathlib.Core.Path.{_≡_, sym, _∙_, ap}
+use Prim.Native.Nat.{_-_, _≤_}
+use native.Mathlib.Omega.{arith}
+use lib.IntN.{pos}
+use lib.ListN.{replicate}
 use mir.Syntax.{w64}
 use mir.ValLaws.{toZ-ofZ}
 use borrow.Author.Needs.{sfits-of}
-use Rattle.whole.proofs.Buffers.{replacing-none, replacing-next}
-use Rattle.posting.proofs.Tallies.{figures-are}
-use mathlib.Core.Path.{_≡_, refl, sym, _∙_, ap}
-use Prim.Native.Nat.{_-_, _≤_}
-use native.Mathlib.Omega.{arith}
-use lib.IntN.{ℤ, pos}
-use lib.ListN.{replicate}
 use Rattle.whole.specs.Below.{replacingFirst}
+use Rattle.whole.proofs.Buffers.{replacing-none, replacing-next}
+use Rattle.rules.specs.Record as Record
 use Rattle.rules.specs.Ufe as Ufe
 use Rattle.posting.specs.Hour.{hourIn}
+use Rattle.posting.proofs.Tallies.{figures-are}
 use Rattle.posting.proofs.tally.ufe_figures.Statement.{statement}
 use Rattle.posting.proofs.tally.ufe_figures.Tie as tie
-use Rattle.posting.proofs.tally.ufe_figures.Reads as reads
-use Rattle.posting.proofs.tally.ufe_figures.Lts as lts
-use Rattle.posting.proofs.hour.areas.Reads as areas-reads
-use Rattle.posting.proofs.tally.ufe_of.Reads as ufe-of-reads
 
 abbrev Inv-loop : tie.InvT-loop
 Inv-loop file t areas ufe₀ a₀ ufe a = (a ≤ areas) × (ufe ≡ replacingFirst (Ufe.ufe (hourIn file)) a (replicate 8 (pos 0)))
@@ -26,35 +22,27 @@ Inv-loop file t areas ufe₀ a₀ ufe a = (a ≤ areas) × (ufe ≡ replacingFir
 abbrev μ-loop : tie.MeasureT-loop
 μ-loop file t areas ufe₀ a₀ ufe a = areas - a
 
--- src/tally.rt:56:9
 areas-requires : tie.Need-areas-requires Inv-loop μ-loop
 areas-requires c κs = tt
 
--- src/tally.rt:59:5
 loop-holds : tie.Need-loop-holds Inv-loop μ-loop
 loop-holds c = (omega arith, sym (replacing-none _ _))
 
--- src/tally.rt:60:18
 ufe-of-requires : tie.Need-ufe-of-requires Inv-loop μ-loop
 ufe-of-requires c κs = (c .before .before .before .before .pre, omega arith)
 
--- src/tally.rt:60:9
 mul-ufe : tie.Need-mul-ufe Inv-loop μ-loop
 mul-ufe c = omega (arith, c .before .before .before .before .before .pre .kept .hour-kept .areas-most)
 
--- src/tally.rt:60:9
 array-set-from-ufe : tie.Need-array-set-from-ufe Inv-loop μ-loop
 array-set-from-ufe c = omega (arith, c .before .before .before .before .before .pre .kept .hour-kept .areas-most)
 
--- src/tally.rt:61:9
 add-a : tie.Need-add-a Inv-loop μ-loop
 add-a c = omega arith
 
--- src/tally.rt:59:5
 loop-less : tie.Need-loop-less Inv-loop μ-loop
 loop-less c = omega arith
 
--- src/tally.rt:59:5
 loop-again : tie.Need-loop-again Inv-loop μ-loop
 loop-again c =
     let start = c .before .before .before .before .before in
@@ -63,7 +51,6 @@ loop-again c =
     let read = toZ-ofZ w64 _ (sfits-of (c .ufe-of .ok)) ∙ c .ufe-of .ensures in
     (omega arith, rw (c .before .before .loop .inv .1, read) (replacing-next (Ufe.ufe h) a (replicate 8 (pos 0)) (omega (arith, start .pre .kept .hour-kept .areas-most))))
 
--- src/tally.rt:52:1
 returns : tie.Need-returns Inv-loop μ-loop
 returns c =
     let start = c .before .before .before .before in

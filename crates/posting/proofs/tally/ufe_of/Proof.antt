@@ -1,52 +1,42 @@
-use mathlib.Core.Path.{_≡_, sym, _∙_, ap}
+-- `posting::tally::ufe_of` meets its contract: ties and energy keep their ranges, so that their sum fits.
+use mathlib.Core.Path.{_≡_, _∙_}
 use native.Mathlib.Omega.{arith}
-use lib.IntN.{ℤ, pos}
+use lib.IntN.{pos}
 use mir.Syntax.{w64}
-use mir.Val.{toZ, ofZ}
+use mir.Val.{toZ}
+use borrow.Author.Needs.{needs}
 use Rattle.whole.proofs.Ranges.{u-upto}
 use Rattle.whole.proofs.Machine.{Num, #, at, local, _:+_, _:-_, _:*_, fits, stored}
 use Rattle.rules.specs.Record.{tieIn, tieOut}
 use Rattle.posting.specs.Hour.{hourIn}
 use Rattle.posting.proofs.Wide.{word-is}
 use Rattle.posting.proofs.Tallies.{energy-under, ufe-is}
-use borrow.Author.Needs.{needs}
 use Rattle.posting.proofs.tally.ufe_of.Statement.{statement}
 use Rattle.posting.proofs.tally.ufe_of.Tie as tie
-use Rattle.posting.proofs.tally.ufe_of.Reads as reads
-use Rattle.posting.proofs.tally.ufe_of.Lts as lts
-use Rattle.hourfile.proofs.head_word.Reads as head-word-reads
 
--- src/tally.rt:46:49
 mul-head-word : tie.Need-mul-head-word
-mul-head-word c = search needs
+mul-head-word c = omega arith
 
--- src/tally.rt:46:44
 add-head-word : tie.Need-add-head-word
-add-head-word c = search needs
+add-head-word c = omega arith
 
--- src/tally.rt:46:18
 head-word-requires : tie.Need-head-word-requires
-head-word-requires c κs = search needs
+head-word-requires c κs = tt
 
--- src/tally.rt:46:18
 cast-tie-in : tie.Need-cast-tie-in
-cast-tie-in c = search needs
+cast-tie-in c = omega arith
 
--- src/tally.rt:47:50
 mul-head-word-2 : tie.Need-mul-head-word-2
-mul-head-word-2 c = search needs
+mul-head-word-2 c = omega arith
 
--- src/tally.rt:47:45
 add-head-word-2 : tie.Need-add-head-word-2
-add-head-word-2 c = search needs
+add-head-word-2 c = omega arith
 
--- src/tally.rt:47:19
 head-word-requires-2 : tie.Need-head-word-requires-2
-head-word-requires-2 c κs = search needs
+head-word-requires-2 c κs = tt
 
--- src/tally.rt:47:19
 cast-tie-out : tie.Need-cast-tie-out
-cast-tie-out c = search needs
+cast-tie-out c = omega arith
 
 module _ (c : tie.After-head-word2) where
   abbrev start : tie.Start
@@ -69,27 +59,21 @@ module _ (c : tie.After-head-word2) where
   abbrev whole : Num
   whole = # (pos 10000) :* ties :+ at (energy-under (start .pre .0) (start .args .a) (start .pre .1))
 
--- src/tally.rt:48:14
 sub-result : tie.Need-sub-result
 sub-result c = fits (ties c) tt
 
--- src/tally.rt:48:5
 mul-result : tie.Need-mul-result
 mul-result c = fits (# (pos 10000) :* ties c) tt
 
--- src/tally.rt:48:34
 mul-result-2 : tie.Need-mul-result-2
 mul-result-2 c = search needs
 
--- src/tally.rt:48:34
 element-copy-out-result : tie.Need-element-copy-out-result
 element-copy-out-result c = search needs
 
--- src/tally.rt:48:5
 add-result : tie.Need-add-result
 add-result c = fits (whole (c .before)) tt
 
--- src/tally.rt:42:1
 returns : tie.Need-returns
 returns c =
     let start = c .before .before .before .before in

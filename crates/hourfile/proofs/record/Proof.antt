@@ -1,10 +1,10 @@
--- `hourfile::refusals::record` meets its contract: 48 bytes lie between the two ends.
+-- `hourfile::record` meets its contract: 48 bytes lie between the two ends.
 use mathlib.Core.Path.{_≡_, ap}
 use Prim.Native.Nat.{ℕ, _+_, _*_, _-_, _/_}
 use native.Mathlib.Omega.{arith}
 use lib.ListN.{take, drop}
-use Rattle.hourfile.proofs.refusals.record.Statement.{statement}
-use Rattle.hourfile.proofs.refusals.record.Tie as tie
+use Rattle.hourfile.proofs.record.Statement.{statement}
+use Rattle.hourfile.proofs.record.Tie as tie
 
 gap : (from : ℕ) → (from + 48) - from ≡ 48
 gap from = omega arith
