@@ -166,12 +166,9 @@ pub fn record_word(file: &[u8], i: usize, w: usize) -> u32
     0
 }
 
-// A word in two's complement.
+// A word in two's complement: 2^31 is added modulo 2^32 and taken off again as a number, which compiles to one instruction.
 pub fn signed(w: u32) -> i64
     ensures { λ r. ⌜ r ≡ Record.signed w ⌝ }
 {
-    if w < 2147483648 {
-        return w as i64;
-    }
-    (w as i64) - 4294967296
+    (std::num::wrapping_add_u32(w, 2147483648) as i64) - 2147483648
 }
