@@ -1,5 +1,5 @@
-// The hour file: the block reader, the words of a block and of the head, and the part that is a record. Any byte string and any position is taken;
-// where a file has no such word, the word is 0. Refusals 1 to 5 are `examine`.
+// The hour file: the block reader, the words of a block and of the head, and the part that is a record. A reader of words takes any byte
+// string and any position, and answers 0 where there is no such word. Refusals 1 to 5 are `examine`.
 ghost use mathlib.Core.Path.{_≡_};
 ghost use Prim.Native.Nat.{_+_, _*_, _/_, _≤_, _<_};
 ghost use lib.ListN.{length, getD};
@@ -153,12 +153,9 @@ pub fn record(file: &[u8], i: usize) -> &[u8]
     &file[from..to]
 }
 
-// A word in two's complement.
+// A word in two's complement: 2^31 is added modulo 2^32 and taken off again as a number, which compiles to one instruction.
 pub fn signed(w: u32) -> i64
     ensures { λ r. ⌜ r ≡ Record.signed w ⌝ }
 {
-    if w < 2147483648 {
-        return w as i64;
-    }
-    (w as i64) - 4294967296
+    (std::num::wrapping_add_u32(w, 2147483648) as i64) - 2147483648
 }

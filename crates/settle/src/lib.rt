@@ -69,12 +69,12 @@ fn copy(held: &[i64], out: &mut [i64])
 
 fn copy_counts(held: &[u32], out: &mut [u32])
     requires { ⌜ length (now held) ≤ length (now out) ⌝ }
-    ensures { λ _. ⌜ now (out .exit) ≡ replacingFirst (λ i. getD (now (held .entry)) i 0) (length (now (held .entry))) (now (out .entry)) ⌝ }
+    ensures { λ _. ⌜ now (out .exit) ≡ replacingFirst (λ m. getD (now (held .entry)) m 0) (length (now (held .entry))) (now (out .entry)) ⌝ }
 {
-    let mut i = 0;
-    while i < held.len() {
-        out[i] = held[i];
-        i += 1;
+    let mut m = 0;
+    while m < held.len() {
+        out[m] = held[m];
+        m += 1;
     }
 }
 

@@ -9,10 +9,10 @@ use Rattle.settle.proofs.copy_counts.Statement.{statement}
 use Rattle.settle.proofs.copy_counts.Tie as tie
 
 abbrev Inv-loop : tie.InvT-loop
-Inv-loop held out₀ i₀ out i = (i ≤ length held) × (out ≡ replacingFirst (λ k. getD held k 0) i out₀)
+Inv-loop held out₀ m₀ out m = (m ≤ length held) × (out ≡ replacingFirst (λ k. getD held k 0) m out₀)
 
 abbrev μ-loop : tie.MeasureT-loop
-μ-loop held out₀ i₀ out i = length held - i
+μ-loop held out₀ m₀ out m = length held - m
 
 loop-holds : tie.Need-loop-holds Inv-loop μ-loop
 loop-holds c = (omega arith, sym (replacing-none _ _))
@@ -29,8 +29,8 @@ mul-out-2 c = omega arith
 slice-write-out : tie.Need-slice-write-out Inv-loop μ-loop
 slice-write-out c = omega (arith, written-length _ _ _ _ (c .before .before .loop .inv .1) (omega arith))
 
-add-i : tie.Need-add-i Inv-loop μ-loop
-add-i c = omega arith
+add-m : tie.Need-add-m Inv-loop μ-loop
+add-m c = omega arith
 
 loop-less : tie.Need-loop-less Inv-loop μ-loop
 loop-less c = omega arith
@@ -44,7 +44,7 @@ same-length c = written-length _ _ _ _ (c .before .loop .inv .1) (omega arith)
 returns : tie.Need-returns Inv-loop μ-loop
 returns c =
     let start = c .before .before in
-    let all : c .before .loop .i ≡ length (start .args .held .now) = omega arith in
+    let all : c .before .loop .m ≡ length (start .args .held .now) = omega arith in
     c .before .loop .inv .1 ∙ ap (λ n. replacingFirst (λ k. getD (start .args .held .now) k 0) n (start .args .out .now)) all
 
 pub copy-counts-spec : {M : Type 1} → statement M
@@ -58,7 +58,7 @@ copy-counts-spec =
     shared-slice-read-out
     mul-out-2
     slice-write-out
-    add-i
+    add-m
     loop-less
     loop-again
     same-length
