@@ -18,7 +18,8 @@ struct standing standing = { "nothing yet", 0, 0 };
 /* Under some emulators a handler is entered with the stack 8 bytes off, on which dprintf faults: it is aligned anew. */
 __attribute__((force_align_arg_pointer)) static void caught(int number)
 {
-    dprintf(STDERR_FILENO, "OUT OF BOUNDS (signal %d) in %s, seed %lu, case %lu\n", number, standing.function, standing.seed, standing.case_number);
+    dprintf(STDERR_FILENO, "OUT OF BOUNDS (signal %d) in %s, seed %lu, case %lu\n", number, standing.function, standing.seed,
+        standing.case_number);
     _exit(OUT_OF_BOUNDS);
 }
 
@@ -79,6 +80,7 @@ void must(int right, const char *what)
 {
     if (right)
         return;
-    dprintf(STDERR_FILENO, "WRONG in %s, seed %lu, case %lu: %s\n", standing.function, standing.seed, standing.case_number, what);
+    dprintf(STDERR_FILENO, "WRONG in %s, seed %lu, case %lu: %s\n", standing.function, standing.seed, standing.case_number,
+        what);
     _exit(WRONG);
 }
