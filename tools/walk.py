@@ -233,6 +233,11 @@ def put_mods():
         kids = sorted(set([f[:-5] for f in names if f.endswith('.antt')] + subs))
         write(os.path.join(PROOFS, os.path.relpath(folder, PROOFS) + '.antt'), '-- Made by tools/walk.py.\n' + ''.join(f'pub mod {k}\n' for k in kids))
 
+def by_hand(fn):
+    """whether people wrote the walk of this function, so that its contract alone is carried over, for its callers"""
+    path = os.path.join(PROOFS, fn, 'Proof.antt')
+    return os.path.exists(path) and not re.search(r'^mod Lts$', open(path).read(), flags=re.M)
+
 def run(top, *command):
     r = subprocess.run(['rt', *command], cwd=top, capture_output=True, text=True)
     return r.stdout + r.stderr
@@ -258,6 +263,7 @@ try:
         of = f'-- Made by tools/walk.py: `{CRATE}::{fn.replace("/", "::")}`, '
         if LENT.search(SIGNATURES[fn]):
             for m in ('Kinds', 'Reads'): write(os.path.join(PROOFS, 'Port', fn, m + '.antt'), of + 'its contract as a caller and the derivation read it.\n' + made(m))
+        if by_hand(fn): continue
         for m in ('Lts', 'Tie'): write(os.path.join(PROOFS, fn, 'Proof', m + '.antt'), of + ('the derivation of its body.\n' if m == 'Lts' else 'the needs that the derivation leaves.\n') + made(m))
         if re.search(r'SInt Syntax\.w16', open(os.path.join(PROOFS, fn, 'Proof', 'Lts.antt')).read()): print(f'{fn}: something is not carried over, see Lts.antt at `w16`')
         if not os.path.exists(os.path.join(PROOFS, fn, 'Proof.antt')): write(os.path.join(PROOFS, fn, 'Proof.antt'), first_proof(fn))

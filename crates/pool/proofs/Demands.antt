@@ -1,75 +1,60 @@
--- What the contract of `settle` gives, and nothing else is used of it: no second result fits; refused, nothing is changed; accepted, every
--- figure is the tariff's, and the sums come out whole.
-use mathlib.Core.Path.{_≡_, sym, _∙_, ap}
-use mathlib.Core.Bool.{cond}
+-- What the contracts of the functions for C give, and nothing else is used of them: no second result fits; a refused hour changes nothing;
+-- of an accepted one every figure is the tariff's, and the sums come out whole. The contract of `settle` is `Fits`, of which `Outcome` of
+-- `rules` says the same.
+use mathlib.Core.Path.{_≡_, refl, sym, _∙_, ap}
 use mathlib.Core.List.{List}
-use Prim.Native.Nat.{ℕ, _<_}
-use native.Mathlib.Omega.{arith}
-use lib.IntN.{ℤ, pos}
-use lib.ListN.{getD}
-use lib.Dec.{ltb}
-use borrow.Author.Tests.{lt-ltb}
-use Rattle.whole.proofs.Totals.{total-ext}
-use Rattle.whole.proofs.Buffers.{getD-replacing, getD-values}
+use Prim.Native.Nat.{ℕ}
+use lib.IntN.{ℤ}
 use Rattle.rules.specs.declared.Answer.the-variants.{Accepted}
-use Rattle.rules.specs.declared.Settled.{Settled}
-use Rattle.rules.specs.Record.{Hour, members, areas, areaOf}
-use Rattle.rules.specs.Ufe.{ufe}
-use Rattle.rules.specs.Charge.{shareOf, charge}
 use Rattle.rules.specs.HourFile.{hourly, hourOf}
-use Rattle.rules.specs.Refusals.{verdictOf, fileRows, hourRows, sumRows}
-use Rattle.rules.specs.Settling.{Buffers, filled, ufeFigures, noFigures, bufferRows, settleRows}
-use Rattle.rules.specs.Kept.{HourKept}
+use Rattle.rules.specs.Outcome.{FairOutcome}
 use Rattle.rules.specs.Promises.{Accepts, ByFormula, Fits}
-use Rattle.rules.proofs.Rows.{one-answer, one-result, whole-parts, settle-accepts, settle-fills, settle-changes-nothing}
-use Rattle.rules.proofs.Demands.{demand2, demand3}
-use Rattle.rules.proofs.Kept.{file-kept}
-use Rattle.pool.specs.Demands.{FairOutcome}
+use Rattle.rules.specs.Settling.{Buffers, Settlement, Written, ReadAmount, noFigures, settleRows, settle, write, read}
+use Rattle.rules.proofs.Outcome.{by-formula, fair-outcome}
+use Rattle.rules.proofs.Rows.{zero-accepts, settle-numbered, settle-verdict, settle-changes-nothing}
+use Rattle.pool.specs.declared.boundary.NumberedAnswer.{NumberedAnswer}
+use Rattle.pool.specs.declared.boundary.NumberedReading.{NumberedReading}
+use Rattle.pool.specs.declared.boundary.NumberedSettled.{NumberedSettled}
+use Rattle.pool.specs.declared.boundary.Part.{Part}
+use Rattle.pool.specs.HandedOut.{settlement, written, readAmount, bodyPart}
 
-module _ (s : List ℕ) (b : Buffers) {r : Settled} {after : Buffers} (fits : Fits s b r after) where
-  -- a second call on the same file and buffers answers and leaves the same
-  pub no-second-result : {t : Settled} {other : Buffers} → Fits s b t other → (r ≡ t) × (after ≡ other)
-  no-second-result {t} {other} g = one-result s b r t after other fits g
+-- ---- `sneupelaar_settle`
 
-  pub refused-unchanged : (r .answer ≡ Accepted → ⊥) → (after ≡ b) × (r .ufe ≡ noFigures)
+module _ (s : List ℕ) (b : Buffers) {r : NumberedSettled} {after : Buffers} (is : settlement r after ≡ settle s b) where
+  pub one-settling : {t : NumberedSettled} {other : Buffers} → settlement t other ≡ settle s b → (r ≡ t) × (after ≡ other)
+  one-settling too = (
+    ap (λ (x : Settlement). record { number = x .verdict .number; place = x .verdict .place; ufe = x .ufe }) (is ∙ sym too),
+    ap (λ (x : Settlement). x .buffers) (is ∙ sym too),
+  )
+
+  pub refused-unchanged : (r .number ≡ 0 → ⊥) → (after ≡ b) × (r .ufe ≡ noFigures)
   refused-unchanged refused =
-      let same = settle-changes-nothing s b (λ e. refused (one-answer (r .answer) Accepted (fits .verdict-is ∙ e))) in
-      (fits .buffers-are ∙ same .0, fits .ufe-is ∙ same .1)
+      let same = settle-changes-nothing s b (λ a. refused (ap (λ (x : Settlement). x .verdict .number) is ∙ ap (λ v. v .number) a)) in
+      (ap (λ (x : Settlement). x .buffers) is ∙ same .0, ap (λ (x : Settlement). x .ufe) is ∙ same .1)
 
-  module _ (accepts : r .answer ≡ Accepted) where
-    abbrev h : Hour
-    h = hourOf hourly s
+  module _ (zero : r .number ≡ 0) where
+    accepts : Accepts s b
+    accepts = settle-verdict s b ∙ zero-accepts (settleRows s b) (settle-numbered s b) (ap (λ v. v .number) (sym (settle-verdict s b)) ∙ ap (λ (x : Settlement). x .verdict .number) (sym is) ∙ zero)
 
-    hour-accepted : Accepts s b
-    hour-accepted = sym (fits .verdict-is) ∙ ap verdictOf accepts
+    fits : Fits s b (record { answer = Accepted; ufe = r .ufe }) after
+    fits = record { verdict-is = sym accepts; ufe-is = ap (λ (x : Settlement). x .ufe) is; buffers-are = ap (λ (x : Settlement). x .buffers) is }
 
-    pub by-formula : ByFormula h b (r .ufe) after
-    by-formula = rw (fits .ufe-is, fits .buffers-are) (demand2 .settled s b hour-accepted)
+    pub accepted-by-formula : ByFormula (hourOf hourly s) b (r .ufe) after
+    accepted-by-formula = by-formula s b fits refl
 
-    kept : HourKept h
-    unfolding settleRows hourRows
-    kept = file-kept s (whole-parts (fileRows s) (sumRows h) .0 (whole-parts (hourRows s) (bufferRows h b) .0 (settle-accepts s b .0 hour-accepted) .0) .0) .hour-kept
+    pub accepted-fairly : FairOutcome (hourOf hourly s) (r .ufe) after
+    accepted-fairly = fair-outcome s b fits refl
 
-    ufe-at : (a : ℕ) → a < areas h → getD (r .ufe) a (pos 0) ≡ ufe h a
-    unfolding ufeFigures
-    ufe-at a l = ap (λ (u : List ℤ). getD u a (pos 0)) (fits .ufe-is ∙ settle-fills s b hour-accepted .1)
-        ∙ getD-values (λ a. cond (ltb a (areas h)) (ufe h a) (pos 0)) 8 a (pos 0) (omega (arith, kept .areas-most)) ∙ rw (lt-ltb a (areas h) l)
+-- ---- the others
 
-    share-at : (i : ℕ) → i < h .count → getD (after .shares) i (pos 0) ≡ shareOf h i
-    unfolding filled
-    share-at i l = ap (λ (x : Buffers). getD (x .shares) i (pos 0)) (fits .buffers-are ∙ settle-fills s b hour-accepted .0) ∙ getD-replacing (shareOf h) (h .count) (b .shares) i (pos 0) l
+pub one-writing : (field : List ℕ) (z : ℤ) {r t : NumberedAnswer} {after other : List ℕ} → written r after ≡ write field z → written t other ≡ write field z → (r ≡ t) × (after ≡ other)
+one-writing field z is too = (
+  ap (λ (x : Written). record { number = x .verdict .number; place = x .verdict .place }) (is ∙ sym too),
+  ap (λ (x : Written). x .field) (is ∙ sym too),
+)
 
-    charge-at : (m : ℕ) → m < members h → getD (after .charges) m (pos 0) ≡ charge h m
-    unfolding filled
-    charge-at m l = ap (λ (x : Buffers). getD (x .charges) m (pos 0)) (fits .buffers-are ∙ settle-fills s b hour-accepted .0) ∙ getD-replacing (charge h) (members h) (b .charges) m (pos 0) l
+pub one-reading : (field : List ℕ) {r t : NumberedReading} → readAmount r ≡ read field → readAmount t ≡ read field → r ≡ t
+one-reading field is too = ap (λ (x : ReadAmount). record { number = x .verdict .number; place = x .verdict .place; amount = x .amount }) (is ∙ sym too)
 
-    pub fair-outcome : FairOutcome h (r .ufe) after
-    fair-outcome =
-        let fair = demand3 s b hour-accepted in
-        record {
-          exact = λ a l. total-ext _ _ (h .count) (λ i k. rw (share-at i k)) ∙ fair .exact a l ∙ sym (ufe-at a l);
-          near = λ i l load some. rw (share-at i l, ufe-at (areaOf h i) (kept .record-kept i l .area-there)) (fair .near i l load some);
-          none-to-share = λ i l none. share-at i l ∙ fair .none-to-share i l none;
-          charged = λ m l. rw (charge-at m l) (fair .charged m l);
-          pooled = rw (total-ext (λ m. getD (after .charges) m (pos 0)) (charge h) (members h) charge-at) (fair .pooled);
-        }
+pub one-part : (s : List ℕ) (b : ℕ) {p q : Part} → p ≡ bodyPart s b → q ≡ bodyPart s b → p ≡ q
+one-part s b is too = is ∙ sym too

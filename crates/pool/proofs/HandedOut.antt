@@ -1,7 +1,7 @@
--- The functions for C: an answer's number and place are its verdict; where a body stands in the file; and no second result fits.
-use Prim.Native.Nat.{ℕ, _+_, _*_, _≤_, _<_}
-use mathlib.Core.Path.{_≡_, refl, sym, _∙_, ap, ap₂}
-use mathlib.Core.Bool.{true, false, _||_}
+-- The functions for C: an answer's number and place are its verdict, and where a body stands in the file.
+use Prim.Native.Nat.{ℕ, _+_, _*_, _<_}
+use mathlib.Core.Path.{_≡_, sym, _∙_, ap, ap₂}
+use mathlib.Core.Bool.{_||_}
 use mathlib.Core.List.{List}
 use native.Mathlib.Omega.{arith}
 use lib.IntN.{ℤ}
@@ -14,12 +14,11 @@ use Rattle.rules.specs.declared.Settled.{Settled}
 use Rattle.rules.specs.HourFile.{hourly, lengthBad, blocks, body}
 use Rattle.rules.specs.Promises.{Fits}
 use Rattle.rules.specs.Refusals.{Verdict, refusedAt, verdictOf, numberOf, placeOf}
-use Rattle.rules.specs.Settling.{Buffers, Settlement, Written, ReadAmount, settle, write, read}
+use Rattle.rules.specs.Settling.{Buffers, settle}
 use Rattle.rules.proofs.Words.{body-length, body-empty-bad, body-empty-past}
-use Rattle.pool.specs.declared.boundary.NumberedAnswer.{NumberedAnswer}
-use Rattle.pool.specs.declared.boundary.NumberedReading.{NumberedReading}
 use Rattle.pool.specs.declared.boundary.NumberedSettled.{NumberedSettled}
-use Rattle.pool.specs.HandedOut.{settlement, written, readAmount, bodyPart}
+use Rattle.pool.specs.declared.boundary.Part.{Part}
+use Rattle.pool.specs.HandedOut.{settlement, bodyPart}
 
 pub numbered-verdict : (a : Answer) {n p : ℕ} → n ≡ numberOf a → p ≡ placeOf a → refusedAt n p ≡ verdictOf a
 numbered-verdict a e f = ap₂ refusedAt e f
@@ -39,6 +38,10 @@ module _ (s : List ℕ) (b : ℕ) where
   pub part-is-body : take (bodyPart s b .length) (drop (bodyPart s b .from) s) ≡ body hourly s b
   unfolding bodyPart body
   part-is-body = split (lengthBad hourly s || leb (blocks s) b) (λ t. rw t) (λ f. rw f)
+
+  -- what the contract says of the part handed out
+  pub handed-out : {p : Part} → bodyPart s b ≡ p → (p ≡ bodyPart s b) × (take (p .length) (drop (p .from) s) ≡ body hourly s b)
+  handed-out e = (sym e, ap (λ (q : Part). take (q .length) (drop (q .from) s)) (sym e) ∙ part-is-body)
 
   pub record Absent : Type 0 where
     pub empty : length (body hourly s b) ≡ 0
@@ -62,20 +65,3 @@ module _ (s : List ℕ) (b : ℕ) where
 
   pub one-there : {n : ℕ} → n ≡ length (body hourly s b) → (n ≡ 0 → ⊥) → (bodyPart s b ≡ record { from = 512 * b + 32; length = n }) × (b < blocks s)
   one-there e some = absent-or-there (λ a. absurd (some (e ∙ a .empty))) (λ t. (t .part ∙ rw (sym (e ∙ t .full)), t .before-end))
-
--- ---- no second result fits
-
-pub one-settling : (s : List ℕ) (b : Buffers) {r t : NumberedSettled} {after other : Buffers} → settlement r after ≡ settle s b → settlement t other ≡ settle s b → (r ≡ t) × (after ≡ other)
-one-settling s b f g = (
-  ap (λ (x : Settlement). record { number = x .verdict .number; place = x .verdict .place; ufe = x .ufe }) (f ∙ sym g),
-  ap (λ (x : Settlement). x .buffers) (f ∙ sym g),
-)
-
-pub one-writing : (field : List ℕ) (z : ℤ) {r t : NumberedAnswer} {after other : List ℕ} → written r after ≡ write field z → written t other ≡ write field z → (r ≡ t) × (after ≡ other)
-one-writing field z f g = (
-  ap (λ (x : Written). record { number = x .verdict .number; place = x .verdict .place }) (f ∙ sym g),
-  ap (λ (x : Written). x .field) (f ∙ sym g),
-)
-
-pub one-reading : (field : List ℕ) {r t : NumberedReading} → readAmount r ≡ read field → readAmount t ≡ read field → r ≡ t
-one-reading field f g = ap (λ (x : ReadAmount). record { number = x .verdict .number; place = x .verdict .place; amount = x .amount }) (f ∙ sym g)

@@ -1,4 +1,3 @@
 -- What the contracts of `pool` cite beside `rules` and `settle`.
 pub mod Apart
 pub mod HandedOut
-pub mod Demands

@@ -1,12 +1,11 @@
 -- An empty body stands nowhere; any other begins after the 32 bytes that begin its block.
 use Prim.Native.Nat.{_+_, _*_, _<_}
-use mathlib.Core.Path.{_≡_, sym, _∙_, ap}
+use mathlib.Core.Path.{_≡_, ap}
 use native.Mathlib.Omega.{arith}
-use lib.ListN.{length, take, drop}
+use lib.ListN.{length}
 use Rattle.rules.specs.HourFile.{blocks}
-use Rattle.pool.specs.declared.boundary.Part.{Part}
 use Rattle.pool.specs.HandedOut.{bodyPart}
-use Rattle.pool.proofs.HandedOut.{part-is-body, none-there, one-there}
+use Rattle.pool.proofs.HandedOut.{handed-out, none-there, one-there}
 use Rattle.pool.proofs.boundary.sneupelaar_body.Statement.{statement}
 use Rattle.pool.proofs.boundary.sneupelaar_body.Tie as tie
 
@@ -16,8 +15,7 @@ body-requires c κs = tt
 returns : tie.Need-returns
 returns c =
     let start = c .before .before .before in
-    let part = none-there (start .args .file .now) (start .args .block) (ap length (c .before .body .ensures)) (c .if1 .taken) in
-    (sym part, ap (λ (p : Part). take (p .length) (drop (p .from) (start .args .file .now))) (sym part) ∙ part-is-body (start .args .file .now) (start .args .block))
+    handed-out (start .args .file .now) (start .args .block) (none-there (start .args .file .now) (start .args .block) (ap length (c .before .body .ensures)) (c .if1 .taken))
 
 -- a body that isn't empty
 found : (c : tie.Else1) → let start = c .before .before .before in (bodyPart (start .args .file .now) (start .args .block) ≡ record { from = 512 * start .args .block + 32; length = length (c .before .body .result .now) }) × (start .args .block < blocks (start .args .file .now))
@@ -32,9 +30,7 @@ unfolding blocks
 add-t7 c = omega (arith, found c .1)
 
 returns-2 : tie.Need-returns-2
-returns-2 c =
-    let start = c .before .before .before in
-    (sym (found c .0), ap (λ (p : Part). take (p .length) (drop (p .from) (start .args .file .now))) (sym (found c .0)) ∙ part-is-body (start .args .file .now) (start .args .block))
+returns-2 c = handed-out (c .before .before .before .args .file .now) (c .before .before .before .args .block) (found c .0)
 
 pub sneupelaar-body-spec : {M : Type 1} → statement M
 sneupelaar-body-spec = tie.close (tie.spec body-requires returns mul-t6 add-t7 returns-2)
