@@ -61,7 +61,7 @@ def chains(program, addresses):
 
 def attributed(counts, program):
     """What each function took with all that it calls, and by itself."""
-    inside = [key for key in {**counts.costs, **counts.calls} if key[0].endswith(program)]
+    inside = {key for key in {**counts.costs, **counts.calls} if key[0].endswith(program)}
     at = chains(program, sorted({address for _, _, address in inside}))
     whole, own = Counter(), Counter()
     for key, cost in counts.costs.items():

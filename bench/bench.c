@@ -1,6 +1,7 @@
 /* bench.c: what the bench counts.
-     bench FOLDER WHAT WHO ROUNDS   WHAT: worst, ordinary, refused (settles that hour of the folder once a round), write, read (1,000 amounts
-                                    a round); WHO: rattle (the archive) or hand. Prints a sum of what was answered: both have the same
+     bench FOLDER WHAT WHO ROUNDS   WHAT: worst, ordinary, refused (settles that hour of the folder once a round), write, read (1,000
+                                    amounts a round); WHO: rattle (the archive) or hand. Prints a sum of what was answered, which
+                                    both have alike
      bench FOLDER WHAT WHO stack    prints how many bytes of stack a round takes */
 #include <stdio.h>
 #include <stdlib.h>

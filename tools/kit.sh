@@ -1,3 +1,4 @@
+# shellcheck shell=bash
 # kit.sh: sourced. The kit's compiler, linker and, on Arm, emulator, for C beside an archive of `rt staticlib`. Nothing is installed.
 #   kit_compile SOURCE OBJECT [WORDS..]    C to an object, compiled as rattle has its own code compiled
 #   kit_link PROGRAM OBJECT|ARCHIVE..      a program for x86-64
@@ -24,8 +25,11 @@ kit_compile() {
 kit_link() {
     local program=$1 said
     shift
-    said=$("$kit_home/on/$kit_machine/bin/rattle-link" --target x86_64-unknown-linux-gnu --toolchain "$kit_tools" -o "$program" "$@" 2>&1) ||
-        { echo "$said" >&2; return 1; }
+    if ! said=$("$kit_home/on/$kit_machine/bin/rattle-link" --target x86_64-unknown-linux-gnu --toolchain "$kit_tools" \
+        -o "$program" "$@" 2>&1); then
+        echo "$said" >&2
+        return 1
+    fi
 }
 
 # The words before a program: a loader that finds the kit's C library, and an emulator where the machine is not x86-64.
@@ -39,9 +43,12 @@ kit_run() {
 }
 
 kit_archive() {
-    local archive=$kit_root/target/staticlib/lib$1.a
+    local archive=$kit_root/target/staticlib/lib$1.a said
     if [ ! -f "$archive" ] || [ -n "$(find "$kit_root/crates.txt" "$kit_root"/crates/*/src -newer "$archive" -print -quit)" ]; then
-        (cd "$kit_root" && rt staticlib "$1") > "$kit_root/target/staticlib.log" 2>&1 || { cat "$kit_root/target/staticlib.log" >&2; return 1; }
+        if ! said=$(cd "$kit_root" && rt staticlib "$1" 2>&1); then
+            echo "$said" >&2
+            return 1
+        fi
     fi
     echo "$archive"
 }

@@ -88,7 +88,9 @@ static void spoil_length(hour_file *hour)
 
 void damage_hour(hour_file *hour)
 {
-    static void (*const damages[])(hour_file *) = { flip_bit, spoil_front, spoil_count, spoil_zeros, spoil_head, spoil_record, swap_blocks };
+    static void (*const damages[])(hour_file *) = {
+        flip_bit, spoil_front, spoil_count, spoil_zeros, spoil_head, spoil_record, swap_blocks
+    };
     enum { DAMAGES = sizeof damages / sizeof *damages };
     damages[below(DAMAGES)](hour);
     if (once_in(4))

@@ -9,7 +9,7 @@
 #include <sys/mman.h>
 #include <unistd.h>
 
-enum { PROTECTED = 65536 }; /* on either side; a multiple of every page size in use */
+enum { PAGES = 65536 }; /* a multiple of every page size in use, also of the machine below an emulator */
 enum { PAINT = 0xDB };
 enum { OUT_OF_BOUNDS = 3, WRONG = 4 };
 
@@ -18,7 +18,8 @@ struct standing standing = { "nothing yet", 0, 0 };
 /* Under some emulators a handler is entered with the stack 8 bytes off, on which dprintf faults: it is aligned anew. */
 __attribute__((force_align_arg_pointer)) static void caught(int number)
 {
-    dprintf(STDERR_FILENO, "OUT OF BOUNDS (signal %d) in %s, seed %lu, case %lu\n", number, standing.function, standing.seed, standing.case_number);
+    dprintf(STDERR_FILENO, "OUT OF BOUNDS (signal %d) in %s, seed %lu, case %lu\n", number, standing.function, standing.seed,
+        standing.case_number);
     _exit(OUT_OF_BOUNDS);
 }
 
@@ -30,26 +31,28 @@ void guard_start(void)
     signal(SIGFPE, caught);
 }
 
-guarded guard_room(size_t most)
-{
-    size_t page = (size_t)sysconf(_SC_PAGESIZE);
-    size_t room = (most / page + 1) * page;
-    uint8_t *all = mmap(NULL, room + 2 * PROTECTED, PROT_NONE, MAP_PRIVATE | MAP_ANONYMOUS, -1, 0);
-    if (all == MAP_FAILED)
-        abort();
-    return (guarded){ all + PROTECTED, room, NULL, 0 };
-}
-
 static void allow(const guarded *buffer, int protection)
 {
     if (mprotect(buffer->pages, buffer->room, protection) != 0)
         abort();
 }
 
+guarded guard_room(size_t most)
+{
+    size_t room = (most / PAGES + 1) * PAGES;
+    uint8_t *all = mmap(NULL, room + 2 * PAGES, PROT_NONE, MAP_PRIVATE | MAP_ANONYMOUS, -1, 0);
+    if (all == MAP_FAILED)
+        abort();
+    guarded buffer = { all + PAGES, room, all + PAGES, 0 };
+    allow(&buffer, PROT_READ | PROT_WRITE);
+    memset(buffer.pages, PAINT, room);
+    return buffer;
+}
+
 void *guard_place(guarded *buffer, size_t length, side flush)
 {
     allow(buffer, PROT_READ | PROT_WRITE);
-    memset(buffer->pages, PAINT, buffer->room);
+    memset(buffer->at, PAINT, buffer->length); /* where it lay before; the rest is painted still */
     buffer->at = flush == FRONT ? buffer->pages : buffer->pages + buffer->room - length;
     buffer->length = length;
     return buffer->at;
@@ -79,6 +82,7 @@ void must(int right, const char *what)
 {
     if (right)
         return;
-    dprintf(STDERR_FILENO, "WRONG in %s, seed %lu, case %lu: %s\n", standing.function, standing.seed, standing.case_number, what);
+    dprintf(STDERR_FILENO, "WRONG in %s, seed %lu, case %lu: %s\n", standing.function, standing.seed, standing.case_number,
+        what);
     _exit(WRONG);
 }

@@ -7,7 +7,7 @@
 #include <stdint.h>
 
 typedef struct {
-    uint8_t *pages; /* the first that may be touched */
+    uint8_t *pages; /* the first that may be touched; as many on either side may not */
     size_t room;    /* their bytes */
     uint8_t *at;    /* the buffer in them */
     size_t length;

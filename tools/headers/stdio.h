@@ -10,3 +10,6 @@ int snprintf(char *, size_t, const char *, ...) __attribute__((format(printf, 3,
 size_t fread(void *, size_t, size_t, FILE *);
 FILE *fopen(const char *, const char *);
 int fclose(FILE *);
+int ferror(FILE *);
+int fflush(FILE *);
+void perror(const char *);

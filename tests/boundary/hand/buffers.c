@@ -1,5 +1,5 @@
-/* buffers.c: settles the hour on standard input by hand and prints what the program `buffers` prints, so that tests/compare can hold the hand
-   to the second program. The arguments are the lengths of charges, lines, shares and deviations; every place holds 77 before. */
+/* buffers.c: settles the hour on standard input by hand and prints what the program `buffers` prints, so that tests/compare can hold the
+   hand to the second program. The arguments are the lengths of charges, lines, shares and deviations; every place holds 77 before. */
 #include <stdio.h>
 #include <stdlib.h>
 
