@@ -13,11 +13,12 @@ fn print_cents(cents: i64) {
     io::print_decimal(STDOUT_FILENO, sign::size_of(cents));
 }
 
-// Writing and reading refuse at place 0 alone.
 fn print_refusal(answer: Answer) {
     io::write_all(STDOUT_FILENO, b"refused ");
     io::print_decimal(STDOUT_FILENO, answer::number_of(answer));
-    io::write_all(STDOUT_FILENO, b" at 0\n");
+    io::write_all(STDOUT_FILENO, b" at ");
+    io::print_decimal(STDOUT_FILENO, answer::place_of(answer) as u64);
+    io::write_all(STDOUT_FILENO, b"\n");
 }
 
 fn print_field(field: &[u8]) {
@@ -102,6 +103,6 @@ fn main() {
     show_in(16, 9223372036854775807);
     show_in(16, -9223372036854775808);
     let mut space = io::buffer();
-    let n = io::read_full(STDIN_FILENO, &mut space);
-    show_lines(&space[..n]);
+    let length = io::read_full(STDIN_FILENO, &mut space);
+    show_lines(&space[..length]);
 }

@@ -43,9 +43,8 @@ fn main() {
     let lines = argument(2, 32, 40);
     let shares = argument(3, 250, 260);
     let deviations = argument(4, 250, 260);
-    let mut space = io::large_buffer();
-    // one byte more than the longest file, so that a longer one shows
-    let most = 13313;
-    let n = io::read_full(STDIN_FILENO, &mut space[..most]);
-    showing::show_with(&space[..n], charges, lines, shares, deviations);
+    // one byte more than the longest file has, so that a longer input is seen
+    let mut file = [0u8; 13313];
+    let length = io::read_full(STDIN_FILENO, &mut file);
+    showing::show_with(&file[..length], charges, lines, shares, deviations);
 }

@@ -26,7 +26,8 @@ pub put-as : {o p xs ys : List ℕ} {at next : ℕ} → xs ≡ ys → Put o at x
 put-as {o} {p} {xs} {ys} {at} {next} e f = subst (λ (t : List ℕ). Put o at t next p) e f
 
 -- words with their number, after text
-pub put-count-on : (words digits : List ℕ) {o p q xs : List ℕ} {at next last : ℕ} → Put o at xs next p → Put p next (words ++ digits) last q → Put o at (xs ++ words ++ digits) last q
+pub put-count-on : (words digits : List ℕ) {o p q xs : List ℕ} {at next last : ℕ} →
+    Put o at xs next p → Put p next (words ++ digits) last q → Put o at (xs ++ words ++ digits) last q
 put-count-on words digits {xs = xs} f g = put-as (sym (append-assoc xs words digits)) (put-on f g)
 
 -- a lent part that comes back with other bytes

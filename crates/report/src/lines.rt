@@ -13,7 +13,7 @@ use crate::text::put_bytes;
 use crate::text::put_count;
 use rules::Answer;
 
-// Line 1: the hour's number, the counts of members and of records, each as the file has it.
+// Line 1: the hour's number, the counts of members and of records, each as the file has it. The room is for twenty digits of each.
 pub fn put_first_line(file: &[u8], out: &mut [u8]) -> usize
     requires { ⌜ 84 ≤ length (now out) ⌝ }
     ensures { λ r. ⌜ Put (now (out .entry)) 0 (firstLine (hourIn (now (file .entry)))) r (now (out .exit)) ⌝ }
@@ -27,7 +27,7 @@ pub fn put_first_line(file: &[u8], out: &mut [u8]) -> usize
     put_bytes(out, after_records, b"\n")
 }
 
-// A charge in 14 columns, into the part of the slice that is its field.
+// A charge in 14 columns, into the part of the slice that is its field. It is in range and fits, so writing never refuses it.
 fn put_charge(out: &mut [u8], at: usize, cents: i64) -> usize
     requires { ⌜ (at + 14 ≤ length (now out)) × (natAbs cents ≤ 999999999999) ⌝ }
     ensures { λ r. ⌜ Put (now (out .entry)) at (write (replicate 14 32) cents .field) r (now (out .exit)) ⌝ }
@@ -64,7 +64,7 @@ pub fn put_members(file: &[u8], charges: &[i64], out: &mut [u8], at: usize) -> u
     place
 }
 
-// A refusal's number and place, and nothing else.
+// A refusal's number and place, and nothing else. The room is for twenty digits of each.
 pub fn put_refusal(answer: Answer, out: &mut [u8]) -> usize
     requires { ⌜ 53 ≤ length (now out) ⌝ }
     ensures { λ r. ⌜ Put (now (out .entry)) 0 (refusedLine (verdictOf answer)) r (now (out .exit)) ⌝ }

@@ -4,8 +4,8 @@ use libc::STDIN_FILENO;
 
 fn main() {
     let mut space = io::buffer();
-    let n = io::read_full(STDIN_FILENO, &mut space);
-    let file = &space[..n];
+    let length = io::read_full(STDIN_FILENO, &mut space);
+    let file = &space[..length];
     showing::show_with(file, 2, 2, 2, 2);
     showing::show_with(file, 1, 2, 2, 2);
     showing::show_with(file, 2, 1, 2, 2);

@@ -82,21 +82,21 @@ fn show(
     print_buffers(charges, shares, deviations, amounts, counts);
 }
 
-// Buffers of these lengths. This function only makes them.
+// Lends so many places of each buffer to settling, and shows what they hold afterwards.
 pub fn show_with(file: &[u8], charges: usize, lines: usize, shares: usize, deviations: usize)
     requires { ⌜ (charges ≤ 40) × (lines ≤ 40) × (shares ≤ 260) × (deviations ≤ 260) ⌝ }
 {
-    let mut charged = [77i64; 40];
-    let mut shared = [77i64; 260];
-    let mut deviated = [77i64; 260];
-    let mut owed = [77i64; 40];
-    let mut counted = [77u32; 40];
+    let mut all_charges = [77i64; 40];
+    let mut all_shares = [77i64; 260];
+    let mut all_deviations = [77i64; 260];
+    let mut all_amounts = [77i64; 40];
+    let mut all_counts = [77u32; 40];
     show(
         file,
-        &mut charged[..charges],
-        &mut shared[..shares],
-        &mut deviated[..deviations],
-        &mut owed[..lines],
-        &mut counted[..lines],
+        &mut all_charges[..charges],
+        &mut all_shares[..shares],
+        &mut all_deviations[..deviations],
+        &mut all_amounts[..lines],
+        &mut all_counts[..lines],
     );
 }

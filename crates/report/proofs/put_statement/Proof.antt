@@ -43,7 +43,8 @@ returns c =
     let p = c .before .before in
     let m = p .before .before in
     let t = m .before .before .before .before .before .before .before in
-    put-as (refused-statement (t .before .before .before .before .before .before .before .before .before .pre) (t .settle .ensures) (λ e. no-other (rw e at (m .match .keys2)))) (p .put-refusal .ensures)
+    let s = t .before .before .before .before .before .before .before .before .before in
+    put-as (refused-statement (s .pre) (t .settle .ensures) (λ e. no-other (rw e at (m .match .keys2)))) (p .put-refusal .ensures)
 
 put-accepted-requires : tie.Need-put-accepted-requires
 put-accepted-requires c κs =
@@ -74,7 +75,8 @@ returns-2 c =
     let p = c .before .before in
     let e = p .before .before .before in
     let t = e .before .before .before .before .before .before .before .before in
-    put-as (accepted-statement (t .before .before .before .before .before .before .before .before .before .pre) (t .settle .ensures) (e .enum-told .given .1)) (p .put-accepted .ensures)
+    let s = t .before .before .before .before .before .before .before .before .before in
+    put-as (accepted-statement (s .pre) (t .settle .ensures) (e .enum-told .given .1)) (p .put-accepted .ensures)
 
 pub put-statement-spec : {M : Type 1} → statement M
 put-statement-spec =

@@ -1,14 +1,10 @@
+-- `showing::print_lines` is safe and ends: as many counts as amounts, and each turn prints a line.
 use Prim.Native.Nat.{_-_, _≤_}
 use native.Mathlib.Omega.{arith}
 use lib.ListN.{length}
 use borrow.Author.Needs.{needs}
 use Rattle.showing.proofs.print_lines.Statement.{statement}
 use Rattle.showing.proofs.print_lines.Tie as tie
-use Rattle.showing.proofs.print_lines.Reads as reads
-use Rattle.showing.proofs.print_lines.Lts as lts
-use Rattle.showing.proofs.print_signed.Reads as print-signed-reads
-use Rattle.io.proofs.print_decimal.Reads as print-decimal-reads
-use Rattle.io.proofs.write_all.Reads as write-all-reads
 
 abbrev Inv-loop : tie.InvT-loop
 Inv-loop amounts counts m₀ t5 t6 t7 m = m ≤ length amounts
@@ -16,83 +12,63 @@ Inv-loop amounts counts m₀ t5 t6 t7 m = m ≤ length amounts
 abbrev μ-loop : tie.MeasureT-loop
 μ-loop amounts counts m₀ t5 t6 t7 m = length amounts - m
 
--- src/main.rt:32:34
 slice-aggregate-write-all : tie.Need-slice-aggregate-write-all Inv-loop μ-loop
 slice-aggregate-write-all c = search needs
 
--- src/main.rt:32:5
 write-all-requires : tie.Need-write-all-requires Inv-loop μ-loop
 write-all-requires c κs = tt
 
--- src/main.rt:34:5
 loop-holds : tie.Need-loop-holds Inv-loop μ-loop
 loop-holds c = omega arith
 
--- src/main.rt:35:38
 slice-aggregate-write-all-2 : tie.Need-slice-aggregate-write-all-2 Inv-loop μ-loop
 slice-aggregate-write-all-2 c = search needs
 
--- src/main.rt:35:9
 write-all-requires-2 : tie.Need-write-all-requires-2 Inv-loop μ-loop
 write-all-requires-2 c κs = tt
 
--- src/main.rt:36:22
 mul-print-signed : tie.Need-mul-print-signed Inv-loop μ-loop
 mul-print-signed c = omega arith
 
--- src/main.rt:36:22
 shared-slice-copy-out-print-signed : tie.Need-shared-slice-copy-out-print-signed Inv-loop μ-loop
 shared-slice-copy-out-print-signed c = omega arith
 
--- src/main.rt:36:9
 print-signed-requires : tie.Need-print-signed-requires Inv-loop μ-loop
 print-signed-requires c κs = tt
 
--- src/main.rt:37:38
 slice-aggregate-write-all-3 : tie.Need-slice-aggregate-write-all-3 Inv-loop μ-loop
 slice-aggregate-write-all-3 c = search needs
 
--- src/main.rt:37:9
 write-all-requires-3 : tie.Need-write-all-requires-3 Inv-loop μ-loop
 write-all-requires-3 c κs = tt
 
--- src/main.rt:38:42
 mul-print-decimal : tie.Need-mul-print-decimal Inv-loop μ-loop
 mul-print-decimal c = omega arith
 
--- src/main.rt:38:42
 shared-slice-read-print-decimal : tie.Need-shared-slice-read-print-decimal Inv-loop μ-loop
 shared-slice-read-print-decimal c = omega arith
 
--- src/main.rt:38:42
 cast-print-decimal : tie.Need-cast-print-decimal Inv-loop μ-loop
 cast-print-decimal c = omega (arith, c .shared-slice-known2 .given (c .before .before .before .before .before .before .before .before .loop .m))
 
--- src/main.rt:38:9
 print-decimal-requires : tie.Need-print-decimal-requires Inv-loop μ-loop
 print-decimal-requires c κs = tt
 
--- src/main.rt:39:9
 add-m : tie.Need-add-m Inv-loop μ-loop
 add-m c = omega arith
 
--- src/main.rt:34:5
 loop-less : tie.Need-loop-less Inv-loop μ-loop
 loop-less c = omega arith
 
--- src/main.rt:34:5
 loop-again : tie.Need-loop-again Inv-loop μ-loop
 loop-again c = omega arith
 
--- src/main.rt:41:34
 slice-aggregate-write-all-4 : tie.Need-slice-aggregate-write-all-4 Inv-loop μ-loop
 slice-aggregate-write-all-4 c = search needs
 
--- src/main.rt:41:5
 write-all-requires-4 : tie.Need-write-all-requires-4 Inv-loop μ-loop
 write-all-requires-4 c κs = tt
 
--- src/main.rt:29:1
 returns : tie.Need-returns Inv-loop μ-loop
 returns c = search needs
 

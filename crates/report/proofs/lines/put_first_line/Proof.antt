@@ -53,8 +53,9 @@ returns c =
     let q = r .before .before .before .before .before in
     let p = q .before .before .before .before .before in
     let known = p .before .before .before in
-    rw (← known .before .before .head-word .ensures, ← known .before .members .ensures, ← known .records .ensures)
-    (put-on (put-count-on (bytes " records ") _ (put-count-on (bytes " members ") _ (p .put-count .ensures .0) (q .put-count2 .ensures .0)) (r .put-count3 .ensures .0)) (b .put-bytes .ensures))
+    let two = put-count-on (bytes " members ") _ (p .put-count .ensures .0) (q .put-count2 .ensures .0) in
+    let three = put-count-on (bytes " records ") _ two (r .put-count3 .ensures .0) in
+    rw (← known .before .before .head-word .ensures, ← known .before .members .ensures, ← known .records .ensures) (put-on three (b .put-bytes .ensures))
 
 pub put-first-line-spec : {M : Type 1} → statement M
 put-first-line-spec =

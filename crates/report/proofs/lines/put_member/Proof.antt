@@ -28,7 +28,8 @@ line-by-parts m tens ones z l t o =
     rw (t, o, two)
 
 charge-put : (c : tie.After-put-charge) → let s = c .before .before .before .before .before in
-    Put (set (set (set (s .args .out .now) (s .args .at) (c .before .before .before .digit .result)) (s .args .at + 1) (c .before .before .digit2 .result)) (s .args .at + 2) 32)
+    Put
+    (set (set (set (s .args .out .now) (s .args .at) (c .before .before .before .digit .result)) (s .args .at + 1) (c .before .before .digit2 .result)) (s .args .at + 2) 32)
     (s .args .at + 3) (write (replicate 14 32) (s .args .cents) .field) (c .put-charge .result) (c .put-charge .last .0)
 charge-put c = let s = c .before .before .before .before .before in rw (← read-back (s .fits .cents)) (c .put-charge .ensures)
 

@@ -24,7 +24,8 @@ use Rattle.report.proofs.lines.put_members.Statement.{statement}
 use Rattle.report.proofs.lines.put_members.Tie as tie
 
 -- the charge that stands at a member's place, as it is read back
-held : {s : List ℕ} {charges : List ℤ} → Charged s charges → (m : ℕ) → m < Record.members (hourIn s) → toZ w64 (ofZ w64 (getD charges m (pos 0))) ≡ charge (hourIn s) m
+held : {s : List ℕ} {charges : List ℤ} → Charged s charges → (m : ℕ) → m < Record.members (hourIn s) →
+    toZ w64 (ofZ w64 (getD charges m (pos 0))) ≡ charge (hourIn s) m
 held c m l = rw (c .charges-are m l) (read-back (u-fits (charge-under (c .kept .hour-kept) m) tt))
 
 next-line : (h : Hour) (m : ℕ) → memberLines h m ++ chargeLine m (charge h m) ≡ memberLines h (m + 1)
@@ -49,10 +50,14 @@ loop-holds : tie.Need-loop-holds Inv-loop μ-loop
 loop-holds c = let s = c .before .before .before .args in (omega arith, c .members .ensures, put-none (hourIn (s .file .now)) (s .out .now) (s .at))
 
 mul-put-member : tie.Need-mul-put-member Inv-loop μ-loop
-mul-put-member c = let s = c .before .before .before .before .before .before in omega (arith, s .pre .0 .kept .hour-kept .members-most, c .before .before .loop .inv .1)
+mul-put-member c =
+    let s = c .before .before .before .before .before .before in
+    omega (arith, s .pre .0 .kept .hour-kept .members-most, c .before .before .loop .inv .1)
 
 shared-slice-copy-out-put-member : tie.Need-shared-slice-copy-out-put-member Inv-loop μ-loop
-shared-slice-copy-out-put-member c = let s = c .before .before .before .before .before .before in omega (arith, s .pre .0 .room, c .before .before .loop .inv .1)
+shared-slice-copy-out-put-member c =
+    let s = c .before .before .before .before .before .before in
+    omega (arith, s .pre .0 .room, c .before .before .loop .inv .1)
 
 put-member-requires : tie.Need-put-member-requires Inv-loop μ-loop
 put-member-requires c κs =

@@ -21,8 +21,10 @@ same-length c = search needs
 returns : tie.Need-returns
 returns c =
     let p = c .before .before .before .before .before .before in
-    let n = c .before .before .put-number .ensures in
-    (put-on (p .put-bytes .ensures) n, omega (arith, p .put-bytes .ensures .next-is, n .next-is, decimal-at-most-20 (p .before .before .before .before .args .number)))
+    let words = p .put-bytes .ensures in
+    let digits = c .before .before .put-number .ensures in
+    let most = decimal-at-most-20 (p .before .before .before .before .args .number) in
+    (put-on words digits, omega (arith, words .next-is, digits .next-is, most))
 
 pub put-count-spec : {M : Type 1} → statement M
 put-count-spec = tie.close (tie.spec put-bytes-requires put-number-requires same-length returns)
