@@ -8,6 +8,8 @@ import subprocess
 import time
 from pathlib import Path
 
+from mutate_reach import names, reached
+
 # The proof file no longer fits the code: this says nothing of the promise.
 UNFIT = re.compile(r"has no `Need-|no field `|not in scope|unknown name|too many arguments|expected type `tie\.Need|has no `\w+-spec`")
 # An error that only follows from another.
@@ -74,23 +76,25 @@ class Copy:
             status, said, seconds = self.prove(["dev", change.crate], limit)
             outcome, crate = judged(status, said), change.crate
             if outcome == "survived" and change.is_definition():
-                outcome, crate, more = self.followed(change.crate, limit)
+                outcome, crate, more = self.followed(change, limit)
                 seconds += more
             return outcome, crate, seconds
         finally:
             path.write_text(before)
 
-    def followed(self, crate, limit):
-        """Proves the crates above one whose definition changed, until one refuses."""
+    def followed(self, change, limit):
+        """Proves the crates above that a changed definition reaches, first those that name it, until one refuses."""
         self.keep_target()
-        total = 0
+        wanted = reached(self.root, change.path)
+        crates = sorted((c for c in self.above(change.crate) if c in wanted), key=lambda c: not names(self.root / "crates" / c, change.place))
+        crate, total = change.crate, 0
         try:
-            for above in self.above(crate):
-                status, said, seconds = self.prove(["check", above], limit)
+            for crate in crates:
+                status, said, seconds = self.prove(["check", crate], limit)
                 total += seconds
-                if judged(status, said) != "survived":
-                    return judged(status, said), above, total
-            return "survived", self.above(crate)[-1], total
+                if status != 0:
+                    return judged(status, said), crate, total
+            return "survived", crate, total
         finally:
             self.restore_target()
 

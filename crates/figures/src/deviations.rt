@@ -1,5 +1,6 @@
 // Deviations: the figures of document 01, and what N changes for a generator and an import.
 ghost use Rattle.rules.specs.Kept.{EntryKept};
+ghost use Rattle.formula.specs.Meant.{meant};
 use formula::deviation::deviation;
 use formula::entry::Entry;
 use libc::STDOUT_FILENO;
@@ -53,17 +54,47 @@ fn show(kind: Kind, s: i64, a: i64, j: i64, n: i64, o: i64, m: i64, f: i64, h: i
     io::write_all(STDOUT_FILENO, b"\n");
 }
 
-// With N 30 the deviation is 10,000×N more, not H×N more. N 40 leaves some energy unavailable, N 150 none.
+// How much N adds to a deviation.
+fn added(r: Entry) -> i64
+    requires { ⌜ EntryKept (meant r) ⌝ }
+{
+    let mut without = r;
+    without.n = 0;
+    deviation(r) - deviation(without)
+}
+
+// A record without N and with it, and how much N adds.
+fn show_ancillary(kind: Kind, s: i64, a: i64, j: i64, n: i64, o: i64, m: i64, f: i64, h: i64)
+    requires { ⌜ EntryKept (record { kind = kind; S = s; A = a; J = j; N = n; O = o; M = m; F = f; H = h }) ⌝ }
+{
+    show(kind, s, a, j, 0, o, m, f, h);
+    show(kind, s, a, j, n, o, m, f, h);
+    io::write_all(STDOUT_FILENO, b"N ");
+    showing::print_signed(n);
+    io::write_all(STDOUT_FILENO, b" adds ");
+    showing::print_signed(added(Entry {
+        kind: kind,
+        s: s,
+        a: a,
+        j: j,
+        n: n,
+        o: o,
+        m: m,
+        f: f,
+        h: h,
+    }));
+    io::write_all(STDOUT_FILENO, b"\n");
+}
+
+// N 30 adds 10,000×N, not H×N, and J doesn't change that. Where O is 600, N also makes less of it unavailable, until nothing is.
 pub fn show_generators() {
     // S, A, J, N, O, M, F, H
-    show(Kind::Generator, 1000, 900, 0, 0, 0, 2000, 9800, 9800);
-    show(Kind::Generator, 1000, 900, 0, 30, 0, 2000, 9800, 9800);
-    show(Kind::Generator, 1000, 900, 50, 30, 0, 2000, 9800, 9800);
+    show_ancillary(Kind::Generator, 1000, 900, 0, 30, 0, 2000, 9800, 9800);
+    show_ancillary(Kind::Generator, 1000, 900, 50, 30, 0, 2000, 9800, 9800);
     show(Kind::Generator, 1000, 1100, 0, 0, 0, 2000, 9800, 9800);
-    show(Kind::Generator, 1000, 1000, 0, 0, 600, 1500, 10000, 10000);
     show(Kind::Generator, 1000, 1000, 0, 0, 500, 1500, 10000, 10000);
-    show(Kind::Generator, 1000, 1000, 0, 40, 600, 1500, 10000, 10000);
-    show(Kind::Generator, 1000, 1000, 0, 150, 600, 1500, 10000, 10000);
+    show_ancillary(Kind::Generator, 1000, 1000, 0, 40, 600, 1500, 10000, 10000);
+    show_ancillary(Kind::Generator, 1000, 1000, 0, 150, 600, 1500, 10000, 10000);
 }
 
 // O 400 is below A: nothing is unavailable.
@@ -76,11 +107,10 @@ pub fn show_loads() {
     show(Kind::ProfileLoad, 500, 450, -20, 0, 0, 0, 0, 0);
 }
 
-// With N 20 the deviation is 10,000×N more, not H×N more.
+// N 20 adds 10,000×N, not H×N.
 pub fn show_imports() {
     show(Kind::Import, 300, 300, 0, 0, 0, 0, 10000, 9000);
-    show(Kind::Import, 300, 300, 50, 0, 0, 0, 10000, 9000);
-    show(Kind::Import, 300, 300, 50, 20, 0, 0, 10000, 9000);
+    show_ancillary(Kind::Import, 300, 300, 50, 20, 0, 0, 10000, 9000);
     show(Kind::Import, 300, 300, -50, 0, 0, 0, 10000, 9000);
 }
 
