@@ -1,24 +1,29 @@
--- Functions of a file: words, records, the tally and its figures, the answers of searches.
-use mathlib.Core.Path.{_≡_}
+-- Functions of a file or a record: words, parts, the tally and its figures, the answers of searches.
 use contract.Lifetimes.{Lfts}
 use denote.Ref.{now}
 use Rattle.determined.specs.Determined.{OneResult, OnePart}
 use Rattle.determined.proofs.Laws.{agree, agree-answer, agree-entry, agree-found}
 use Rattle.hourfile.proofs.length_bad.Reads as length-bad
 use Rattle.hourfile.proofs.blocks.Reads as blocks
+use Rattle.hourfile.proofs.whole_word.Reads as whole-word
 use Rattle.hourfile.proofs.word.Reads as word
 use Rattle.hourfile.proofs.block_word.Reads as block-word
 use Rattle.hourfile.proofs.head_word.Reads as head-word
 use Rattle.hourfile.proofs.records.Reads as records
-use Rattle.hourfile.proofs.record_word.Reads as record-word
 use Rattle.hourfile.proofs.body.Reads as body
+use Rattle.hourfile.proofs.record.Reads as record
 use Rattle.hourfile.proofs.refusals.examine.Reads as examine
 use Rattle.posting.proofs.hour.members.Reads as members
 use Rattle.posting.proofs.hour.areas.Reads as areas
 use Rattle.posting.proofs.hour.price.Reads as price
+use Rattle.posting.proofs.hour.kind_in.Reads as kind-in
+use Rattle.posting.proofs.hour.member_in.Reads as member-in
+use Rattle.posting.proofs.hour.area_in.Reads as area-in
+use Rattle.posting.proofs.hour.demand_in.Reads as demand-in
 use Rattle.posting.proofs.hour.member_of.Reads as member-of
 use Rattle.posting.proofs.hour.area_of.Reads as area-of
 use Rattle.posting.proofs.hour.demand_of.Reads as demand-of
+use Rattle.posting.proofs.hour.entry_in.Reads as entry-in
 use Rattle.posting.proofs.hour.entry_of.Reads as entry-of
 use Rattle.posting.proofs.deviations.deviation_of.Reads as deviation-of
 use Rattle.posting.proofs.lines.grains.Reads as grains
@@ -36,6 +41,9 @@ one-length-bad κs a x y s t = agree
 pub one-blocks : (κs : Lfts 1) → OneResult (blocks.Post κs)
 one-blocks κs a x y s t = agree
 
+pub one-whole-word : (κs : Lfts 1) → OneResult (whole-word.Post κs)
+one-whole-word κs a x y s t = agree
+
 pub one-word : (κs : Lfts 1) → OneResult (word.Post κs)
 one-word κs a x y s t = agree
 
@@ -48,11 +56,11 @@ one-head-word κs a x y s t = agree
 pub one-records : (κs : Lfts 1) → OneResult (records.Post κs)
 one-records κs a x y s t = agree
 
-pub one-record-word : (κs : Lfts 1) → OneResult (record-word.Post κs)
-one-record-word κs a x y s t = agree
-
 pub one-body : (κs : Lfts 1) → OnePart (body.Post κs) now
 one-body κs a x y s t = agree
+
+pub one-record : (κs : Lfts 1) → OnePart (record.Post κs) now
+one-record κs a x y s t = agree
 
 pub one-examine : (κs : Lfts 1) → OneResult (examine.Post κs)
 one-examine κs a x y s t = agree-answer
@@ -66,6 +74,18 @@ one-areas κs a x y s t = agree
 pub one-price : (κs : Lfts 1) → OneResult (price.Post κs)
 one-price κs a x y s t = agree
 
+pub one-kind-in : (κs : Lfts 1) → OneResult (kind-in.Post κs)
+one-kind-in κs a x y s t = agree
+
+pub one-member-in : (κs : Lfts 1) → OneResult (member-in.Post κs)
+one-member-in κs a x y s t = agree
+
+pub one-area-in : (κs : Lfts 1) → OneResult (area-in.Post κs)
+one-area-in κs a x y s t = agree
+
+pub one-demand-in : (κs : Lfts 1) → OneResult (demand-in.Post κs)
+one-demand-in κs a x y s t = agree
+
 pub one-member-of : (κs : Lfts 1) → OneResult (member-of.Post κs)
 one-member-of κs a x y s t = agree
 
@@ -74,6 +94,9 @@ one-area-of κs a x y s t = agree
 
 pub one-demand-of : (κs : Lfts 1) → OneResult (demand-of.Post κs)
 one-demand-of κs a x y s t = agree
+
+pub one-entry-in : (κs : Lfts 1) → OneResult (entry-in.Post κs)
+one-entry-in κs a x y s t = agree-entry
 
 pub one-entry-of : (κs : Lfts 1) → OneResult (entry-of.Post κs)
 one-entry-of κs a x y s t = agree-entry

@@ -1,14 +1,19 @@
 -- Functions that fill a caller's buffers.
 use mathlib.Core.Path.{_≡_, refl, ap₂}
 use mathlib.Core.List.{List}
+use Prim.Native.Nat.{ℕ}
 use lib.IntN.{ℤ}
 use contract.Lifetimes.{Lfts}
 use denote.Ref.{now}
 use Rattle.rules.specs.declared.Answer.{Answer}
 use Rattle.amount.proofs.RoundTrips.{one-reading}
+use Rattle.rules.specs.Settling.{Buffers, settle as settling}
 use Rattle.settle.specs.Parallel.{lent}
+use Rattle.pool.specs.declared.boundary.NumberedSettled.{NumberedSettled}
+use Rattle.pool.specs.HandedOut.{settlement}
 use Rattle.pool.specs.Apart.{buffers}
 use Rattle.rules.proofs.Rows.{one-result}
+use Rattle.pool.proofs.Demands as Pool
 use Rattle.determined.specs.Determined.{OneResult, OneOutcome}
 use Rattle.determined.proofs.Laws.{agree, agree-answer}
 use Rattle.amount.proofs.write.Reads as write
@@ -22,6 +27,10 @@ use Rattle.posting.proofs.lines.put_lines.Reads as put-lines
 use Rattle.settle.proofs.settle_figured.Reads as settle-figured
 use Rattle.settle.proofs.settle.Reads as settle
 use Rattle.pool.proofs.Port.settle.Reads as pool-settle
+use Rattle.pool.proofs.boundary.numbered.Reads as numbered
+use Rattle.pool.proofs.boundary.sneupelaar_write.Reads as sneupelaar-write
+use Rattle.pool.proofs.boundary.sneupelaar_read.Reads as sneupelaar-read
+use Rattle.pool.proofs.boundary.sneupelaar_body.Reads as sneupelaar-body
 use Rattle.report.proofs.statement.Reads as statement
 
 pub one-write : (κs : Lfts 1) → OneOutcome (write.Post κs) (λ s. now (s .1 .0))
@@ -68,3 +77,22 @@ one-settle κs a x y s t p q = (
 
 pub one-pool-settle : (κs : Lfts 5) → OneOutcome (pool-settle.Post κs) (λ s. buffers (now (s .1 .1 .0)) (now (s .1 .1 .1 .0)) (now (s .1 .1 .1 .1 .0)) (now (s .1 .0)))
 one-pool-settle κs a x y s t p q = one-result _ _ x y _ _ p q
+
+-- ---- the functions for C
+
+-- its contract is this equation, and no crate reads it
+pub one-sneupelaar-settle : (file : List ℕ) (b : Buffers) {x y : NumberedSettled} {after other : Buffers} →
+    settlement x after ≡ settling file b → settlement y other ≡ settling file b → (x ≡ y) × (after ≡ other)
+one-sneupelaar-settle file b = Pool.one-settling file b
+
+pub one-numbered : (κs : Lfts 0) → OneResult (numbered.Post κs)
+one-numbered κs a x y s t = agree
+
+pub one-sneupelaar-write : (κs : Lfts 1) → OneOutcome (sneupelaar-write.Post κs) (λ s. now (s .1 .0))
+one-sneupelaar-write κs a x y s t p q = Pool.one-writing _ _ p q
+
+pub one-sneupelaar-read : (κs : Lfts 1) → OneResult (sneupelaar-read.Post κs)
+one-sneupelaar-read κs a x y s t p q = Pool.one-reading _ p q
+
+pub one-sneupelaar-body : (κs : Lfts 1) → OneResult (sneupelaar-body.Post κs)
+one-sneupelaar-body κs a x y s t p q = agree (p .0) (q .0)

@@ -1,13 +1,10 @@
 -- The law that is applied everywhere: two things that are equal to a third are equal. And the forms in which contracts say a result.
-use mathlib.Core.Path.{_≡_, refl, sym, _∙_, ap, ap₂}
+use mathlib.Core.Path.{_≡_, refl, sym, _∙_, ap}
 use mathlib.Core.Option.{Option, none, some}
 use Prim.Native.Nat.{ℕ}
-use lib.IntN.{ℤ}
 use Rattle.rules.specs.declared.Answer.{Answer}
 use Rattle.rules.specs.declared.Found.{Found}
 use Rattle.rules.specs.declared.Found.the-variants.{At, Nothing}
-use Rattle.rules.specs.declared.Reading.{Reading}
-use Rattle.rules.specs.declared.Settled.{Settled}
 use Rattle.rules.specs.Record as Record
 use Rattle.rules.specs.Refusals.{Verdict, foundAt, verdictOf}
 use Rattle.rules.proofs.Rows.{one-answer}

@@ -1,5 +1,4 @@
 -- Functions of values: numbers, kinds, entries, tallies, lines.
-use mathlib.Core.Path.{_≡_}
 use contract.Lifetimes.{Lfts}
 use Rattle.determined.specs.Determined.{OneResult}
 use Rattle.determined.proofs.Laws.{agree}

@@ -5,7 +5,7 @@ use Prim.Native.Nat.{ℕ, _+_, _*_, _/_, _%_, _≤_, _<_}
 use native.Mathlib.Omega.{arith}
 use lib.ListN.{length, drop, length-drop}
 use lib.Seq.{length-take-le}
-use Rattle.rules.specs.HourFile.{hourly, word, blocks, blockWord, recordWord, hourOf}
+use Rattle.rules.specs.HourFile.{hourly, word, blockWord, recordWord, hourOf}
 use Rattle.rules.specs.Kept.{FileKept}
 use Rattle.rules.proofs.Words.{length-is-whole, record-count, record-word, head-word}
 use Rattle.rules.proofs.PartWords.{word-past, record-part-word}

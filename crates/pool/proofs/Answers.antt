@@ -20,7 +20,7 @@ use Rattle.rules.specs.declared.Settled.{Settled}
 use Rattle.rules.specs.Record.{Hour, members, entryOf}
 use Rattle.rules.specs.Deviation.{deviation}
 use Rattle.rules.specs.Charge.{shareOf}
-use Rattle.rules.specs.Refusals.{Row, row, Verdict, accepted, refusedAt, verdictOf, verdict, badArea, tooShort, layoutRows, wordRows, sumRows, fileRows, hourRows}
+use Rattle.rules.specs.Refusals.{Row, Verdict, accepted, refusedAt, verdictOf, verdict, badArea, tooShort, layoutRows, wordRows, sumRows, fileRows, hourRows}
 use Rattle.rules.specs.Settling.{Buffers, isAccepted, filled, bufferRows, settleRows, ufeFigures, noFigures, settle}
 use Rattle.rules.specs.Posting.{linesAfter}
 use Rattle.rules.specs.Promises.{Accepts, AllWhole, Fits}

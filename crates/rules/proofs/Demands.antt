@@ -1,27 +1,25 @@
 -- The customer's demands, proved for every input: refusals as the table says, figures as 003 and texts as document 01 say, sums
 -- that come out whole.
-use mathlib.Core.Path.{_≡_, refl, sym, _∙_, ap, ap₂}
+use mathlib.Core.Path.{_≡_, _∙_, ap, ap₂}
 use mathlib.Core.Bool.{not, cond, _&&_, _||_}
 use mathlib.Core.Option.{none}
 use mathlib.Core.List.{List, _∷_, _++_}
 use Prim.Native.Nat.{ℕ, _/_, _%_, _≤_, _<_}
 use native.Mathlib.Omega.{arith}
 use lib.IntN.{ℤ, pos, natAbs}
-use lib.ListN.{length, getD, replicate}
+use lib.ListN.{length, replicate}
 use lib.Dec.{ltb, eqb}
 use borrow.Author.Tests.{ltb-false, lt-ltb, eqb-true, eq-eqb, not-false}
-use Rattle.whole.specs.Below.{totalBelow}
 use Rattle.whole.proofs.Tests.{neither}
 use Rattle.whole.proofs.Sums.{count-zero}
 use Rattle.whole.proofs.Totals.{total-ext, total-zero}
 use Rattle.whole.proofs.Linear.{abs-zero}
 use Rattle.whole.proofs.Search.{first-none}
 use Rattle.whole.proofs.Buffers.{getD-values, getD-replacing, drop-replacing, length-replacing}
-use Rattle.rules.specs.declared.Line.{Line}
 use Rattle.rules.specs.Record.{Hour, members, zones, areas, memberOf, areaOf, zoneOf, entryOf}
 use Rattle.rules.specs.Deviation.{deviation}
 use Rattle.rules.specs.Ufe.{ufe, demands}
-use Rattle.rules.specs.Charge.{shareOf, grains, amount, recordsOf, cents, nearestCent, charge}
+use Rattle.rules.specs.Charge.{shareOf, amount, recordsOf, cents, nearestCent, charge}
 use Rattle.rules.specs.Text.{bytes, digitByte, amountText, amountField}
 use Rattle.rules.specs.HourFile.{hourly, hourOf}
 use Rattle.rules.specs.Refusals.{badArea, tooShort, fileRows, sumRows, hourRows}

@@ -1,15 +1,14 @@
 -- What follows of a settling whose answer and buffers are what `settle` says, and of nothing else about it: no second result fits; refused,
 -- nothing is changed; accepted, every figure is the tariff's, and the sums come out whole.
-use mathlib.Core.Path.{_≡_, refl, sym, _∙_, ap}
+use mathlib.Core.Path.{_≡_, sym, _∙_, ap}
 use mathlib.Core.Bool.{cond}
 use mathlib.Core.List.{List}
 use Prim.Native.Nat.{ℕ, _<_}
 use native.Mathlib.Omega.{arith}
 use lib.IntN.{ℤ, pos}
 use lib.ListN.{getD}
-use lib.Dec.{ltb, eqb}
+use lib.Dec.{ltb}
 use borrow.Author.Tests.{lt-ltb}
-use Rattle.whole.specs.Below.{totalBelow}
 use Rattle.whole.proofs.Totals.{total-ext}
 use Rattle.whole.proofs.Buffers.{getD-replacing, getD-values}
 use Rattle.rules.specs.declared.Answer.the-variants.{Accepted}

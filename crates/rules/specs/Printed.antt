@@ -4,7 +4,6 @@ use mathlib.Core.Path.{_≡_}
 use mathlib.Core.List.{List, [], _∷_, _++_}
 use lib.IntN.{pos, negℤ}
 use lib.ListN.{length, replicate}
-use Rattle.rules.specs.declared.Line.{Line}
 use Rattle.rules.specs.Text.{bytes}
 use Rattle.rules.specs.Refusals.{accepted}
 use Rattle.rules.specs.Settling.{Buffers, Settlement, settle}

@@ -3,7 +3,7 @@ use Prim.Native.Nat.{ℕ, suc, _+_, _*_, _/_, _%_, _≤_, _<_}
 use mathlib.Core.Path.{_≡_}
 use mathlib.Core.Logic.{_↔_}
 use mathlib.Core.Bool.{Bool, true, cond, not, _&&_, _||_}
-use mathlib.Core.Option.{Option, none, some}
+use mathlib.Core.Option.{none, some}
 use mathlib.Core.List.{List, [], _∷_, _++_}
 use lib.IntN.{ℤ, pos, natAbs, _+ℤ_, _-ℤ_, _*ℤ_}
 use lib.ListN.{length, drop, getD, replicate}
@@ -17,8 +17,8 @@ use Rattle.rules.specs.Share.{allDemand, wholePart, remainder, unitsLeft
 use Rattle.rules.specs.Charge.{entering, shareOf, recordsOf, cents, charge, poolTotal}
 use Rattle.rules.specs.Text.{bytes, digitByte, amountText, amountField}
 use Rattle.rules.specs.HourFile.{hourly, hourOf}
-use Rattle.rules.specs.Refusals.{Row, row, Verdict, accepted, refusedAt, verdictOf, verdict, hourRows, writeRows}
-use Rattle.rules.specs.Settling.{Buffers, settle, settleRows, noFigures, write, ReadAmount, read}
+use Rattle.rules.specs.Refusals.{Row, row, accepted, refusedAt, verdictOf, verdict, hourRows, writeRows}
+use Rattle.rules.specs.Settling.{Buffers, settle, settleRows, noFigures, write, read}
 use Rattle.rules.specs.Posting.{emptyLine}
 use Rattle.rules.specs.Statement.{memberLine}
 use Rattle.rules.specs.Tariff.{devAs, ufeOfTerritory, IEC}

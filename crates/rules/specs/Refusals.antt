@@ -1,6 +1,6 @@
 -- The table of refusals: what breaks each row and at which place, and the rows in their order.
 -- Document 01, "Refusal numbers and their order".
-use Prim.Native.Nat.{ℕ, _*_}
+use Prim.Native.Nat.{ℕ}
 use mathlib.Core.Bool.{Bool, true, false, not, cond, _&&_, _||_}
 use mathlib.Core.Option.{Option, none, some, bind}
 use mathlib.Core.List.{List, [], _∷_, _++_}

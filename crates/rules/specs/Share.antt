@@ -1,10 +1,10 @@
 -- A number U shared in whole units over those that take part, by their demands D. Document 01, "The sums", shares.
 use Prim.Native.Nat.{ℕ, zero, suc, _+_, _-_, _*_, _/_, _%_}
-use mathlib.Core.Bool.{Bool, true, false, not, cond, _&&_, _||_}
+use mathlib.Core.Bool.{Bool, false, not, cond, _&&_, _||_}
 use mathlib.Core.Option.{Option, none, some}
 use lib.IntN.{ℤ, natAbs}
 use lib.Dec.{ltb, eqb}
-use Rattle.whole.specs.Below.{oneIf, countBelow, sumBelow}
+use Rattle.whole.specs.Below.{oneIf, sumBelow}
 use Rattle.whole.specs.Signed.{withSignOf}
 
 -- ---- the units left over, one each to the largest remainders, on equal remainders to the earlier

@@ -1,7 +1,7 @@
 -- The formulas of 003, D 2.1 and D 2.2, read a second time: in its own letters, its own order and its own sums by
 -- Scheduling Coordinator and Zone. Demand 2 says that both readings give the same numbers, so that a slip in one breaks a proof.
 -- A GMM is given in ten-thousandths: an energy times a GMM, and any other energy times 10,000, are in units.
-use Prim.Native.Nat.{ℕ, _<_}
+use Prim.Native.Nat.{ℕ}
 use mathlib.Core.Bool.{Bool, cond, _&&_}
 use lib.IntN.{ℤ, pos, _+ℤ_, _-ℤ_, _*ℤ_}
 use lib.Dec.{eqb}

@@ -1,7 +1,5 @@
 -- `figures::shares::show_into` is safe: what it shares is small, so it can be shared, and every share has room for a sign.
-use mathlib.Core.Path.{_≡_, _∙_, ap}
 use Prim.Native.Nat.{_≤_}
-use lib.IntN.{natAbs}
 use mir.Syntax.{w64}
 use mir.ValLaws.{toZ-ofZ}
 use borrow.Author.Needs.{needs}

@@ -1,6 +1,0 @@
-/* What the header and the example need of C's <stdint.h>: Rattle's clang brings no headers. */
-#pragma once
-typedef __UINT8_TYPE__ uint8_t;
-typedef __UINT32_TYPE__ uint32_t;
-typedef __INT64_TYPE__ int64_t;
-typedef __UINT64_TYPE__ uint64_t;
