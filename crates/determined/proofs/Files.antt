@@ -11,7 +11,7 @@ use Rattle.hourfile.proofs.block_word.Reads as block-word
 use Rattle.hourfile.proofs.head_word.Reads as head-word
 use Rattle.hourfile.proofs.records.Reads as records
 use Rattle.hourfile.proofs.body.Reads as body
-use Rattle.hourfile.proofs.record.Reads as record
+use Rattle.hourfile.proofs.record.Reads as record-of
 use Rattle.hourfile.proofs.refusals.examine.Reads as examine
 use Rattle.posting.proofs.hour.members.Reads as members
 use Rattle.posting.proofs.hour.areas.Reads as areas
@@ -59,7 +59,7 @@ one-records κs a x y s t = agree
 pub one-body : (κs : Lfts 1) → OnePart (body.Post κs) now
 one-body κs a x y s t = agree
 
-pub one-record : (κs : Lfts 1) → OnePart (record.Post κs) now
+pub one-record : (κs : Lfts 1) → OnePart (record-of.Post κs) now
 one-record κs a x y s t = agree
 
 pub one-examine : (κs : Lfts 1) → OneResult (examine.Post κs)

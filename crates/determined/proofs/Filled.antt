@@ -83,7 +83,7 @@ one-pool-settle κs a x y s t p q = one-result _ _ x y _ _ p q
 -- its contract is this equation, and no crate reads it
 pub one-sneupelaar-settle : (file : List ℕ) (b : Buffers) {x y : NumberedSettled} {after other : Buffers} →
     settlement x after ≡ settling file b → settlement y other ≡ settling file b → (x ≡ y) × (after ≡ other)
-one-sneupelaar-settle file b = Pool.one-settling file b
+one-sneupelaar-settle file b {x} {y} p q = Pool.one-settling file b {r = x} p {t = y} q
 
 pub one-numbered : (κs : Lfts 0) → OneResult (numbered.Post κs)
 one-numbered κs a x y s t = agree
