@@ -1,2 +1,3 @@
+-- What the contracts of `hourfile` cite beside `rules`.
 pub mod Fault
 pub mod Part

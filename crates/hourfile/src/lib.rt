@@ -1,5 +1,6 @@
-// The hour file: the block reader, the words of a block and of the head, and the part that is a record. A reader of words takes any byte
-// string and any position, and answers 0 where there is no such word. Refusals 1 to 5 are `examine`.
+// The hour file: the block reader, the words of a block and of the head, and the part that is a record. Any byte string and any position is
+// taken; where a file has no such word, the word is 0. Only `whole_word` and `record` ask that what they read is there, and test nothing:
+// in a file that was accepted it is, and the sums read thousands of words. Refusals 1 to 5 are `examine`.
 ghost use mathlib.Core.Path.{_≡_};
 ghost use Prim.Native.Nat.{_+_, _*_, _/_, _≤_, _<_};
 ghost use lib.ListN.{length, getD};

@@ -38,3 +38,11 @@ pub record SharedUpTo (s : List ℕ) (figures : List ℤ) (a : ℕ) (out : List 
   pub sharing : Sharing s figures out
   pub there : a < areas (hourIn s)
   pub shared : (i : ℕ) → i < hourIn s .count → getD out i (pos 0) ≡ sharesBelow (hourIn s) a i
+
+-- an area's sizes, a place a record, each small enough for a sign, and room for the records' shares
+pub record Sized (s : List ℕ) (a : ℕ) (sizes : List ℕ) (out : List ℤ) : Type 0 where
+  pub kept : FileKept s
+  pub area-place : a < 8
+  pub as-many : length sizes ≡ hourIn s .count
+  pub room : length sizes ≤ length out
+  pub small : (i : ℕ) → i < length sizes → getD sizes i 0 < 9223372036854775808

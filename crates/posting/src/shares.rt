@@ -1,7 +1,7 @@
 // The share of each record: an area's UFE over its loads, area by area. An area without UFE costs nothing.
 ghost use mathlib.Core.Path.{_≡_};
 ghost use mathlib.Core.Bool.{cond};
-ghost use Prim.Native.Nat.{ℕ, _+_, _≤_, _<_};
+ghost use Prim.Native.Nat.{_+_, _≤_, _<_};
 ghost use lib.IntN.{pos};
 ghost use lib.ListN.{length, getD};
 ghost use lib.Dec.{eqb};
@@ -11,7 +11,7 @@ ghost use Rattle.rules.specs.Record.{areaOf};
 ghost use Rattle.rules.specs.Charge.{shareOf};
 ghost use Rattle.rules.specs.Kept.{FileKept};
 ghost use Rattle.posting.specs.Hour.{hourIn};
-ghost use Rattle.posting.specs.Shared.{demandIn, sharesBelow, withSizes, Sharing, SharedUpTo};
+ghost use Rattle.posting.specs.Shared.{demandIn, sharesBelow, withSizes, Sharing, SharedUpTo, Sized};
 
 // What a record demands of an area's UFE: 0 unless it is a load there.
 fn demand_there(file: &[u8], a: usize, i: usize) -> u64
@@ -50,7 +50,7 @@ fn share_in(file: &[u8], a: usize, i: usize, ufe: i64, size: u64, before: i64) -
 
 // An area's sizes, with the UFE's sign, to its own records.
 fn put_area(file: &[u8], figures: [i64; 8], a: usize, sizes: &[u64], out: &mut [i64])
-    requires { ⌜ FileKept (now file) × (length (now sizes) ≡ hourIn (now file) .count) × (a < 8) × (length (now sizes) ≤ length (now out)) × ((i : ℕ) → i < length (now sizes) → getD (now sizes) i 0 < 9223372036854775808) ⌝ }
+    requires { ⌜ Sized (now file) a (now sizes) (now out) ⌝ }
     ensures { λ _. ⌜ now (out .exit) ≡ replacingFirst (withSizes (hourIn (now (file .entry))) a (getD figures a (pos 0)) (now (sizes .entry)) (now (out .entry))) (length (now (sizes .entry))) (now (out .entry)) ⌝ }
 {
     let mut i = 0;

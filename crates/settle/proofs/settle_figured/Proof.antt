@@ -1,5 +1,6 @@
 -- `settle::settle_figured` meets its contract: 250 records and 32 members are the most, so that the rooms are large enough.
 use mathlib.Core.Path.{sym, _∙_}
+use Prim.Native.Nat.{ℕ, _≤_}
 use native.Mathlib.Omega.{arith}
 use lib.Seq.{length-take-le}
 use borrow.Author.Needs.{needs}
@@ -12,41 +13,56 @@ records-requires c κs = tt
 members-requires : tie.Need-members-requires
 members-requires c κs = tt
 
+-- at most 250 records and 32 members, and a room of each size
+module _ (c : tie.After-members) where
+  abbrev start : tie.Start
+  start = c .before .before .before .before
+
+  abbrev records : ℕ
+  records = c .before .records .result
+
+  abbrev members : ℕ
+  members = c .members .result
+
+  records-few : records ≤ 250
+  records-few = omega (arith, c .before .records .ensures, start .pre .kept .hour-kept .count-most)
+
+  members-few : members ≤ 32
+  members-few = omega (arith, c .members .ensures, start .pre .kept .hour-kept .members-most)
+
 array-borrow-prefix-deviated : tie.Need-array-borrow-prefix-deviated
-array-borrow-prefix-deviated c = omega (arith, c .before .before .before .before .pre .kept .hour-kept .count-most)
+array-borrow-prefix-deviated c = omega (arith, records-few c)
 
 slice-aggregate-settle-in : tie.Need-slice-aggregate-settle-in
-slice-aggregate-settle-in c = sym (length-take-le (c .before .before .records .result) _ (omega (arith, c .before .before .before .before .before .pre .kept .hour-kept .count-most)))
+slice-aggregate-settle-in c = let m = c .before in sym (length-take-le (records m) _ (omega (arith, records-few m)))
 
 array-borrow-prefix-shared : tie.Need-array-borrow-prefix-shared
-array-borrow-prefix-shared c = omega (arith, c .before .before .before .before .before .pre .kept .hour-kept .count-most)
+array-borrow-prefix-shared c = omega (arith, records-few (c .before))
 
 slice-aggregate-settle-in-2 : tie.Need-slice-aggregate-settle-in-2
-slice-aggregate-settle-in-2 c = sym (length-take-le (c .before .before .before .records .result) _ (omega (arith, c .before .before .before .before .before .before .pre .kept .hour-kept .count-most)))
+slice-aggregate-settle-in-2 c = let m = c .before .before in sym (length-take-le (records m) _ (omega (arith, records-few m)))
 
 array-borrow-prefix-owed : tie.Need-array-borrow-prefix-owed
-array-borrow-prefix-owed c = omega (arith, c .before .before .before .before .before .before .pre .kept .hour-kept .members-most)
+array-borrow-prefix-owed c = omega (arith, members-few (c .before .before))
 
 slice-aggregate-settle-in-3 : tie.Need-slice-aggregate-settle-in-3
-slice-aggregate-settle-in-3 c = sym (length-take-le (c .before .before .before .members .result) _ (omega (arith, c .before .before .before .before .before .before .before .pre .kept .hour-kept .members-most)))
+slice-aggregate-settle-in-3 c = let m = c .before .before .before in sym (length-take-le (members m) _ (omega (arith, members-few m)))
 
 array-borrow-prefix-counted : tie.Need-array-borrow-prefix-counted
-array-borrow-prefix-counted c = omega (arith, c .before .before .before .before .before .before .before .pre .kept .hour-kept .members-most)
+array-borrow-prefix-counted c = omega (arith, members-few (c .before .before .before))
 
 slice-aggregate-settle-in-4 : tie.Need-slice-aggregate-settle-in-4
-slice-aggregate-settle-in-4 c = sym (length-take-le (c .before .before .before .before .members .result) _ (omega (arith, c .before .before .before .before .before .before .before .before .pre .kept .hour-kept .members-most)))
+slice-aggregate-settle-in-4 c = let m = c .before .before .before .before in sym (length-take-le (members m) _ (omega (arith, members-few m)))
 
 settle-in-requires : tie.Need-settle-in-requires
 settle-in-requires c κs =
-    let start = c .before .before .before .before .before .before .before .before .before .before .before .before .before in
-    let records = c .before .before .before .before .before .before .before .before .before .before .records in
-    let members = c .before .before .before .before .before .before .before .before .before .members in (
-      start .pre,
+    let m = c .before .before .before .before .before .before .before .before .before in (
+      start m .pre,
       record {
-        deviations-room = length-take-le (records .result) _ (omega (arith, c .before .before .before .before .before .before .before .before .before .before .before .before .before .pre .kept .hour-kept .count-most)) ∙ records .ensures;
-        shares-room = length-take-le (records .result) _ (omega (arith, c .before .before .before .before .before .before .before .before .before .before .before .before .before .pre .kept .hour-kept .count-most)) ∙ records .ensures;
-        amounts-room = length-take-le (members .result) _ (omega (arith, c .before .before .before .before .before .before .before .before .before .before .before .before .before .pre .kept .hour-kept .members-most)) ∙ members .ensures;
-        counts-room = length-take-le (members .result) _ (omega (arith, c .before .before .before .before .before .before .before .before .before .before .before .before .before .pre .kept .hour-kept .members-most)) ∙ members .ensures;
+        deviations-room = length-take-le (records m) _ (omega (arith, records-few m)) ∙ m .before .records .ensures;
+        shares-room = length-take-le (records m) _ (omega (arith, records-few m)) ∙ m .before .records .ensures;
+        amounts-room = length-take-le (members m) _ (omega (arith, members-few m)) ∙ m .members .ensures;
+        counts-room = length-take-le (members m) _ (omega (arith, members-few m)) ∙ m .members .ensures;
       },
     )
 

@@ -28,10 +28,10 @@ loop-holds : tie.Need-loop-holds Inv-loop μ-loop
 loop-holds c = (omega arith, sym (replacing-none _ _))
 
 mul-share-in : tie.Need-mul-share-in Inv-loop μ-loop
-mul-share-in c = omega (arith, c .before .before .before .before .pre .2)
+mul-share-in c = omega (arith, c .before .before .before .before .pre .area-place)
 
 array-copy-out-share-in : tie.Need-array-copy-out-share-in Inv-loop μ-loop
-array-copy-out-share-in c = c .before .before .before .before .pre .2
+array-copy-out-share-in c = c .before .before .before .before .pre .area-place
 
 mul-share-in-2 : tie.Need-mul-share-in-2 Inv-loop μ-loop
 mul-share-in-2 c = omega arith
@@ -43,16 +43,16 @@ mul-share-in-3 : tie.Need-mul-share-in-3 Inv-loop μ-loop
 mul-share-in-3 c = omega arith
 
 slice-copy-out-share-in : tie.Need-slice-copy-out-share-in Inv-loop μ-loop
-slice-copy-out-share-in c = let len = written-length _ _ _ _ (c .before .before .before .loop .inv .1) (omega (arith, c .before .before .before .before .before .before .pre .3)) in omega (arith, c .before .before .before .before .before .before .pre .3)
+slice-copy-out-share-in c = let len = written-length _ _ _ _ (c .before .before .before .loop .inv .1) (omega (arith, c .before .before .before .before .before .before .pre .room)) in omega (arith, c .before .before .before .before .before .before .pre .room)
 
 share-in-requires : tie.Need-share-in-requires Inv-loop μ-loop
-share-in-requires c κs = (c .before .before .before .before .before .before .before .pre .0, omega (arith, c .before .before .before .before .before .before .before .pre .1), c .before .before .before .before .before .before .before .pre .4 (c .before .before .before .before .loop .i) (omega arith))
+share-in-requires c κs = (c .before .before .before .before .before .before .before .pre .kept, omega (arith, c .before .before .before .before .before .before .before .pre .as-many), c .before .before .before .before .before .before .before .pre .small (c .before .before .before .before .loop .i) (omega arith))
 
 mul-t20 : tie.Need-mul-t20 Inv-loop μ-loop
 mul-t20 c = omega arith
 
 slice-set-from-out : tie.Need-slice-set-from-out Inv-loop μ-loop
-slice-set-from-out c = let len = written-length _ _ _ _ (c .before .before .before .before .before .loop .inv .1) (omega (arith, c .before .before .before .before .before .before .before .before .pre .3)) in omega (arith, c .before .before .before .before .before .before .before .before .pre .3)
+slice-set-from-out c = let len = written-length _ _ _ _ (c .before .before .before .before .before .loop .inv .1) (omega (arith, c .before .before .before .before .before .before .before .before .pre .room)) in omega (arith, c .before .before .before .before .before .before .before .before .pre .room)
 
 add-i : tie.Need-add-i Inv-loop μ-loop
 add-i c = omega arith
@@ -71,10 +71,10 @@ loop-again c =
     let figure = toZ-ofZ w64 (getD (start .args .t2) a (pos 0)) (sfits-of (c .before .before .before .share-in-arg .given)) in
     let before = toZ-ofZ w64 (getD (at .out) (at .i) (pos 0)) (sfits-of (c .before .share-in-arg2 .given)) ∙ unwritten _ _ _ _ (at .inv .1) (at .i) (pos 0) (omega arith) in
     let share = toZ-ofZ w64 _ (sfits-of (c .share-in .ok)) ∙ c .share-in .ensures ∙ ap₂ (λ u x. cond (eqb (areaOf h (at .i)) a) (withSignOf u (getD sizes (at .i) 0)) x) figure before in
-    (omega arith, written-next _ _ _ _ (at .inv .1) _ (omega (arith, start .pre .3)) share)
+    (omega arith, written-next _ _ _ _ (at .inv .1) _ (omega (arith, start .pre .room)) share)
 
 same-length : tie.Need-same-length Inv-loop μ-loop
-same-length c = written-length _ _ _ _ (c .before .loop .inv .1) (omega (arith, c .before .before .before .before .pre .3))
+same-length c = written-length _ _ _ _ (c .before .loop .inv .1) (omega (arith, c .before .before .before .before .pre .room))
 
 returns : tie.Need-returns Inv-loop μ-loop
 returns c =

@@ -72,7 +72,13 @@ shares-requires c κs = rw (size-is c) (shareable (kept c) (start c .args .a) (s
 put-area-requires : tie.Need-put-area-requires
 put-area-requires c κs =
     let k = asked c in
-    (start k .pre .0 .sharing .kept, as-many c, area-place (start k .pre .0), omega (arith, as-many c, start k .pre .0 .sharing .room), got-small (kept k) (start k .args .a) (start k .pre .0 .there) (put k) (start k .args .sizes .now) (demands-are k) (start k .pre .2) (got c) (shared c))
+    record {
+      kept = start k .pre .0 .sharing .kept;
+      area-place = area-place (start k .pre .0);
+      as-many = as-many c;
+      room = omega (arith, as-many c, start k .pre .0 .sharing .room);
+      small = got-small (kept k) (start k .args .a) (start k .pre .0 .there) (put k) (start k .args .sizes .now) (demands-are k) (start k .pre .2) (got c) (shared c);
+    }
 
 same-length : tie.Need-same-length
 same-length c = search needs
