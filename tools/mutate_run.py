@@ -11,7 +11,7 @@ from pathlib import Path
 from mutate_reach import names, reached
 
 # The proof file no longer fits the code: this says nothing of the promise.
-UNFIT = re.compile(r"has no `Need-|no field `|not in scope|unknown name|too many arguments|expected type `tie\.Need|has no `\w+-spec`")
+UNFIT = re.compile(r"has no `Need-|no field `|not in scope|too many arguments|expected type `tie\.Need|this pattern needs a function")
 # An error that only follows from another.
 FOLLOWS = re.compile(r"was not admitted \(|, which is not proved")
 
