@@ -35,7 +35,12 @@ class Change:
         return "/specs/" in self.path
 
     def spelled(self):
-        return f"`{self.old}` → `{self.new}`" if self.new else f"`{self.old}` dropped"
+        return f"`{on_one_line(self.old)}` → `{on_one_line(self.new)}`" if self.new else f"`{self.old}` dropped"
+
+
+def on_one_line(text):
+    line = " ".join(text.split())
+    return line if len(line) <= 80 else f"{line[:60]} … {line[-16:]}"
 
 
 def with_name(text, old, new):

@@ -53,6 +53,8 @@ def items(text):
             continue
         while inside and indent <= inside[-1][0]:
             inside.pop()
+        if inside and inside[-1][1] == "rest":
+            continue
         header = re.match(r"(?:pub )?(record|data) (\S+)", words)
         if header:
             inside.append((indent, header.group(1), header.group(2)))

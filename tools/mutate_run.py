@@ -11,7 +11,7 @@ from pathlib import Path
 from mutate_reach import names, reached
 
 # The proof file no longer fits the code: this says nothing of the promise.
-UNFIT = re.compile(r"has no `Need-|no field `|not in scope|unknown name|too many arguments|expected type `tie\.Need|has no `\w+-spec`")
+UNFIT = re.compile(r"has no `Need-|no field `|not in scope|too many arguments|expected type `tie\.Need|this pattern needs a function")
 # An error that only follows from another.
 FOLLOWS = re.compile(r"was not admitted \(|, which is not proved")
 
@@ -65,6 +65,7 @@ class Copy:
                 os.killpg(process.pid, signal.SIGKILL)
                 said, _ = process.communicate()
                 status = None
+        self.said = said
         return status, said, time.time() - start
 
     def tried(self, change, limit):
@@ -119,14 +120,12 @@ class Copy:
 # ---- what the prover said
 
 def judged(status, said):
-    """survived, refused (a fact fails), shape (only the proof no longer fits), not a program, or timed out."""
+    """survived, refused (a fact fails), shape (the first error is that the proof no longer fits), not a program, or timed out."""
     if status is None:
         return "timed out"
     if status == 0:
         return "survived"
-    errors = [line for line in said.splitlines() if re.match(r"\S+: error", line)]
+    errors = [line for line in said.splitlines() if re.match(r"\S+: error", line) and not FOLLOWS.search(line)]
     if errors and re.search(r"/(specs|src)/\S+: error", errors[0]) or not re.search(r"^fn ", said, re.M):
         return "not a program"
-    own = [line for line in errors if not FOLLOWS.search(line)]
-    unproved = re.search(r"^fn .*does not close", said, re.M)
-    return "refused" if unproved or any(not UNFIT.search(line) for line in own) else "shape"
+    return "shape" if errors and UNFIT.search(errors[0]) else "refused"

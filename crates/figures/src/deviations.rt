@@ -6,22 +6,25 @@ use formula::entry::Entry;
 use libc::STDOUT_FILENO;
 use rules::Kind;
 
+fn print(text: &[u8]) {
+    io::write_all(STDOUT_FILENO, text);
+}
+
 fn print_kind(kind: Kind) {
     match kind {
-        Kind::Generator => io::write_all(STDOUT_FILENO, b"generator"),
-        Kind::RealTimeLoad => io::write_all(STDOUT_FILENO, b"load"),
-        Kind::ProfileLoad => io::write_all(STDOUT_FILENO, b"profile load"),
-        Kind::Import => io::write_all(STDOUT_FILENO, b"import"),
-        Kind::Export => io::write_all(STDOUT_FILENO, b"export"),
-        Kind::Unknown => io::write_all(STDOUT_FILENO, b"unknown"),
+        Kind::Generator => print(b"generator"),
+        Kind::RealTimeLoad => print(b"load"),
+        Kind::ProfileLoad => print(b"profile load"),
+        Kind::Import => print(b"import"),
+        Kind::Export => print(b"export"),
+        Kind::Unknown => print(b"unknown"),
     }
-    ;
 }
 
 // A letter and its number; a number that is 0 is left out, as document 01 does.
 fn print_letter(letter: &[u8], number: i64) {
     if number != 0 {
-        io::write_all(STDOUT_FILENO, letter);
+        print(letter);
         showing::print_signed(number);
     }
 }
@@ -39,7 +42,7 @@ fn show(kind: Kind, s: i64, a: i64, j: i64, n: i64, o: i64, m: i64, f: i64, h: i
     print_letter(b" M ", m);
     print_letter(b" F ", f);
     print_letter(b" H ", h);
-    io::write_all(STDOUT_FILENO, b": ");
+    print(b": ");
     showing::print_signed(deviation(Entry {
         kind: kind,
         s: s,
@@ -51,7 +54,7 @@ fn show(kind: Kind, s: i64, a: i64, j: i64, n: i64, o: i64, m: i64, f: i64, h: i
         f: f,
         h: h,
     }));
-    io::write_all(STDOUT_FILENO, b"\n");
+    print(b"\n");
 }
 
 // How much N adds to a deviation.
@@ -69,9 +72,9 @@ fn show_ancillary(kind: Kind, s: i64, a: i64, j: i64, n: i64, o: i64, m: i64, f:
 {
     show(kind, s, a, j, 0, o, m, f, h);
     show(kind, s, a, j, n, o, m, f, h);
-    io::write_all(STDOUT_FILENO, b"N ");
+    print(b"N ");
     showing::print_signed(n);
-    io::write_all(STDOUT_FILENO, b" adds ");
+    print(b" adds ");
     showing::print_signed(added(Entry {
         kind: kind,
         s: s,
@@ -83,7 +86,7 @@ fn show_ancillary(kind: Kind, s: i64, a: i64, j: i64, n: i64, o: i64, m: i64, f:
         f: f,
         h: h,
     }));
-    io::write_all(STDOUT_FILENO, b"\n");
+    print(b"\n");
 }
 
 // N 30 adds 10,000×N, not H×N, and J doesn't change that. Where O is 600, N also makes less of it unavailable, until nothing is.
