@@ -94,7 +94,7 @@ class Copy:
                 status, said, seconds = self.prove(["check", crate], limit)
                 total += seconds
                 if status != 0:
-                    return judged(status, said), crate, total
+                    return judged(status, said), unproved(said) or crate, total
             return "survived", crate, total
         finally:
             self.restore_target()
@@ -118,6 +118,12 @@ class Copy:
 
 
 # ---- what the prover said
+
+def unproved(said):
+    """The first crate that was not proved: one below the crate that was asked for may be."""
+    found = re.search(r"^rt: (\w+) NOT PROVED", said, re.M)
+    return found and found.group(1)
+
 
 def judged(status, said):
     """survived, refused (a fact fails), shape (the first error is that the proof no longer fits), not a program, or timed out."""
