@@ -83,19 +83,22 @@ class Copy:
         finally:
             path.write_text(before)
 
+    def to_follow(self, change):
+        wanted = reached(self.root, change.path)
+        crates = [crate for crate in self.above(change.crate) if crate in wanted]
+        return sorted(crates, key=lambda crate: not names(self.root / "crates" / crate, change.place))
+
     def followed(self, change, limit):
         """Proves the crates above that a changed definition reaches, first those that name it, until one refuses."""
         self.keep_target()
-        wanted = reached(self.root, change.path)
-        crates = sorted((c for c in self.above(change.crate) if c in wanted), key=lambda c: not names(self.root / "crates" / c, change.place))
         crate, total = change.crate, 0
         try:
-            for crate in crates:
+            for crate in self.to_follow(change):
                 status, said, seconds = self.prove(["check", crate], limit)
                 total += seconds
                 if status != 0:
-                    return judged(status, said), crate, total
-            return "survived", crate, total
+                    return judged(status, said), unproved(said) or crate, total
+            return "survived", change.crate, total
         finally:
             self.restore_target()
 
@@ -118,6 +121,12 @@ class Copy:
 
 
 # ---- what the prover said
+
+def unproved(said):
+    """The first crate that was not proved: one below the crate that was asked for may be."""
+    found = re.search(r"^rt: (\w+) NOT PROVED", said, re.M)
+    return found and found.group(1)
+
 
 def judged(status, said):
     """survived, refused (a fact fails), shape (the first error is that the proof no longer fits), not a program, or timed out."""
