@@ -45,6 +45,7 @@ kit_run() {
 kit_archive() {
     local archive=$kit_root/target/staticlib/lib$1.a said
     if [ ! -f "$archive" ] || [ -n "$(find "$kit_root/crates.txt" "$kit_root"/crates/*/src -newer "$archive" -print -quit)" ]; then
+        echo "proving $1 and all that it rests on, and making its archive; from nothing this takes some minutes" >&2
         if ! said=$(cd "$kit_root" && rt staticlib "$1" 2>&1); then
             echo "$said" >&2
             return 1

@@ -1,4 +1,4 @@
--- What the answer of `refusals::examine` tells the floors above: an accepted file keeps the ranges of document 01, and no second answer fits.
+-- What the answer of `refusals::examine` tells the floors above: an accepted file keeps the ranges of document 01.
 use mathlib.Core.Path.{_≡_, sym, _∙_, ap}
 use mathlib.Core.Logic.{_↔_}
 use mathlib.Core.List.{List}
@@ -24,7 +24,3 @@ module _ (s : List ℕ) where
   -- the counts, prices, zones, ties, kinds, members, areas, energies and multipliers of an accepted file lie in their ranges; at most 250 records
   pub accepted-kept : (r : Answer) → Examined s r → r ≡ Accepted → FileKept s
   accepted-kept r e a = file-kept s (accepted-when-whole r e .0 a)
-
-  -- no second answer fits
-  pub one-examination : (r t : Answer) → Examined s r → Examined s t → r ≡ t
-  one-examination r t e f = one-answer r t (e ∙ sym f)

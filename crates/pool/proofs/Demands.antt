@@ -15,8 +15,7 @@ use Rattle.rules.proofs.Rows.{zero-accepts, settle-numbered, settle-verdict, se
 use Rattle.pool.specs.declared.boundary.NumberedAnswer.{NumberedAnswer}
 use Rattle.pool.specs.declared.boundary.NumberedReading.{NumberedReading}
 use Rattle.pool.specs.declared.boundary.NumberedSettled.{NumberedSettled}
-use Rattle.pool.specs.declared.boundary.Part.{Part}
-use Rattle.pool.specs.HandedOut.{settlement, written, readAmount, bodyPart}
+use Rattle.pool.specs.HandedOut.{settlement, written, readAmount}
 
 -- ---- `sneupelaar_settle`
 
@@ -55,6 +54,3 @@ one-writing field z is too = (
 
 pub one-reading : (field : List ℕ) {r t : NumberedReading} → readAmount r ≡ read field → readAmount t ≡ read field → r ≡ t
 one-reading field is too = ap (λ (x : ReadAmount). record { number = x .verdict .number; place = x .verdict .place; amount = x .amount }) (is ∙ sym too)
-
-pub one-part : (s : List ℕ) (b : ℕ) {p q : Part} → p ≡ bodyPart s b → q ≡ bodyPart s b → p ≡ q
-one-part s b is too = is ∙ sym too

@@ -130,11 +130,3 @@ module _ (l : Layout) (s : List ℕ) where
   pub record-word : (i w : ℕ) → i < recordCount l s → w < l .recordWords → hourOf l s .rec i w ≡ recordWord l s i w
   unfolding hourOf
   record-word i w h k = rw (lt-ltb i (recordCount l s) h, lt-ltb w (l .recordWords) k)
-
-  pub record-past : (i w : ℕ) → recordCount l s ≤ i → hourOf l s .rec i w ≡ 0
-  unfolding hourOf
-  record-past i w h = rw (le-ltb i (recordCount l s) h)
-
-  pub record-word-past : (i w : ℕ) → l .recordWords ≤ w → hourOf l s .rec i w ≡ 0
-  unfolding hourOf
-  record-word-past i w h = split (ltb i (recordCount l s)) (λ t. rw (t, le-ltb w (l .recordWords) h)) (λ t. rw t)

@@ -1,5 +1,5 @@
 -- What `settle` answered and wrote, from its promise alone. It is what `rules` settles where the two lists of amounts and counts are one list
--- of lines, so that the three demands hold of it; and nothing else fits.
+-- of lines, so that the three demands hold of it.
 use mathlib.Core.Path.{_≡_, sym, _∙_, ap, ap₂}
 use mathlib.Core.List.{List, [], _∷_, _++_}
 use Prim.Native.Nat.{ℕ, _≤_, _<_}
@@ -12,7 +12,6 @@ use borrow.Author.Tests.{ltb-true, ltb-false, eqb-true}
 use Rattle.whole.specs.Below.{valuesBelow, replacingFirst}
 use Rattle.whole.proofs.Tests.{split}
 use Rattle.whole.proofs.Buffers.{length-values, getD-values, length-replacing, getD-replacing, getD-kept}
-use Rattle.rules.specs.declared.Answer.{Answer}
 use Rattle.rules.specs.declared.Answer.the-variants.{Accepted}
 use Rattle.rules.specs.declared.Settled.{Settled}
 use Rattle.rules.specs.Record.{Hour, members}
@@ -22,7 +21,7 @@ use Rattle.rules.specs.Settling.{Settlement, isAccepted, bufferRows, settleRows
 use Rattle.rules.specs.Posting.{emptyLine}
 use Rattle.rules.specs.Promises.{Accepts, ByFormula, Fits}
 use Rattle.rules.specs.Outcome.{FairOutcome}
-use Rattle.rules.proofs.Rows.{one-answer, settle-accepts, settle-verdict, settle-numbered, zero-accepts, whole-parts}
+use Rattle.rules.proofs.Rows.{settle-accepts, settle-verdict, settle-numbered, zero-accepts, whole-parts}
 use Rattle.rules.proofs.Demands.{buffers-room}
 use Rattle.rules.proofs.Outcome.{by-formula, fair-outcome}
 use Rattle.posting.specs.Hour.{hourIn}
@@ -107,10 +106,3 @@ module _ (s : List ℕ) (b : Lent) (r : Settled) (after : Lent) (f : FitsParalle
 
   pub settled-fairly : r .answer ≡ Accepted → FairOutcome (hourIn s) (r .ufe) (asBuffers after)
   settled-fairly e = fair-outcome s (asBuffers b) fits e
-
-  -- No second result fits: answer, figures and all five buffers are determined.
-  pub one-outcome : (t : Settled) (other : Lent) → FitsParallel s b t other → (r ≡ t) × (after ≡ other)
-  one-outcome t other g = (
-    ap₂ (λ (a : Answer) (u : List ℤ). record { answer = a; ufe = u }) (one-answer (r .answer) (t .answer) (f .verdict-is ∙ sym (g .verdict-is))) (f .ufe-is ∙ sym (g .ufe-is)),
-    f .buffers-are ∙ sym (g .buffers-are),
-  )

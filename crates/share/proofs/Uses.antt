@@ -1,5 +1,5 @@
--- Both uses of the engine are within what it asks; its promise where only some take part; no second result meets it.
-use mathlib.Core.Path.{_≡_, sym, _∙_}
+-- Both uses of the engine are within what it asks; its promise where only some take part.
+use mathlib.Core.Path.{_≡_}
 use mathlib.Core.Bool.{Bool, cond}
 use mathlib.Core.List.{List}
 use Prim.Native.Nat.{ℕ, _*_, _≤_, _<_}
@@ -36,10 +36,6 @@ module _ (demands : List ℕ) (size : ℕ) (out : List ℕ) (room : length deman
     products-fit = λ i l. product (at demands i) size 25000000 300000000000 10000000000000000000 (omega (arith, demanded-is demands, sum-at (at demands) (length demands) i l)) most (omega arith);
     room = room;
   }
-
--- No second result meets what `shares` promises of its buffer.
-pub one-result : (demands : List ℕ) (size : ℕ) (out a b : List ℕ) → a ≡ sharesIn demands size out → b ≡ sharesIn demands size out → a ≡ b
-one-result demands size out a b p q = p ∙ sym q
 
 -- Where demands of 0 stand for those who take no part, the shares are those of the others.
 pub shares-of-takers : (takes : ℕ → Bool) (D : ℕ → ℕ) (demands : List ℕ) (size : ℕ) (out : List ℕ) →
