@@ -20,10 +20,10 @@ use Rattle.amount.proofs.write.Reads as write
 use Rattle.amount.proofs.read.Reads as read
 use Rattle.amount.proofs.decimal.put_digits.Reads as put-digits
 use Rattle.share.proofs.shares.Reads as shares
-use Rattle.posting.proofs.deviations.put_deviations.Reads as put-deviations
-use Rattle.posting.proofs.shares.put_shares.Reads as put-shares
-use Rattle.posting.proofs.lines.put_charges.Reads as put-charges
-use Rattle.posting.proofs.lines.put_lines.Reads as put-lines
+use Rattle.deviations.proofs.put_deviations.Reads as put-deviations
+use Rattle.sharing.proofs.put_shares.Reads as put-shares
+use Rattle.lines.proofs.put_charges.Reads as put-charges
+use Rattle.lines.proofs.put_lines.Reads as put-lines
 use Rattle.settle.proofs.settle_figured.Reads as settle-figured
 use Rattle.settle.proofs.settle.Reads as settle
 use Rattle.pool.proofs.Port.settle.Reads as pool-settle

@@ -25,7 +25,7 @@ fn examine_named(i: usize) {
     let got = io::read_full(descriptor, &mut file);
     libc::close(descriptor);
     io::write_all(STDOUT_FILENO, &name[..length]);
-    print_answer(hourfile::examine(&file[..got]));
+    print_answer(examine::examine(&file[..got]));
 }
 
 fn print_answer(answer: Answer) {

@@ -1,3 +1,2 @@
--- What the floors above learn of a file: what its examination tells, and where its words lie.
-pub mod Examined
+-- What the floors above learn of a file: where its words lie.
 pub mod Rows

@@ -1,3 +1,2 @@
 -- What the contracts of `hourfile` cite beside `rules`.
-pub mod Fault
 pub mod Part

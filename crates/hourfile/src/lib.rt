@@ -1,6 +1,6 @@
 // The hour file: the block reader, the words of a block and of the head, and the part that is a record. Any byte string and any position is
 // taken; where a file has no such word, the word is 0. Only `whole_word` and `record` ask that what they read is there, and test nothing:
-// in a file that was accepted it is, and the sums read thousands of words. Refusals 1 to 5 are `examine`.
+// in a file that was accepted it is, and the sums read thousands of words.
 ghost use mathlib.Core.Path.{_≡_};
 ghost use Prim.Native.Nat.{_+_, _*_, _/_, _≤_, _<_};
 ghost use lib.ListN.{length, getD};
@@ -8,10 +8,6 @@ ghost use Rattle.rules.specs.Record as Record;
 ghost use Rattle.rules.specs.HourFile as HourFile;
 ghost use Rattle.rules.specs.HourFile.{hourly};
 ghost use Rattle.hourfile.specs.Part.{recordPart};
-
-pub mod refusals;
-
-pub use refusals::examine;
 
 // ---- blocks
 

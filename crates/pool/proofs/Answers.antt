@@ -29,8 +29,8 @@ use Rattle.rules.proofs.Rows.{Numbered, accepts-when-whole, zero-accepts, whole
 use Rattle.rules.proofs.Demands.{Room, buffers-room}
 use Rattle.rules.proofs.Kept.{file-kept}
 use Rattle.rules.proofs.Posting.{lines-are}
-use Rattle.posting.specs.Hour.{hourIn}
-use Rattle.posting.specs.Lined.{AllWorked}
+use Rattle.hour.specs.Hour.{hourIn}
+use Rattle.lines.specs.Lined.{AllWorked}
 use Rattle.settle.specs.Parallel as Parallel
 use Rattle.settle.specs.Parallel.{Lent, lines, lentRow, filledLent, Finished}
 use Rattle.pool.specs.Apart.{Apart, apart, withLines, lastRows, filledApart, FinishedApart, FitsApart}

@@ -12,9 +12,9 @@ ghost use Rattle.rules.specs.Settling.{noFigures};
 ghost use Rattle.rules.specs.Promises.{Fits};
 ghost use Rattle.rules.specs.Kept.{FileKept};
 ghost use Rattle.formula.specs.Room.{TallyRoom, LineRoom};
-ghost use Rattle.posting.specs.Hour.{hourIn};
-ghost use Rattle.posting.specs.Lined.{AllWorked};
-ghost use Rattle.posting.specs.Posted.{Tallied};
+ghost use Rattle.hour.specs.Hour.{hourIn};
+ghost use Rattle.lines.specs.Lined.{AllWorked};
+ghost use Rattle.tally.specs.Posted.{Tallied};
 ghost use Rattle.settle.specs.Parallel.{Figured};
 ghost use Rattle.pool.specs.Apart.{apart, buffers, FinishedApart, FitsApart};
 ghost use Rattle.pool.specs.HandedOut.{settlement};
@@ -54,9 +54,9 @@ fn tally_of(file: &[u8]) -> Tally
     let mut tally = formula::posting::empty_tally();
     let mut i = 0;
     while i < n {
-        let area = posting::hour::area_of(file, i);
-        let demand = posting::hour::demand_of(file, i);
-        let energy = formula::deviation::accounted(posting::hour::entry_of(file, i));
+        let area = hour::area_of(file, i);
+        let demand = hour::demand_of(file, i);
+        let energy = formula::deviation::accounted(hour::entry_of(file, i));
         post(&mut tally, area, demand, energy);
         i += 1;
     }
@@ -80,12 +80,12 @@ fn put_lines(file: &[u8], deviations: &[i64], shares: &[i64], lines: &mut [Line]
     requires { ⌜ AllWorked (now file) (now deviations) (now shares) × (Record.members (hourIn (now file)) ≤ length (now lines)) ⌝ }
     ensures { λ _. ⌜ now (lines .exit) ≡ Posting.linesAfter (hourIn (now (file .entry))) (now (lines .entry)) (hourIn (now (file .entry)) .count) ⌝ }
 {
-    clear_lines(lines, posting::hour::members(file));
+    clear_lines(lines, hour::members(file));
     let n = hourfile::records(file);
     let mut i = 0;
     while i < n {
-        let member = posting::hour::member_of(file, i);
-        let grains = posting::lines::grains(file, i, deviations[i], shares[i]);
+        let member = hour::member_of(file, i);
+        let grains = lines::grains(file, i, deviations[i], shares[i]);
         post_line(lines, member, grains);
         i += 1;
     }
@@ -145,8 +145,8 @@ fn settle_tallied(
     requires { ⌜ (verdict (fileRows (now file)) ≡ accepted) × Tallied (now file) tally ⌝ }
     ensures { λ r. ⌜ FitsApart (now (file .entry)) lines (apart (now (charges .entry)) (now (shares .entry)) (now (deviations .entry))) r (apart (now (charges .exit)) (now (shares .exit)) (now (deviations .exit))) ⌝ }
 {
-    let figures = posting::tally::ufe_figures(file, tally);
-    if let Found::At(a) = posting::tally::area_without_demand(file, tally, figures) {
+    let figures = tally::ufe_figures(file, tally);
+    if let Found::At(a) = tally::area_without_demand(file, tally, figures) {
         return refused(Answer::BadArea(a));
     }
     let answer = finish(file, figures, lines, charges, shares, deviations);
@@ -169,7 +169,7 @@ pub fn settle(
 ) -> Settled
     ensures { λ r. ⌜ Fits (now (file .entry)) (buffers (now (charges .entry)) (now (shares .entry)) (now (deviations .entry)) (now (lines .entry))) r (buffers (now (charges .exit)) (now (shares .exit)) (now (deviations .exit)) (now (lines .exit))) ⌝ }
 {
-    let answer = hourfile::refusals::examine(file);
+    let answer = examine::examine(file);
     let Answer::Accepted = answer else {
         return refused(answer);
     };

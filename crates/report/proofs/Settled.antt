@@ -14,7 +14,7 @@ use Rattle.rules.specs.Record.{members}
 use Rattle.rules.specs.Charge.{charge}
 use Rattle.rules.specs.Refusals.{accepted, verdictOf, verdict, hourRows}
 use Rattle.rules.specs.Statement.{refusedLine, statement}
-use Rattle.posting.specs.Hour.{hourIn}
+use Rattle.hour.specs.Hour.{hourIn}
 use Rattle.settle.specs.Parallel.{Lent, lentRow, parallelRows, filledLent, settleParallel, FitsParallel}
 use Rattle.settle.proofs.Answered.{numbered, parallel-verdict}
 use Rattle.report.specs.Lines.{Charged, acceptedLines}

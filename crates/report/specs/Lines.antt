@@ -10,7 +10,7 @@ use Rattle.rules.specs.Text.{bytes, digitByte}
 use Rattle.rules.specs.Settling.{write}
 use Rattle.rules.specs.Statement.{firstLine, memberLines}
 use Rattle.rules.specs.Kept.{FileKept}
-use Rattle.posting.specs.Hour.{hourIn}
+use Rattle.hour.specs.Hour.{hourIn}
 
 -- a line for each member of the file
 abbrev pub membersPart : List ℕ → List ℕ

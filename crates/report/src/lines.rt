@@ -6,7 +6,7 @@ ghost use Rattle.rules.specs.Record.{members};
 ghost use Rattle.rules.specs.Refusals.{verdictOf};
 ghost use Rattle.rules.specs.Settling.{write};
 ghost use Rattle.rules.specs.Statement.{firstLine, refusedLine};
-ghost use Rattle.posting.specs.Hour.{hourIn};
+ghost use Rattle.hour.specs.Hour.{hourIn};
 ghost use Rattle.report.specs.Lines.{Charged, chargeLine, membersPart};
 ghost use Rattle.report.specs.Put.{Put};
 use crate::text::put_bytes;
@@ -19,7 +19,7 @@ pub fn put_first_line(file: &[u8], out: &mut [u8]) -> usize
     ensures { λ r. ⌜ Put (now (out .entry)) 0 (firstLine (hourIn (now (file .entry)))) r (now (out .exit)) ⌝ }
 {
     let hour = hourfile::head_word(file, 8) as u64;
-    let members = posting::hour::members(file) as u64;
+    let members = hour::members(file) as u64;
     let records = hourfile::records(file) as u64;
     let after_hour = put_count(out, 0, b"hour ", hour);
     let after_members = put_count(out, after_hour, b" members ", members);
@@ -54,7 +54,7 @@ pub fn put_members(file: &[u8], charges: &[i64], out: &mut [u8], at: usize) -> u
     requires { ⌜ Charged (now file) (now charges) × (at + 18 * members (hourIn (now file)) ≤ length (now out)) ⌝ }
     ensures { λ r. ⌜ Put (now (out .entry)) at (membersPart (now (file .entry))) r (now (out .exit)) ⌝ }
 {
-    let members = posting::hour::members(file);
+    let members = hour::members(file);
     let mut place = at;
     let mut m = 0;
     while m < members {

@@ -15,7 +15,7 @@ use Rattle.rules.specs.Promises.{AllWhole}
 use Rattle.rules.specs.Kept.{FileKept}
 use Rattle.rules.proofs.Rows.{accepts-when-whole, refused-first, passed-on, file-numbered, one-answer}
 use Rattle.rules.proofs.Kept.{file-kept}
-use Rattle.posting.specs.Hour.{hourIn}
+use Rattle.hour.specs.Hour.{hourIn}
 use Rattle.settle.specs.Parallel.{Lent, lentRow, parallelRows, filledLent, settleParallel, FitsParallel, lastRows, Finished}
 
 -- every answer but acceptance has a number

@@ -22,8 +22,8 @@ use Rattle.rules.specs.Charge.{shareOf, amount, recordsOf, cents, charge}
 use Rattle.rules.specs.Refusals.{foundAt, verdictOf, verdict, badAmount, tooShort}
 use Rattle.rules.specs.Settling.{isAccepted}
 use Rattle.rules.specs.Kept.{FileKept}
-use Rattle.posting.specs.Hour.{hourIn}
-use Rattle.posting.specs.Lined.{overLimit, LinesRoom, AllWorked}
+use Rattle.hour.specs.Hour.{hourIn}
+use Rattle.lines.specs.Lined.{overLimit, LinesRoom, AllWorked}
 use Rattle.settle.specs.Parallel.{Lent, lines, lentRow, filledLent, handedOver, CanHandOver, lastRows, Rooms, Held, Finished}
 
 -- room for n values that holds them holds nothing else

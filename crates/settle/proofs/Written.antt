@@ -24,7 +24,7 @@ use Rattle.rules.specs.Outcome.{FairOutcome}
 use Rattle.rules.proofs.Rows.{settle-accepts, settle-verdict, settle-numbered, zero-accepts, whole-parts}
 use Rattle.rules.proofs.Demands.{buffers-room}
 use Rattle.rules.proofs.Outcome.{by-formula, fair-outcome}
-use Rattle.posting.specs.Hour.{hourIn}
+use Rattle.hour.specs.Hour.{hourIn}
 use Rattle.settle.specs.Parallel.{Lent, lines, lentRow, parallelRows, filledLent, settleParallel, FitsParallel}
 use Rattle.settle.specs.Written.{lineAt, asBuffers}
 

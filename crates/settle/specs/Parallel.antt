@@ -16,7 +16,7 @@ use Rattle.rules.specs.Charge.{shareOf, amount, recordsOf, cents, charge}
 use Rattle.rules.specs.Refusals.{Row, row, Verdict, verdictOf, verdict, badAmount, tooShort, hourRows}
 use Rattle.rules.specs.Settling.{isAccepted, ufeFigures, noFigures}
 use Rattle.rules.specs.Kept.{FileKept}
-use Rattle.posting.specs.Hour.{hourIn}
+use Rattle.hour.specs.Hour.{hourIn}
 
 -- the caller's five buffers
 pub record Lent : Type 0 where

@@ -10,7 +10,7 @@ ghost use Rattle.whole.specs.Below.{replacingFirst};
 ghost use Rattle.rules.specs.Record as Record;
 ghost use Rattle.rules.specs.Settling.{ufeFigures, noFigures};
 ghost use Rattle.rules.specs.Kept.{FileKept};
-ghost use Rattle.posting.specs.Hour.{hourIn};
+ghost use Rattle.hour.specs.Hour.{hourIn};
 ghost use Rattle.settle.specs.Parallel.{lent, handedOver, CanHandOver, FitsParallel, Held, Figured, Rooms, Finished};
 use rules::Answer;
 use rules::Found;
@@ -41,7 +41,7 @@ pub fn too_short(
 ) -> bool
     ensures { λ r. ⌜ r ≡ (ltb charges (Record.members (hourIn (now (file .entry)))) || ltb lines (Record.members (hourIn (now (file .entry)))) || ltb shares (hourIn (now (file .entry)) .count) || ltb deviations (hourIn (now (file .entry)) .count)) ⌝ }
 {
-    let members = posting::hour::members(file);
+    let members = hour::members(file);
     let records = hourfile::records(file);
     if charges < members {
         return true;
@@ -93,7 +93,7 @@ fn hand_over(
     requires { ⌜ CanHandOver (now deviated) (now shared) (now owed) (now counted) (lent (now charges) (now shares) (now deviations) (now amounts) (now counts)) ⌝ }
     ensures { λ _. ⌜ lent (now (charges .exit)) (now (shares .exit)) (now (deviations .exit)) (now (amounts .exit)) (now (counts .exit)) ≡ handedOver (now (deviated .entry)) (now (shared .entry)) (now (owed .entry)) (now (counted .entry)) (lent (now (charges .entry)) (now (shares .entry)) (now (deviations .entry)) (now (amounts .entry)) (now (counts .entry))) ⌝ }
 {
-    posting::lines::put_charges(owed, charges);
+    lines::put_charges(owed, charges);
     copy(shared, shares);
     copy(deviated, deviations);
     copy(owed, amounts);
@@ -116,7 +116,7 @@ fn finish(
     requires { ⌜ Held (now file) (now deviated) (now shared) (now owed) (now counted) ⌝ }
     ensures { λ r. ⌜ Finished (hourIn (now (file .entry))) (lent (now (charges .entry)) (now (shares .entry)) (now (deviations .entry)) (now (amounts .entry)) (now (counts .entry))) r (lent (now (charges .exit)) (now (shares .exit)) (now (deviations .exit)) (now (amounts .exit)) (now (counts .exit))) ⌝ }
 {
-    if let Found::At(m) = posting::lines::member_over(owed) {
+    if let Found::At(m) = lines::member_over(owed) {
         return Answer::BadAmount(m);
     }
     let places = least(amounts.len(), counts.len());
@@ -149,9 +149,9 @@ fn hold(
     requires { ⌜ Figured (now file) figures × Rooms (now file) (now deviations) (now shares) (now amounts) (now counts) ⌝ }
     ensures { λ _. ⌜ Held (now (file .entry)) (now (deviations .exit)) (now (shares .exit)) (now (amounts .exit)) (now (counts .exit)) ⌝ }
 {
-    posting::deviations::put_deviations(file, deviations);
-    posting::shares::put_shares(file, figures, shares);
-    posting::lines::put_lines(file, deviations, shares, amounts, counts);
+    deviations::put_deviations(file, deviations);
+    sharing::put_shares(file, figures, shares);
+    lines::put_lines(file, deviations, shares, amounts, counts);
 }
 
 // The rest of settling, in the room lent.
@@ -200,7 +200,7 @@ pub fn settle_figured(
     ensures { λ r. ⌜ Finished (hourIn (now (file .entry))) (lent (now (charges .entry)) (now (shares .entry)) (now (deviations .entry)) (now (amounts .entry)) (now (counts .entry))) r (lent (now (charges .exit)) (now (shares .exit)) (now (deviations .exit)) (now (amounts .exit)) (now (counts .exit))) ⌝ }
 {
     let records = hourfile::records(file);
-    let members = posting::hour::members(file);
+    let members = hour::members(file);
     let mut deviated = [0i64; 250];
     let mut shared = [0i64; 250];
     let mut owed = [0i64; 32];
@@ -232,13 +232,13 @@ pub fn settle(
 ) -> Settled
     ensures { λ r. ⌜ FitsParallel (now (file .entry)) (lent (now (charges .entry)) (now (shares .entry)) (now (deviations .entry)) (now (amounts .entry)) (now (counts .entry))) r (lent (now (charges .exit)) (now (shares .exit)) (now (deviations .exit)) (now (amounts .exit)) (now (counts .exit))) ⌝ }
 {
-    let answer = hourfile::examine(file);
+    let answer = examine::examine(file);
     let Answer::Accepted = answer else {
         return refused(answer);
     };
-    let t = posting::tally::tally_of(file);
-    let figures = posting::tally::ufe_figures(file, t);
-    if let Found::At(a) = posting::tally::area_without_demand(file, t, figures) {
+    let t = tally::tally_of(file);
+    let figures = tally::ufe_figures(file, t);
+    if let Found::At(a) = tally::area_without_demand(file, t, figures) {
         return refused(Answer::BadArea(a));
     }
     let last = settle_figured(file, figures, charges, shares, deviations, amounts, counts);

@@ -17,7 +17,7 @@ use Rattle.rules.specs.Record.{Hour, members}
 use Rattle.rules.specs.Charge.{grains}
 use Rattle.rules.specs.Posting.{emptyLine, linesAfter}
 use Rattle.rules.specs.Kept.{HourKept}
-use Rattle.posting.specs.Hour.{hourIn}
+use Rattle.hour.specs.Hour.{hourIn}
 use Rattle.pool.proofs.Lines.{lines-length, can-post, next-lines}
 use Rattle.pool.proofs.put_lines.Statement.{statement}
 use Rattle.pool.proofs.put_lines.Proof.Tie as tie

@@ -11,9 +11,9 @@ use mir.ValLaws.{toZ-ofZ}
 use borrow.Author.Needs.{sfits-of}
 use Rattle.rules.specs.Record.{entryOf}
 use Rattle.rules.specs.Posting.{accounted, tallyAfter}
-use Rattle.posting.specs.Hour.{hourIn}
-use Rattle.posting.specs.Posted.{TalliedUpTo}
-use Rattle.posting.proofs.Tallies.{has-room, next-tally}
+use Rattle.hour.specs.Hour.{hourIn}
+use Rattle.tally.specs.Posted.{TalliedUpTo}
+use Rattle.tally.proofs.Tallies.{has-room, next-tally}
 use Rattle.pool.proofs.tally_of.Statement.{statement}
 use Rattle.pool.proofs.tally_of.Proof.Tie as tie
 

@@ -1,7 +1,7 @@
 -- `report::put_accepted` meets its contract: the members' lines after line 1.
 use native.Mathlib.Omega.{arith}
 use borrow.Author.Needs.{needs}
-use Rattle.posting.specs.Hour.{hourIn}
+use Rattle.hour.specs.Hour.{hourIn}
 use Rattle.rules.proofs.Stated.{hour-number-most, first-line-most}
 use Rattle.report.proofs.Putting.{put-on}
 use Rattle.report.proofs.put_accepted.Statement.{statement}

@@ -8,7 +8,7 @@ use lib.ListN.{length}
 use borrow.Author.Needs.{needs}
 use Rattle.rules.specs.Record.{Hour, members}
 use Rattle.rules.specs.Refusals.{foundAt, badAmount}
-use Rattle.posting.specs.Hour.{hourIn}
+use Rattle.hour.specs.Hour.{hourIn}
 use Rattle.settle.specs.Parallel.{Lent, lent}
 use Rattle.settle.proofs.Held.{row-7, amount-over, short, some-short, can-hand-over, all-handed}
 use Rattle.settle.proofs.finish.Statement.{statement}

@@ -7,7 +7,7 @@ use borrow.Author.Needs.{needs}
 use Rattle.rules.specs.Kept.{FileKept}
 use Rattle.rules.specs.declared.Answer.the-variants.{Accepted}
 use Rattle.rules.specs.Refusals.{foundAt, badArea}
-use Rattle.posting.specs.Hour.{hourIn}
+use Rattle.hour.specs.Hour.{hourIn}
 use Rattle.settle.specs.Parallel.{Lent, lent}
 use Rattle.settle.proofs.Answered.{numbered, refused-with, file-refused, accepted-kept, area-refused, last-refused, last-accepted}
 use types.Run.{OneOf, miss}

@@ -14,15 +14,15 @@ use Rattle.pool.proofs.Port.put_lines.Kinds
 use Rattle.pool.proofs.put_lines.Proof.Lts
 use Rattle.pool.proofs.Port.put_lines.Reads as Reads'3
 use Rattle.pool.proofs.put_lines.Statement
-use Rattle.posting.proofs.hour.member_of.Met as Met'3
-use Rattle.posting.proofs.hour.member_of.Reads as Reads'4
-use Rattle.posting.proofs.hour.member_of.Symbol as Symbol'3
-use Rattle.posting.proofs.hour.members.Met as Met'4
-use Rattle.posting.proofs.hour.members.Reads as Reads'5
-use Rattle.posting.proofs.hour.members.Symbol as Symbol'4
-use Rattle.posting.proofs.lines.grains.Met as Met'5
-use Rattle.posting.proofs.lines.grains.Reads as Reads'6
-use Rattle.posting.proofs.lines.grains.Symbol as Symbol'5
+use Rattle.hour.proofs.member_of.Met as Met'3
+use Rattle.hour.proofs.member_of.Reads as Reads'4
+use Rattle.hour.proofs.member_of.Symbol as Symbol'3
+use Rattle.hour.proofs.members.Met as Met'4
+use Rattle.hour.proofs.members.Reads as Reads'5
+use Rattle.hour.proofs.members.Symbol as Symbol'4
+use Rattle.lines.proofs.grains.Met as Met'5
+use Rattle.lines.proofs.grains.Reads as Reads'6
+use Rattle.lines.proofs.grains.Symbol as Symbol'5
 use borrow.Fn.Run
 use borrow.Fn.Written
 use contract.Running

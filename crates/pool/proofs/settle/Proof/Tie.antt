@@ -1,7 +1,7 @@
 -- Made by tools/walk.py: `pool::settle`, the needs that the derivation leaves.
-use Rattle.hourfile.proofs.examine.Met
-use Rattle.hourfile.proofs.examine.Reads
-use Rattle.hourfile.proofs.examine.Symbol
+use Rattle.examine.proofs.examine.Met
+use Rattle.examine.proofs.examine.Reads
+use Rattle.examine.proofs.examine.Symbol
 use Rattle.pool.proofs.put_lines.Met as Met'
 use Rattle.pool.proofs.Port.put_lines.Reads as Reads'
 use Rattle.pool.proofs.put_lines.Symbol as Symbol'

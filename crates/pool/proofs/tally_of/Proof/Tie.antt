@@ -17,15 +17,15 @@ use Rattle.pool.proofs.tally_of.Kinds
 use Rattle.pool.proofs.tally_of.Proof.Lts
 use Rattle.pool.proofs.tally_of.Reads as Reads'4
 use Rattle.pool.proofs.tally_of.Statement
-use Rattle.posting.proofs.hour.area_of.Met as Met'4
-use Rattle.posting.proofs.hour.area_of.Reads as Reads'5
-use Rattle.posting.proofs.hour.area_of.Symbol as Symbol'4
-use Rattle.posting.proofs.hour.demand_of.Met as Met'5
-use Rattle.posting.proofs.hour.demand_of.Reads as Reads'6
-use Rattle.posting.proofs.hour.demand_of.Symbol as Symbol'5
-use Rattle.posting.proofs.hour.entry_of.Met as Met'6
-use Rattle.posting.proofs.hour.entry_of.Reads as Reads'7
-use Rattle.posting.proofs.hour.entry_of.Symbol as Symbol'6
+use Rattle.hour.proofs.area_of.Met as Met'4
+use Rattle.hour.proofs.area_of.Reads as Reads'5
+use Rattle.hour.proofs.area_of.Symbol as Symbol'4
+use Rattle.hour.proofs.demand_of.Met as Met'5
+use Rattle.hour.proofs.demand_of.Reads as Reads'6
+use Rattle.hour.proofs.demand_of.Symbol as Symbol'5
+use Rattle.hour.proofs.entry_of.Met as Met'6
+use Rattle.hour.proofs.entry_of.Reads as Reads'7
+use Rattle.hour.proofs.entry_of.Symbol as Symbol'6
 use borrow.Fn.Run
 use borrow.Fn.Written
 use contract.Running

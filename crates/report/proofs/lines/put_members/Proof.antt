@@ -15,7 +15,7 @@ use Rattle.rules.specs.Record.{Hour}
 use Rattle.rules.specs.Charge.{charge}
 use Rattle.rules.specs.Statement.{memberLine, memberLines}
 use Rattle.rules.proofs.Bounds.{charge-under}
-use Rattle.posting.specs.Hour.{hourIn}
+use Rattle.hour.specs.Hour.{hourIn}
 use Rattle.report.specs.Put.{Put}
 use Rattle.report.specs.Lines.{Charged, chargeLine}
 use Rattle.rules.proofs.Stated.{member-lines-length}

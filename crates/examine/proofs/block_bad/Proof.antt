@@ -1,0 +1,83 @@
+-- `examine::block_bad` meets its contract: the words in front first; then nothing more of the first block, and of another the zeros past its records.
+use mathlib.Core.Path.{_≡_, sym, _∙_, ap}
+use mathlib.Core.Bool.{Bool}
+use Prim.Native.Nat.{ℕ}
+use native.Mathlib.Omega.{arith}
+use borrow.Author.Needs.{needs}
+use Rattle.rules.specs.declared.Found.{Found}
+use Rattle.rules.specs.HourFile.{hourly, word}
+use Rattle.rules.specs.Ranges.{blockRule, firstBroken}
+use Rattle.rules.specs.Refusals.{isBroken, foundAt}
+use Rattle.rules.proofs.Faults.{front-broken, first-block-whole, past-front}
+use Rattle.examine.proofs.block_bad.Statement.{statement}
+use Rattle.examine.proofs.block_bad.Tie as tie
+
+-- the count that the code has read is the block's own
+module _ (c : tie.After-front-bad) where
+  abbrev broken : (held n : ℕ) → Bool
+  broken held n = let at = c .before .before .before .args in isBroken (firstBroken (blockRule hourly (at .n) held (at .b)) (word (at .block .now)) n)
+
+  as-read : broken (c .before .word .result) 128 ≡ broken (word (c .before .before .before .args .block .now) 2) 128
+  as-read = ap (λ (held : ℕ). broken held 128) (c .before .word .ensures)
+
+-- past the front, what the search of the zeros found
+rest-told : (c : tie.After-first-not-zero) → broken (c .before .before .before) (word (c .before .before .before .before .before .before .args .block .now) 2) 128 ≡ isBroken (foundAt (c .first-not-zero .result))
+rest-told c =
+    let at = c .before .before .before in
+    sym (as-read at)
+    ∙ ap isBroken (past-front _ _ _ _ (sym (at .front-bad .ensures) ∙ c .before .before .if1 .left) (c .before .if2 .left) ∙ sym (c .first-not-zero .ensures))
+
+word-requires : tie.Need-word-requires
+word-requires c κs = tt
+
+front-bad-requires : tie.Need-front-bad-requires
+front-bad-requires c κs = tt
+
+returns : tie.Need-returns
+returns c = sym (sym (as-read (c .before)) ∙ front-broken _ _ _ _ (sym (c .before .front-bad .ensures) ∙ c .if1 .taken))
+
+returns-2 : tie.Need-returns-2
+returns-2 c =
+    let at = c .before .before in
+    sym (sym (as-read at) ∙ first-block-whole _ _ _ _ (sym (at .front-bad .ensures) ∙ c .before .if1 .left) (c .if2 .taken))
+
+cast-first-not-zero : tie.Need-cast-first-not-zero
+cast-first-not-zero c = omega arith
+
+mul-first-not-zero : tie.Need-mul-first-not-zero
+mul-first-not-zero c = omega arith
+
+add-first-not-zero : tie.Need-add-first-not-zero
+add-first-not-zero c = omega arith
+
+first-not-zero-requires : tie.Need-first-not-zero-requires
+first-not-zero-requires c κs = tt
+
+enum-told : tie.Need-enum-told
+enum-told c = search needs
+
+enum-told-2 : tie.Need-enum-told-2
+enum-told-2 c = search needs
+
+returns-3 : tie.Need-returns-3
+returns-3 c = sym (rest-told (c .before .before) ∙ ap (λ (f : Found). isBroken (foundAt f)) (c .enum-told .given .1))
+
+returns-4 : tie.Need-returns-4
+returns-4 c = sym (rest-told (c .before .before) ∙ ap (λ (f : Found). isBroken (foundAt f)) (c .enum-told2 .given .1))
+
+pub block-bad-spec : {M : Type 1} → statement M
+block-bad-spec =
+    tie.close
+    (tie.spec
+    word-requires
+    front-bad-requires
+    returns
+    returns-2
+    cast-first-not-zero
+    mul-first-not-zero
+    add-first-not-zero
+    first-not-zero-requires
+    enum-told
+    enum-told-2
+    returns-3
+    returns-4)

@@ -1,0 +1,57 @@
+-- `examine::examine_hour` meets its contract: the first row that is broken. The first fault tells the first bad record.
+use mathlib.Core.Path.{sym, _∙_, ap}
+use native.Mathlib.Omega.{arith}
+use borrow.Author.Needs.{needs}
+use Rattle.rules.specs.Refusals.{foundAt, verdict, wordRows}
+use Rattle.rules.proofs.Faults.{fault-record, fault-nowhere}
+use Rattle.examine.specs.Fault.{faultAt}
+use Rattle.examine.proofs.examine_hour.Statement.{statement}
+use Rattle.examine.proofs.examine_hour.Tie as tie
+
+bad-head-requires : tie.Need-bad-head-requires
+bad-head-requires c κs = omega arith
+
+enum-known-w : tie.Need-enum-known-w
+enum-known-w c = search needs
+
+returns : tie.Need-returns
+unfolding verdict wordRows
+returns c = simp (sym (c .before .before .before .bad-head .ensures) ∙ ap foundAt (c .before .w .given .1))
+
+enum-told : tie.Need-enum-told
+enum-told c = search needs
+
+first-fault-requires : tie.Need-first-fault-requires
+first-fault-requires c κs = omega arith
+
+enum-known-i : tie.Need-enum-known-i
+enum-known-i c = search needs
+
+returns-2 : tie.Need-returns-2
+unfolding verdict wordRows
+returns-2 c =
+    let head = c .before .before .before .before in
+    simp (sym (head .before .before .bad-head .ensures) ∙ ap foundAt (head .enum-told .given .1), fault-record _ _ _ (sym (c .before .before .before .first-fault .ensures) ∙ ap faultAt (c .before .i .given .1)))
+
+enum-told-2 : tie.Need-enum-told-2
+enum-told-2 c = search needs
+
+returns-3 : tie.Need-returns-3
+unfolding verdict wordRows
+returns-3 c =
+    let head = c .before .before .before in
+    simp (sym (head .before .before .bad-head .ensures) ∙ ap foundAt (head .enum-told .given .1), fault-nowhere _ (sym (c .before .before .first-fault .ensures) ∙ ap faultAt (c .enum-told2 .given .1)))
+
+pub examine-hour-spec : {M : Type 1} → statement M
+examine-hour-spec =
+    tie.close
+    (tie.spec
+    bad-head-requires
+    enum-known-w
+    returns
+    enum-told
+    first-fault-requires
+    enum-known-i
+    returns-2
+    enum-told-2
+    returns-3)

@@ -1,0 +1,2 @@
+-- What the contracts of `examine` cite beside `rules`.
+pub mod Fault

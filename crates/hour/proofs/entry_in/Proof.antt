@@ -1,0 +1,98 @@
+-- `hour::entry_in` meets its contract, letter by letter: each is one word of the part.
+use mathlib.Core.Path.{_∙_, ap}
+use native.Mathlib.Omega.{arith}
+use mir.Syntax.{w64}
+use mir.ValLaws.{toZ-ofZ}
+use borrow.Author.Needs.{sfits-of}
+use Rattle.rules.specs.Record.{entry, signed}
+use Rattle.hour.proofs.Wide.{word-is}
+use Rattle.hour.proofs.entry_in.Statement.{statement}
+use Rattle.hour.proofs.entry_in.Tie as tie
+
+kind-in-requires : tie.Need-kind-in-requires
+kind-in-requires c κs = omega arith
+
+whole-word-requires : tie.Need-whole-word-requires
+whole-word-requires c κs = omega arith
+
+cast-t4 : tie.Need-cast-t4
+cast-t4 c = omega arith
+
+whole-word-requires-2 : tie.Need-whole-word-requires-2
+whole-word-requires-2 c κs = omega arith
+
+cast-t6 : tie.Need-cast-t6
+cast-t6 c = omega arith
+
+whole-word-requires-3 : tie.Need-whole-word-requires-3
+whole-word-requires-3 c κs = omega arith
+
+signed-requires : tie.Need-signed-requires
+signed-requires c κs = tt
+
+whole-word-requires-4 : tie.Need-whole-word-requires-4
+whole-word-requires-4 c κs = omega arith
+
+cast-t10 : tie.Need-cast-t10
+cast-t10 c = omega arith
+
+whole-word-requires-5 : tie.Need-whole-word-requires-5
+whole-word-requires-5 c κs = omega arith
+
+cast-t12 : tie.Need-cast-t12
+cast-t12 c = omega arith
+
+whole-word-requires-6 : tie.Need-whole-word-requires-6
+whole-word-requires-6 c κs = omega arith
+
+cast-t14 : tie.Need-cast-t14
+cast-t14 c = omega arith
+
+whole-word-requires-7 : tie.Need-whole-word-requires-7
+whole-word-requires-7 c κs = omega arith
+
+cast-t16 : tie.Need-cast-t16
+cast-t16 c = omega arith
+
+whole-word-requires-8 : tie.Need-whole-word-requires-8
+whole-word-requires-8 c κs = omega arith
+
+cast-t18 : tie.Need-cast-t18
+cast-t18 c = omega arith
+
+returns : tie.Need-returns
+unfolding entry
+returns c = λ k. record {
+  kind = (c .before .before .before .before .before .before .before .before .before .kind-in .ensures) k;
+  S = (word-is (c .before .before .before .before .before .before .before .before .whole-word .ok) (c .before .before .before .before .before .before .before .before .whole-word .ensures)) k;
+  A = (word-is (c .before .before .before .before .before .before .before .whole-word2 .ok) (c .before .before .before .before .before .before .before .whole-word2 .ensures)) k;
+  J = (toZ-ofZ w64 _ (sfits-of (c .before .before .before .before .before .signed .ok)) ∙ c .before .before .before .before .before .signed .ensures ∙ ap signed (c .before .before .before .before .before .before .whole-word3 .ensures)) k;
+  N = (word-is (c .before .before .before .before .whole-word4 .ok) (c .before .before .before .before .whole-word4 .ensures)) k;
+  O = (word-is (c .before .before .before .whole-word5 .ok) (c .before .before .before .whole-word5 .ensures)) k;
+  M = (word-is (c .before .before .whole-word6 .ok) (c .before .before .whole-word6 .ensures)) k;
+  F = (word-is (c .before .whole-word7 .ok) (c .before .whole-word7 .ensures)) k;
+  H = (word-is (c .whole-word8 .ok) (c .whole-word8 .ensures)) k;
+}
+
+pub entry-in-spec : {M : Type 1} → statement M
+entry-in-spec =
+    tie.close
+    (tie.spec
+    kind-in-requires
+    whole-word-requires
+    cast-t4
+    whole-word-requires-2
+    cast-t6
+    whole-word-requires-3
+    signed-requires
+    whole-word-requires-4
+    cast-t10
+    whole-word-requires-5
+    cast-t12
+    whole-word-requires-6
+    cast-t14
+    whole-word-requires-7
+    cast-t16
+    whole-word-requires-8
+    cast-t18
+    returns)

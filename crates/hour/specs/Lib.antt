@@ -1,0 +1,2 @@
+-- What the contracts of `hour` cite beside `rules`.
+pub mod Hour

@@ -1,0 +1,2 @@
+-- The laws behind the members' lines.
+mod Postings

@@ -1,0 +1,2 @@
+-- What the contracts of `lines` cite beside `rules`.
+pub mod Lined

@@ -1,0 +1,2 @@
+-- The laws behind the shares of an area.
+mod Areas

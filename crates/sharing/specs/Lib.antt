@@ -1,0 +1,2 @@
+-- What the contracts of `sharing` cite beside `rules`.
+pub mod Shared

@@ -1,0 +1,2 @@
+-- The laws behind tally and UFE.
+pub mod Tallies

@@ -1,0 +1,86 @@
+-- `tally::area_without_demand` meets its contract. The loop's invariant: no area passed breaks refusal 6.
+use mathlib.Core.Path.{_≡_, refl, sym}
+use mathlib.Core.Logic.{⊎-elim}
+use mathlib.Core.Option.{none}
+use Prim.Native.Nat.{_-_, _≤_}
+use native.Mathlib.Omega.{arith}
+use Rattle.whole.specs.Below.{firstBelow}
+use Rattle.whole.proofs.Search.{first-next, first-hit}
+use Rattle.rules.specs.Refusals.{badArea}
+use Rattle.rules.specs.Record as Record
+use Rattle.hour.specs.Hour.{hourIn}
+use Rattle.tally.proofs.Tallies.{nobody-demands, somebody-demands, nothing-to-share, noDemand}
+use Rattle.tally.proofs.area_without_demand.Statement.{statement}
+use Rattle.tally.proofs.area_without_demand.Tie as tie
+
+abbrev Inv-loop : tie.InvT-loop
+Inv-loop file t ufe areas a₀ a = (a ≤ areas) × (firstBelow (noDemand (hourIn file)) a ≡ none)
+
+abbrev μ-loop : tie.MeasureT-loop
+μ-loop file t ufe areas a₀ a = areas - a
+
+areas-requires : tie.Need-areas-requires Inv-loop μ-loop
+areas-requires c κs = tt
+
+loop-holds : tie.Need-loop-holds Inv-loop μ-loop
+unfolding firstBelow
+loop-holds c = (omega arith, refl)
+
+mul-if1 : tie.Need-mul-if1 Inv-loop μ-loop
+mul-if1 c = omega (arith, c .before .before .before .before .pre .0 .kept .hour-kept .areas-most)
+
+element-copy-out-if1 : tie.Need-element-copy-out-if1 Inv-loop μ-loop
+element-copy-out-if1 c = omega (arith, c .before .before .before .before .pre .0 .kept .hour-kept .areas-most)
+
+mul-if2 : tie.Need-mul-if2 Inv-loop μ-loop
+mul-if2 c = omega (arith, c .before .before .before .before .before .before .pre .0 .kept .hour-kept .areas-most)
+
+array-copy-out-if2 : tie.Need-array-copy-out-if2 Inv-loop μ-loop
+array-copy-out-if2 c = omega (arith, c .before .before .before .before .before .before .pre .0 .kept .hour-kept .areas-most)
+
+returns : tie.Need-returns Inv-loop μ-loop
+unfolding badArea
+returns c =
+    let start = c .before .before .before .before .before .before .before .before in
+    let h = hourIn (start .args .file .now) in
+    let a = c .before .before .before .before .before .loop .a in
+    let broken = nobody-demands (start .pre .0) (start .pre .1) a (omega arith) (c .before .before .if1 .taken) (c .if2 .taken) in
+    sym (first-hit (noDemand h) a (Record.areas h) (c .before .before .before .before .before .loop .inv .1) broken (omega arith))
+
+add-a : tie.Need-add-a Inv-loop μ-loop
+add-a c = omega arith
+
+loop-less : tie.Need-loop-less Inv-loop μ-loop
+loop-less c = omega arith
+
+loop-again : tie.Need-loop-again Inv-loop μ-loop
+loop-again c =
+    let start = c .before .before .before .before .before .before in
+    let a = c .before .before .before .loop .a in
+    let whole = ⊎-elim
+    (λ w. nothing-to-share (start .pre .0) (start .pre .1) a (omega arith) (w .2 .left))
+    (λ w. somebody-demands (start .pre .0) (start .pre .1) a (omega arith) (w .left))
+    (c .if1 .came) in
+    (omega arith, first-next (noDemand (hourIn (start .args .file .now))) a (c .before .before .before .loop .inv .1) whole)
+
+returns-2 : tie.Need-returns-2 Inv-loop μ-loop
+unfolding badArea
+returns-2 c = let all : Record.areas (hourIn (c .before .before .before .before .args .file .now)) ≡ c .before .loop .a = omega arith in rw all (sym (c .before .loop .inv .1))
+
+pub area-without-demand-spec : {M : Type 1} → statement M
+area-without-demand-spec =
+    tie.close
+    (tie.spec
+    Inv-loop
+    μ-loop
+    areas-requires
+    loop-holds
+    mul-if1
+    element-copy-out-if1
+    mul-if2
+    array-copy-out-if2
+    returns
+    add-a
+    loop-less
+    loop-again
+    returns-2)
