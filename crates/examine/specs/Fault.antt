@@ -1,8 +1,8 @@
 -- Where the search of the records stops, as the definitions say it: a record and a word, or none.
 use Prim.Native.Nat.{ℕ}
 use mathlib.Core.Option.{Option, none, some}
-use Rattle.hourfile.specs.declared.refusals.Fault.{Fault}
-use Rattle.hourfile.specs.declared.refusals.Fault.the-variants.{Word, Nowhere}
+use Rattle.examine.specs.declared.Fault.{Fault}
+use Rattle.examine.specs.declared.Fault.the-variants.{Word, Nowhere}
 
 abbrev pub faultAt : Fault → Option (ℕ × ℕ)
 faultAt (Word i w) = some (i, w)
