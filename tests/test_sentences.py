@@ -129,13 +129,21 @@ class Whole(PageTest):
         self.assertEqual(at_definitions - named, set())
 
     def test_the_list_of_sentences_without_an_edit(self):
-        listed = re.findall(r"[A-Z]\d+", " ".join(row["sentences"] for row in WITHOUT_AN_EDIT))
-        self.assertCountEqual(listed, [number(row) for row in RENDERED if row["edits"].startswith("none: ")])
+        without = [number(row) for row in RENDERED if row["edits"].startswith("none: ")]
+        self.assertEqual([row["sentence"] for row in WITHOUT_AN_EDIT], without)
+
+    def test_definitions_to_read_twice(self):
+        twice = naming.rows(SECTIONS["Definitions to read twice"])
+        self.assertTrue(twice)
+        for row in twice:
+            with self.subTest(row["sentence"]):
+                self.assert_named(row["definition"], "definition")
+                self.assert_named(row["the code that then fails"], "function")
 
     def test_what_that_list_proposes(self):
         for row in WITHOUT_AN_EDIT:
-            with self.subTest(row["sentences"]):
-                self.assert_named(row["an edit that would try them"], "function", "definition", "crate")
+            with self.subTest(row["sentence"]):
+                self.assert_named(row["an edit that would try it"], "function", "definition", "crate")
                 self.assert_named(row["in"], "crate")
 
 
