@@ -149,12 +149,12 @@ class Whole(PageTest):
 
 class OtherTables(PageTest):
     def test_figures(self):
-        shown = (naming.CRATES / "figures" / "stdout").read_text().splitlines()
+        shown = [line for crate in ("figures", "amounts") for line in (naming.CRATES / crate / "stdout").read_text().splitlines()]
         starred = (naming.CRATES / "rules" / "specs" / "Figures.antt").read_text().split("\nstarred =")[1]
         cases = []
         for row in rows_of("G"):
             with self.subTest(number(row)):
-                case, lines = row["case of the list"], naming.names(row["line of `figures`"])
+                case, lines = row["case of the list"], naming.names(row["line of `figures` or `amounts`"])
                 self.assertEqual(case != "—", "** * " in row["figure"])
                 cases += [case] if case != "—" else []
                 self.assertTrue(lines)
