@@ -2,11 +2,13 @@
 those that exist. Run from the project's root:   python3 -m unittest tests/test_promises.py"""
 
 import re
+import sys
 import unittest
 from pathlib import Path
 
-ROOT = Path(__file__).resolve().parent.parent
-CRATES = ROOT / "crates"
+sys.path.insert(0, str(Path(__file__).resolve().parent))
+from naming import CRATES, ROOT, edits, sections  # noqa: E402
+
 PROMISES = (ROOT / "docs" / "PROMISES.md").read_text()
 
 # Crates whose functions are no promise to anybody: laws only (a crate must hold a function), and what test programs print with.
@@ -42,10 +44,10 @@ class Promises(unittest.TestCase):
         self.assertGreater(len(public_functions()), 50)
 
     def test_every_public_function_has_its_row(self):
-        sections = dict(re.findall(r"^## (.*?)\n(.*?)(?=^## |\Z)", PROMISES, re.M | re.S))
+        parts = sections(PROMISES)
         for crate, module, name in public_functions():
             with self.subTest(crate=crate, function=name):
-                rows = "".join(text for title, text in sections.items() if f"`{crate}`" in title)
+                rows = "".join(text for title, text in parts.items() if f"`{crate}`" in title)
                 self.assertRegex(rows, rf"(?m)^\| .*\b{name}`")
 
     def test_every_public_function_is_determined(self):
@@ -61,16 +63,16 @@ class Promises(unittest.TestCase):
                 self.assertRegex(laws, rf"(?m)^pub one-\S+ :(?:.|\n    )*\({re.escape(alias.group(1))}\.Post ")
 
     def test_every_edit_is_named(self):
-        for edit in sorted(CRATES.glob("*/must-fail/*.edit")):
-            with self.subTest(edit=str(edit.relative_to(ROOT))):
-                self.assertIn(f"`{edit.stem}`", PROMISES)
+        for edit in sorted(edits()):
+            with self.subTest(edit=edit):
+                self.assertIn(f"`{edit.split('/')[1]}`", PROMISES)
 
     def test_every_edit_named_exists(self):
         tables = [line.split("|")[-2] for line in PROMISES.splitlines() if line.startswith("| ")]
-        edits = {edit.stem for edit in CRATES.glob("*/must-fail/*.edit")}
+        there = {edit.split("/")[1] for edit in edits()}
         for name in re.findall(r"`(\w+)`", "".join(tables)):
             with self.subTest(edit=name):
-                self.assertIn(name, edits)
+                self.assertIn(name, there)
 
 
 if __name__ == "__main__":

@@ -1,0 +1,102 @@
+"""What the pages of docs/ name, looked up in the code: functions and their proof files, definitions, laws, must-fail edits; and a page's
+tables as rows of cells. For the tests that hold the pages to the code."""
+
+import re
+from pathlib import Path
+
+ROOT = Path(__file__).resolve().parent.parent
+CRATES = ROOT / "crates"
+
+# A definition as specs/ has it: its name stands after these words.
+DEFINED = r"^ *(?:(?:abbrev|unfoldable) pub|pub record|pub data) "
+
+
+# ---- pages
+
+def sections(page):
+    """The page's parts under `## `, by their titles."""
+    return dict(re.findall(r"^## (.*?)\n(.*?)(?=^## |\Z)", page, re.M | re.S))
+
+
+def rows(text):
+    """Every row of the tables in a text, as {column: cell}. A bar in a cell is written `\\|`."""
+    found, columns = [], None
+    for line in text.splitlines():
+        if not line.startswith("|"):
+            columns = None
+            continue
+        cells = [cell.strip() for cell in re.split(r"(?<!\\)\|", line)[1:-1]]
+        if columns is None:
+            columns = cells
+        elif set(line) - set("|-"):
+            assert len(cells) == len(columns), line
+            found.append(dict(zip(columns, cells)))
+    return found
+
+
+def names(cell):
+    """What stands in backticks."""
+    return re.findall(r"`([^`]+)`", cell)
+
+
+# ---- code
+
+def source_of(path):
+    """The text of the file that `crate::module::function`, `crate::function` or `crate::module::Type::method` says."""
+    crate, *between = path.split("::")[:-1] or [""]
+    files = [f"{between[0]}.rt"] if between and between[0].islower() else ["lib.rt", "main.rt"]
+    return next((file.read_text() for file in (CRATES / crate / "src" / name for name in files) if file.exists()), "")
+
+
+def function(path):
+    """A function's own text, or None where there is no such function."""
+    text, indent = source_of(path), ""
+    *_, holder, name = ["", *path.split("::")]
+    if holder[:1].isupper():
+        impl = re.search(rf"^impl {holder} \{{\n.*?^\}}$", text, re.M | re.S)
+        text, indent = (impl.group() if impl else ""), "    "
+    found = re.search(rf'^{indent}(?:pub )?(?:extern "C" )?fn {re.escape(name)}\(.*?^{indent}\}}$', text, re.M | re.S)
+    return found.group() if found else None
+
+
+def declared_type(path):
+    """Whether `crate::Type` is a struct or an enum of that crate."""
+    return bool(re.search(rf"^pub (?:struct|enum) {re.escape(path.split('::')[-1])} ", source_of(path), re.M))
+
+
+def has_proof_file(path):
+    """Whether a function has a proof file at its own path; a recursive function's folder begins with `+`."""
+    crate, *between, name = path.split("::")
+    folder = CRATES.joinpath(crate, "proofs", *between)
+    return any((folder / own / "Proof.antt").exists() for own in (name, f"+{name}"))
+
+
+def edits():
+    """Every must-fail edit, as `crate/edit`."""
+    return {f"{edit.parent.parent.name}/{edit.stem}" for edit in CRATES.glob("*/must-fail/*.edit")}
+
+
+# ---- definitions and laws: `FILE.name` of `rules`, or `crate/FILE.name`
+
+def stated_in(name, folder):
+    """The text of the file that a name says, under specs/ or proofs/, and the last part of the name."""
+    crate, _, rest = name.rpartition("/")
+    file, _, last = rest.partition(".")
+    path = CRATES / (crate or "rules") / folder / f"{file}.antt"
+    return (path.read_text() if path.exists() else ""), last
+
+
+def definition(name):
+    text, last = stated_in(name, "specs")
+    return bool(last and re.search(rf"{DEFINED}{re.escape(last)}(?= )", text, re.M))
+
+
+def law(name):
+    text, last = stated_in(name, "proofs")
+    return bool(last and re.search(rf"^ *pub {re.escape(last)} :", text, re.M))
+
+
+def public_definitions(crate):
+    """Every public definition of a crate's specs/, as `FILE.name`; a record's fields are part of it."""
+    return {f"{file.stem}.{name}" for file in (CRATES / crate / "specs").glob("*.antt")
+            for name in re.findall(rf"{DEFINED}(\S+)", file.read_text(), re.M)}

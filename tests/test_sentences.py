@@ -1,0 +1,185 @@
+"""That docs/SENTENCES.md is true of the code: every definition, function, law, edit and check that it names is there and of the kind
+that its column says, every definition of document 01 and every edit at one has its sentence, and the list of sentences without an edit is
+whole. Run from the project's root:   python3 -m unittest tests/test_sentences.py"""
+
+import re
+import sys
+import unittest
+from pathlib import Path
+
+sys.path.insert(0, str(Path(__file__).resolve().parent))
+import naming  # noqa: E402
+
+PAGE = (naming.ROOT / "docs" / "SENTENCES.md").read_text()
+SECTIONS = naming.sections(PAGE)
+
+# Document 01's sections, and the demands that it cites, by the letter of their rows.
+LETTERS = {
+    "C": "What the first release covers", "U": "Units and ranges", "F": "The hour file", "S": "The sums", "T": "Text amounts",
+    "R": "Refusal numbers and their order", "P": "The printed statement", "G": "Figures to check by", "L": "Slips to catch",
+    "W": "How to write each place", "Q": "Strength of the promises", "D": "The three demands",
+}
+
+KINDS = {
+    "definition": naming.definition,
+    "type": naming.declared_type,
+    "function": naming.function,
+    "law": naming.law,
+    "edit": naming.edits().__contains__,
+    "crate": lambda name: (naming.CRATES / name / "src").is_dir(),
+    "path": lambda name: (naming.ROOT / name).is_file(),
+}
+
+
+def rows_of(letter):
+    return naming.rows(SECTIONS[LETTERS[letter]])
+
+
+def number(row):
+    """A row's own number: `F4`."""
+    return re.match(r"\*\*([A-Z]\d+)\*\* ", next(iter(row.values()))).group(1)
+
+
+def named_as(cell, kind):
+    """What a cell names of one kind."""
+    return [name for name in naming.names(cell) if KINDS[kind](name)]
+
+
+# The rows with the five columns that the page's opening explains, and those of them that a definition renders.
+SENTENCES = [row for letter in LETTERS for row in rows_of(letter) if "proved" in row]
+RENDERED = [row for row in SENTENCES if not row["definition"].startswith("nothing")]
+HELPERS = naming.rows(SECTIONS["Definitions that render no sentence"])
+WITHOUT_AN_EDIT = naming.rows(SECTIONS["Sentences without an edit"])
+
+
+class PageTest(unittest.TestCase):
+    def assert_named(self, cell, *kinds):
+        """Everything that a cell names is there, as one of these kinds."""
+        for name in naming.names(cell):
+            self.assertTrue(any(KINDS[kind](name) for kind in kinds), f"{name}: no {' or '.join(kinds)}")
+
+
+class Sentences(PageTest):
+    def test_rows_are_seen(self):
+        self.assertGreater(len(RENDERED), 120)
+
+    def test_rows_are_numbered(self):
+        for letter in LETTERS:
+            numbers = [number(row) for row in rows_of(letter)]
+            self.assertEqual(numbers, [f"{letter}{place}" for place in range(1, len(numbers) + 1)])
+
+    def test_numbers_cited_are_there(self):
+        numbers = {number(row) for letter in LETTERS for row in rows_of(letter)}
+        for cited in re.findall(r"(?<![`\w])[A-Z]\d+\b", PAGE):
+            with self.subTest(cited):
+                self.assertIn(cited, numbers)
+
+    def test_what_nothing_renders_has_its_reason(self):
+        for row in SENTENCES:
+            with self.subTest(number(row)):
+                if row not in RENDERED:
+                    self.assertRegex(row["definition"], r"^nothing[^:]*: \S")
+                    self.assertEqual([row["promised by"], row["proved"], row["edits"]], ["—"] * 3)
+                    self.assert_named(row["definition"], "definition", "function", "path")
+
+    def test_definitions(self):
+        for row in RENDERED:
+            with self.subTest(number(row)):
+                self.assertTrue(naming.names(row["definition"]))
+                self.assert_named(row["definition"], "definition", "type")
+
+    def test_promises(self):
+        for row in RENDERED:
+            with self.subTest(number(row)):
+                self.assertTrue(named_as(row["promised by"], "function") or named_as(row["promised by"], "law"))
+                self.assert_named(row["promised by"], "function", "law", "crate")
+
+    def test_proofs(self):
+        for row in RENDERED:
+            with self.subTest(number(row)):
+                functions, proved = named_as(row["promised by"], "function"), row["proved"]
+                own = proved.startswith("own file")
+                self.assertEqual(bool(functions), own or proved.startswith("prover alone"))
+                self.assertTrue(functions or naming.names(proved) or proved == "computed by the prover")
+                self.assert_named(proved, "law")
+                for name in functions:
+                    self.assertEqual(naming.has_proof_file(name), own, name)
+
+    def test_edits(self):
+        for row in RENDERED:
+            with self.subTest(number(row)):
+                self.assertNotEqual(bool(named_as(row["edits"], "edit")), row["edits"].startswith("none: "))
+                self.assert_named(row["edits"], "edit", "definition", "crate", "path")
+
+
+class Whole(PageTest):
+    def test_every_definition_has_its_place(self):
+        rendering = {name for row in RENDERED for name in naming.names(row["definition"])}
+        helping = {name for row in HELPERS for name in naming.names(row["definition"])}
+        public = naming.public_definitions("rules")
+        self.assertGreater(len(public), 150)
+        self.assertEqual(public - rendering - helping, set())
+        self.assertEqual(helping - public, set())
+        self.assertEqual(helping & rendering, set())
+
+    def test_every_edit_at_a_definition_is_named(self):
+        named = {name for row in RENDERED for name in naming.names(row["edits"])}
+        at_definitions = {edit for edit in naming.edits() if edit.startswith("rules/")}
+        self.assertTrue(at_definitions)
+        self.assertEqual(at_definitions - named, set())
+
+    def test_the_list_of_sentences_without_an_edit(self):
+        without = [number(row) for row in RENDERED if row["edits"].startswith("none: ")]
+        self.assertEqual([row["sentence"] for row in WITHOUT_AN_EDIT], without)
+
+    def test_definitions_to_read_twice(self):
+        twice = naming.rows(SECTIONS["Definitions to read twice"])
+        self.assertTrue(twice)
+        for row in twice:
+            with self.subTest(row["sentence"]):
+                self.assert_named(row["definition"], "definition")
+                self.assert_named(row["the code that then fails"], "function")
+
+    def test_what_that_list_proposes(self):
+        for row in WITHOUT_AN_EDIT:
+            with self.subTest(row["sentence"]):
+                self.assert_named(row["an edit that would try it"], "function", "definition", "crate")
+                self.assert_named(row["in"], "crate")
+
+
+class OtherTables(PageTest):
+    def test_figures(self):
+        shown = [line for crate in ("figures", "amounts") for line in (naming.CRATES / crate / "stdout").read_text().splitlines()]
+        starred = (naming.CRATES / "rules" / "specs" / "Figures.antt").read_text().split("\nstarred =")[1]
+        cases = []
+        for row in rows_of("G"):
+            with self.subTest(number(row)):
+                case, lines = row["case of the list"], naming.names(row["line of `figures` or `amounts`"])
+                self.assertEqual(case != "—", "** * " in row["figure"])
+                cases += [case] if case != "—" else []
+                self.assertTrue(lines)
+                for line in lines:
+                    self.assertIn(line, shown)
+        self.assertEqual(cases, [str(place + 1) for place in range(starred.count(") is "))])
+
+    def test_slips(self):
+        for row in rows_of("L"):
+            with self.subTest(number(row)):
+                for column, crates in (("edit at the definition", "rules/"), ("edit in the code", "(?!rules/)")):
+                    self.assertTrue(naming.names(row[column]))
+                    for name in naming.names(row[column]):
+                        self.assertTrue(KINDS["edit"](name) and re.match(crates, name), name)
+
+    def test_forms(self):
+        for row in rows_of("W"):
+            with self.subTest(number(row)):
+                self.assertEqual(row["where"] == "—", row["in the code"] == "—")
+                for name in naming.names(row["where"]):
+                    self.assertIn(row["in the code"].strip("`"), naming.function(name) or "")
+                for name in naming.names(row["form"]):
+                    if "." in name:
+                        self.assertTrue(naming.definition(name), name)
+
+
+if __name__ == "__main__":
+    unittest.main()
