@@ -45,6 +45,10 @@ fn main() {
     let deviations = argument(4, 250, 260);
     // one byte more than the longest file has, so that a longer input is seen
     let mut file = [0u8; 13313];
-    let length = io::read_full(STDIN_FILENO, &mut file);
+    let got = streams::read_all(STDIN_FILENO, b"standard input", &mut file);
+    if got < 0 {
+        return;
+    }
+    let length = io::count(got, &file);
     showing::show_with(&file[..length], charges, lines, shares, deviations);
 }
