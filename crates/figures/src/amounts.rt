@@ -1,23 +1,24 @@
 // Text amounts: the figure of document 01, written and read back, and minus zero.
-use crate::answers::print_answer;
-use libc::STDOUT_FILENO;
-use rules::Answer;
+use streams::print;
+use streams::print_answer;
+use streams::print_number;
+use streams::print_signed;
 
 fn print_field(field: &[u8]) {
-    io::write_all(STDOUT_FILENO, b"[");
-    io::write_all(STDOUT_FILENO, field);
-    io::write_all(STDOUT_FILENO, b"]");
+    print(b"[");
+    print(field);
+    print(b"]");
 }
 
 // The field as it is afterwards, so that what a refusal leaves alone shows.
 fn show_in(field: &mut [u8], cents: i64) {
     let answer = amount::write(cents, field);
-    showing::print_signed(cents);
-    io::write_all(STDOUT_FILENO, b" in ");
-    io::print_decimal(STDOUT_FILENO, field.len() as u64);
-    io::write_all(STDOUT_FILENO, b" columns: ");
+    print_signed(cents);
+    print(b" in ");
+    print_number(field.len() as u64);
+    print(b" columns: ");
     print_field(field);
-    io::write_all(STDOUT_FILENO, b" ");
+    print(b" ");
     print_answer(answer);
 }
 
@@ -34,9 +35,9 @@ pub fn show_written() {
 fn show_reading(field: &[u8]) {
     let reading = amount::read(field);
     print_field(field);
-    io::write_all(STDOUT_FILENO, b" read: ");
-    showing::print_signed(reading.amount);
-    io::write_all(STDOUT_FILENO, b" ");
+    print(b" read: ");
+    print_signed(reading.amount);
+    print(b" ");
     let answer = reading.answer;
     print_answer(answer);
 }

@@ -3,12 +3,9 @@ ghost use Rattle.rules.specs.Kept.{EntryKept};
 ghost use Rattle.formula.specs.Meant.{meant};
 use formula::deviation::deviation;
 use formula::entry::Entry;
-use libc::STDOUT_FILENO;
 use rules::Kind;
-
-fn print(text: &[u8]) {
-    io::write_all(STDOUT_FILENO, text);
-}
+use streams::print;
+use streams::print_signed;
 
 fn print_kind(kind: Kind) {
     match kind {
@@ -25,7 +22,7 @@ fn print_kind(kind: Kind) {
 fn print_letter(letter: &[u8], number: i64) {
     if number != 0 {
         print(letter);
-        showing::print_signed(number);
+        print_signed(number);
     }
 }
 
@@ -43,7 +40,7 @@ fn show(kind: Kind, s: i64, a: i64, j: i64, n: i64, o: i64, m: i64, f: i64, h: i
     print_letter(b" F ", f);
     print_letter(b" H ", h);
     print(b": ");
-    showing::print_signed(deviation(Entry {
+    print_signed(deviation(Entry {
         kind: kind,
         s: s,
         a: a,
@@ -73,9 +70,9 @@ fn show_ancillary(kind: Kind, s: i64, a: i64, j: i64, n: i64, o: i64, m: i64, f:
     show(kind, s, a, j, 0, o, m, f, h);
     show(kind, s, a, j, n, o, m, f, h);
     print(b"N ");
-    showing::print_signed(n);
+    print_signed(n);
     print(b" adds ");
-    showing::print_signed(added(Entry {
+    print_signed(added(Entry {
         kind: kind,
         s: s,
         a: a,

@@ -1,8 +1,9 @@
 // Hour files of the greatest length and one block more, and of the greatest price and one cent more, made here and settled.
 ghost use Prim.Native.Nat.{_≤_};
-use crate::answers::print_answer;
-use libc::STDOUT_FILENO;
 use rules::Answer;
+use streams::print;
+use streams::print_answer;
+use streams::print_number;
 
 // Past the end of the file nothing is put.
 fn put_byte(file: &mut [u8], at: usize, byte: u32) {
@@ -94,10 +95,10 @@ fn show(file: &mut [u8], blocks: usize, price: u32)
     requires { ⌜ (1 ≤ blocks) × (blocks ≤ 27) ⌝ }
 {
     put_file(file, blocks, price);
-    io::print_decimal(STDOUT_FILENO, file.len() as u64);
-    io::write_all(STDOUT_FILENO, b" bytes price ");
-    io::print_decimal(STDOUT_FILENO, price as u64);
-    io::write_all(STDOUT_FILENO, b": ");
+    print_number(file.len() as u64);
+    print(b" bytes price ");
+    print_number(price as u64);
+    print(b": ");
     print_answer(settled(file));
 }
 

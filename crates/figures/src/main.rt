@@ -2,7 +2,6 @@
 // functions that settle, write and read make of it. No answer stands here. The expected lines, in the file `stdout`, were worked by hand
 // from document 01.
 mod amounts;
-mod answers;
 mod charges;
 mod deviations;
 mod files;

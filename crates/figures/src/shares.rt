@@ -4,7 +4,8 @@ ghost use Prim.Native.Nat.{ℕ, _≤_, _<_};
 ghost use lib.IntN.{natAbs};
 ghost use lib.ListN.{length, getD};
 ghost use Rattle.figures.specs.Small.{Small};
-use libc::STDOUT_FILENO;
+use streams::print;
+use streams::print_signed;
 
 // Sizes, each with the sign of `u`.
 fn print_sizes(u: i64, sizes: &[u64])
@@ -12,8 +13,8 @@ fn print_sizes(u: i64, sizes: &[u64])
 {
     let mut i = 0;
     while i < sizes.len() {
-        io::write_all(STDOUT_FILENO, b" ");
-        showing::print_signed(sign::with_sign_of(u, sizes[i]));
+        print(b" ");
+        print_signed(sign::with_sign_of(u, sizes[i]));
         i += 1;
     }
 }
@@ -22,14 +23,14 @@ fn print_sizes(u: i64, sizes: &[u64])
 fn show_into(u: i64, demands: &[u64], sizes: &mut [u64])
     requires { ⌜ Small (now demands) × (length (now demands) ≤ 3) × (natAbs u ≤ 1000) × (length (now sizes) ≡ length (now demands)) ⌝ }
 {
-    io::write_all(STDOUT_FILENO, b"U ");
-    showing::print_signed(u);
-    io::write_all(STDOUT_FILENO, b" over D");
+    print(b"U ");
+    print_signed(u);
+    print(b" over D");
     print_sizes(0, demands);
     share::shares(demands, sign::size_of(u), sizes);
-    io::write_all(STDOUT_FILENO, b":");
+    print(b":");
     print_sizes(u, sizes);
-    io::write_all(STDOUT_FILENO, b"\n");
+    print(b"\n");
 }
 
 // This function only makes the room.

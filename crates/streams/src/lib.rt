@@ -1,8 +1,13 @@
-// What the programs read and print. What fails is said on standard error, since a program cannot set its exit status.
+// What the programs read and print, and numbers in what they are given. What fails is said on standard error, since a program cannot set its exit status.
+mod numbers;
+
+pub use numbers::Number;
+pub use numbers::number_in;
 ghost use lib.ListN.{length};
 ghost use Rattle.libc.specs.Io.{Moved};
 use libc::STDERR_FILENO;
 use libc::STDOUT_FILENO;
+use rules::Answer;
 
 // Reads what `name` names until it ends, which a read of no bytes tells, or `file` is full. It answers as `libc::read` does: -1 where a read
 // failed, else how many bytes it put at the start of `file`.
@@ -47,4 +52,17 @@ pub fn print_signed(number: i64) {
         print(b"-");
     }
     print_number(sign::size_of(number));
+}
+
+// `accepted`, or `refused` with the number and place of document 01's table, and the end of the line.
+pub fn print_answer(answer: Answer) {
+    if let Answer::Accepted = answer {
+        print(b"accepted\n");
+    } else {
+        print(b"refused ");
+        print_number(answer::number_of(answer));
+        print(b" at ");
+        print_number(answer::place_of(answer) as u64);
+        print(b"\n");
+    }
 }
