@@ -1,4 +1,4 @@
-"""Tests of the second program, of the maker of hours and of the comparison itself.
+"""Tests of the second program, of the makers of hours and amounts, and of the comparison itself.
 
     python3 -m unittest tests/test_second.py
 
@@ -598,7 +598,7 @@ class Noticing(unittest.TestCase):
 
 
 class Pages(unittest.TestCase):
-    """The examples and docs/FORMAT.md say what the programs do."""
+    """The examples, docs/FORMAT.md and the stored files say what the programs do."""
 
     @staticmethod
     def printed(number):
@@ -640,6 +640,13 @@ class Pages(unittest.TestCase):
             at = int(place, 16)
             data[at:at + 16] = bytes.fromhex(line)
         self.assertEqual(bytes(data), (ROOT / "examples" / "printed.hour").read_bytes())
+
+    def test_stored_files(self):
+        """What the gate's programs are run on, and must print, is what the second program says of it."""
+        check = subprocess.run([sys.executable, HERE / "make_stored.py", "--check"], capture_output=True, text=True)
+        self.assertEqual(check.returncode, 0, check.stdout + check.stderr)
+        crate = ROOT / "crates" / "amounts"
+        self.assertEqual(second.amounts((crate / "stdin").read_bytes()), (crate / "stdout").read_bytes())
 
     def test_text_amounts_of_the_format(self):
         page = (ROOT / "docs" / "FORMAT.md").read_text().replace("\u2212", "-")

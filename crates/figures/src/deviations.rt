@@ -19,38 +19,33 @@ fn print_kind(kind: Kind) {
 }
 
 // A letter and its number; a number that is 0 is left out, as document 01 does.
-fn print_letter(letter: &[u8], number: i64) {
+fn print_letter(letter: u8, number: i64) {
     if number != 0 {
-        print(letter);
+        print(&[b' ', letter, b' ']);
         print_signed(number);
     }
 }
 
-// A record's kind, its numbers in the order of the hour file, and its deviation.
-fn show(kind: Kind, s: i64, a: i64, j: i64, n: i64, o: i64, m: i64, f: i64, h: i64)
-    requires { ⌜ EntryKept (record { kind = kind; S = s; A = a; J = j; N = n; O = o; M = m; F = f; H = h }) ⌝ }
-{
+// A record's kind, and its numbers in the order of the hour file.
+fn print_entry(r: Entry) {
+    let kind = r.kind;
     print_kind(kind);
-    print_letter(b" S ", s);
-    print_letter(b" A ", a);
-    print_letter(b" J ", j);
-    print_letter(b" N ", n);
-    print_letter(b" O ", o);
-    print_letter(b" M ", m);
-    print_letter(b" F ", f);
-    print_letter(b" H ", h);
+    print_letter(b'S', r.s);
+    print_letter(b'A', r.a);
+    print_letter(b'J', r.j);
+    print_letter(b'N', r.n);
+    print_letter(b'O', r.o);
+    print_letter(b'M', r.m);
+    print_letter(b'F', r.f);
+    print_letter(b'H', r.h);
+}
+
+fn show_entry(r: Entry)
+    requires { ⌜ EntryKept (meant r) ⌝ }
+{
+    print_entry(r);
     print(b": ");
-    print_signed(deviation(Entry {
-        kind: kind,
-        s: s,
-        a: a,
-        j: j,
-        n: n,
-        o: o,
-        m: m,
-        f: f,
-        h: h,
-    }));
+    print_signed(deviation(r));
     print(b"\n");
 }
 
@@ -63,16 +58,29 @@ fn added(r: Entry) -> i64
     deviation(r) - deviation(without)
 }
 
-// A record without N and with it, and how much N adds.
-fn show_ancillary(kind: Kind, s: i64, a: i64, j: i64, n: i64, o: i64, m: i64, f: i64, h: i64)
-    requires { ⌜ EntryKept (record { kind = kind; S = s; A = a; J = j; N = n; O = o; M = m; F = f; H = h }) ⌝ }
-{
-    show(kind, s, a, j, 0, o, m, f, h);
-    show(kind, s, a, j, n, o, m, f, h);
+fn print_added(n: i64, more: i64) {
     print(b"N ");
     print_signed(n);
     print(b" adds ");
-    print_signed(added(Entry {
+    print_signed(more);
+    print(b"\n");
+}
+
+// A record without N and with it, and how much N adds.
+fn show_entry_ancillary(r: Entry)
+    requires { ⌜ EntryKept (meant r) ⌝ }
+{
+    let mut without = r;
+    without.n = 0;
+    show_entry(without);
+    show_entry(r);
+    print_added(r.n, added(r));
+}
+
+fn show(kind: Kind, s: i64, a: i64, j: i64, n: i64, o: i64, m: i64, f: i64, h: i64)
+    requires { ⌜ EntryKept (record { kind = kind; S = s; A = a; J = j; N = n; O = o; M = m; F = f; H = h }) ⌝ }
+{
+    show_entry(Entry {
         kind: kind,
         s: s,
         a: a,
@@ -82,8 +90,23 @@ fn show_ancillary(kind: Kind, s: i64, a: i64, j: i64, n: i64, o: i64, m: i64, f:
         m: m,
         f: f,
         h: h,
-    }));
-    print(b"\n");
+    });
+}
+
+fn show_ancillary(kind: Kind, s: i64, a: i64, j: i64, n: i64, o: i64, m: i64, f: i64, h: i64)
+    requires { ⌜ EntryKept (record { kind = kind; S = s; A = a; J = j; N = n; O = o; M = m; F = f; H = h }) ⌝ }
+{
+    show_entry_ancillary(Entry {
+        kind: kind,
+        s: s,
+        a: a,
+        j: j,
+        n: n,
+        o: o,
+        m: m,
+        f: f,
+        h: h,
+    });
 }
 
 // N 30 adds 10,000×N, not H×N, and J doesn't change that. Where O is 600, N also makes less of it unavailable, until nothing is.

@@ -1,7 +1,6 @@
 // Shows the figures that document 01 gives to check by, and more that try the same rules, a line a figure: what goes in, and what the
-// functions that settle, write and read make of it. No answer stands here. The expected lines, in the file `stdout`, were worked by hand
-// from document 01.
-mod amounts;
+// functions that settle make of it. No answer stands here. The expected lines, in the file `stdout`, were worked by hand from document 01.
+// The program `amounts` shows the figures on text amounts.
 mod charges;
 mod deviations;
 mod files;
@@ -14,8 +13,6 @@ fn main() {
     deviations::show_exports();
     shares::show_shares();
     charges::show_charges();
-    amounts::show_written();
-    amounts::show_read();
     files::show_lengths();
     files::show_prices();
 }
