@@ -1,4 +1,4 @@
-"""What the built programs and ./settle do when they cannot read or write.
+"""What the built programs and ./settle do when they cannot read or write, and document 01's figures on lengths and prices.
 
     python3 -m unittest tests/test_programs.py       # programs from target/bin
 
@@ -17,6 +17,7 @@ HERE = Path(__file__).resolve().parent
 ROOT = HERE.parent
 PRINTED = ROOT / "examples" / "printed.hour"
 sys.path.insert(0, str(HERE))
+import hours  # noqa: E402
 import programs  # noqa: E402
 
 READING_STANDARD_INPUT = ("statement", "buffers", "short_buffers", "amounts")
@@ -80,6 +81,24 @@ class CannotWrite(unittest.TestCase):
             with self.subTest(name), opened(data) as (stdin,):
                 self.assertEqual(ended([*programs.command(name), *words], stdin, closing=1),
                                  (0, "", "standard output: Bad file descriptor\n"))
+
+
+class LengthsAndPrices(unittest.TestCase):
+    """Document 01, "Figures to check by": the last of them, settled by the program that people run."""
+
+    def statement(self, price, records):
+        """What is printed of an hour of one member and so many loads that are all zero, and the hour's length."""
+        loads = [hours.record(hours.REAL_TIME_LOAD, 0, 0)] * records
+        data = hours.Hour(7, 1, [price], [[0, 0, 0]], loads).encode()
+        return len(data), programs.run(programs.command("statement"), data).decode()
+
+    def test_lengths(self):
+        self.assertEqual(self.statement(5_000, 250), (13_312, "hour 7 members 1 records 250\n00          +0.00\n"))
+        self.assertEqual(self.statement(5_000, 260), (13_824, "refused 1 at 0\n"))
+
+    def test_prices(self):
+        self.assertEqual(self.statement(1_000_000, 0), (512, "hour 7 members 1 records 0\n00          +0.00\n"))
+        self.assertEqual(self.statement(1_000_001, 0), (512, "refused 4 at 12\n"))
 
 
 class Settle(unittest.TestCase):

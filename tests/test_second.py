@@ -643,7 +643,7 @@ class Pages(unittest.TestCase):
 
     def test_stored_files(self):
         """What the gate's programs are run on, and must print, is what the second program says of it."""
-        check = subprocess.run([sys.executable, HERE / "make_stored.py", "--check"], capture_output=True, text=True)
+        check = subprocess.run([sys.executable, HERE / "make_examined.py", "--check"], capture_output=True, text=True)
         self.assertEqual(check.returncode, 0, check.stdout + check.stderr)
         crate = ROOT / "crates" / "amounts"
         self.assertEqual(second.amounts((crate / "stdin").read_bytes()), (crate / "stdout").read_bytes())

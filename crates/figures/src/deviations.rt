@@ -7,17 +7,6 @@ use rules::Kind;
 use streams::print;
 use streams::print_signed;
 
-fn print_kind(kind: Kind) {
-    match kind {
-        Kind::Generator => print(b"generator"),
-        Kind::RealTimeLoad => print(b"load"),
-        Kind::ProfileLoad => print(b"profile load"),
-        Kind::Import => print(b"import"),
-        Kind::Export => print(b"export"),
-        Kind::Unknown => print(b"unknown"),
-    }
-}
-
 // A letter and its number; a number that is 0 is left out, as document 01 does.
 fn print_letter(letter: u8, number: i64) {
     if number != 0 {
@@ -26,10 +15,8 @@ fn print_letter(letter: u8, number: i64) {
     }
 }
 
-// A record's kind, and its numbers in the order of the hour file.
+// A record's numbers, in the order of the hour file.
 fn print_entry(r: Entry) {
-    let kind = r.kind;
-    print_kind(kind);
     print_letter(b'S', r.s);
     print_letter(b'A', r.a);
     print_letter(b'J', r.j);
@@ -111,6 +98,7 @@ fn show_ancillary(kind: Kind, s: i64, a: i64, j: i64, n: i64, o: i64, m: i64, f:
 
 // N 30 adds 10,000×N, not H×N, and J doesn't change that. Where O is 600, N also makes less of it unavailable, until nothing is.
 pub fn show_generators() {
+    print(b"generators\n");
     // S, A, J, N, O, M, F, H
     show_ancillary(Kind::Generator, 1000, 900, 0, 30, 0, 2000, 9800, 9800);
     show_ancillary(Kind::Generator, 1000, 900, 50, 30, 0, 2000, 9800, 9800);
@@ -122,22 +110,29 @@ pub fn show_generators() {
 
 // O 400 is below A: nothing is unavailable.
 pub fn show_loads() {
+    print(b"loads\n");
     show(Kind::RealTimeLoad, 500, 450, 0, 0, 0, 0, 0, 0);
     show(Kind::RealTimeLoad, 500, 450, 0, 30, 500, 0, 0, 0);
     show(Kind::RealTimeLoad, 500, 450, 0, 30, 0, 0, 0, 0);
     show(Kind::RealTimeLoad, 500, 450, 0, 0, 500, 0, 0, 0);
     show(Kind::RealTimeLoad, 500, 450, 0, 0, 400, 0, 0, 0);
+}
+
+pub fn show_profile_loads() {
+    print(b"profile loads\n");
     show(Kind::ProfileLoad, 500, 450, -20, 0, 0, 0, 0, 0);
 }
 
 // N 20 adds 10,000×N, not H×N.
 pub fn show_imports() {
+    print(b"imports\n");
     show(Kind::Import, 300, 300, 0, 0, 0, 0, 10000, 9000);
     show_ancillary(Kind::Import, 300, 300, 50, 20, 0, 0, 10000, 9000);
     show(Kind::Import, 300, 300, -50, 0, 0, 0, 10000, 9000);
 }
 
 pub fn show_exports() {
+    print(b"exports\n");
     show(Kind::Export, 200, 180, 0, 0, 0, 0, 0, 0);
     show(Kind::Export, 200, 180, 30, 0, 0, 0, 0, 0);
     show(Kind::Export, 200, 180, -30, 0, 0, 0, 0, 0);

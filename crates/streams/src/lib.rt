@@ -1,4 +1,5 @@
-// What the programs read and print, and numbers in what they are given. What fails is said on standard error, since a program cannot set its exit status.
+// What the programs read and print, and numbers in what they are given. What fails is said on standard error: a program cannot set its
+// exit status.
 mod numbers;
 
 pub use numbers::Number;

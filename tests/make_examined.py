@@ -1,8 +1,8 @@
 #!/usr/bin/env python3
-"""Makes the stored hour files that the programs `examined` and `figures` are run on in the gate, and what `examined` must print.
+"""Makes the stored hour files that the program `examined` is run on in the gate, and what it must print.
 
-    python3 tests/make_stored.py           writes crates/examined/data/*, args and stdout, and crates/figures/stdin
-    python3 tests/make_stored.py --check   says whether what is stored is what this makes
+    python3 tests/make_examined.py           writes crates/examined/data/*, args and stdout
+    python3 tests/make_examined.py --check   says whether what is stored is what this makes
 
 Every case names the number and place that document 01's table gives it; nothing is written unless the
 second program agrees. Nothing here is left to chance, so that the files come out the same each time.
@@ -15,10 +15,10 @@ sys.dont_write_bytecode = True  # a run leaves nothing behind in the repository
 import hours  # noqa: E402
 import second  # noqa: E402
 
-CRATES = Path(__file__).resolve().parent.parent / "crates"
+CRATE = Path(__file__).resolve().parent.parent / "crates" / "examined"
 
 
-# ---- What `examined` examines: hours that keep every rule
+# ---- Hours that keep every rule
 
 def value(letter, place):
     """A letter's least, greatest or middle value, by turns."""
@@ -42,7 +42,7 @@ def five_blocks():
     return hour_of(35).blocks()
 
 
-# ---- What is damaged in them
+# ---- What is damaged
 
 def changed(blocks, *changes):
     """The blocks with these words changed, given as block, word, value; the sums mended."""
@@ -124,25 +124,10 @@ def cases():
     yield "first-of-two-records", 5, 20, words(five_blocks(), (*field(33, 0), 0), (*field(20, 11), 1))
 
 
-# ---- What `figures` settles: document 01's figures on lengths and prices
-
-def plain_hour(price, count):
-    """A member, a zone, an area and so many loads that are all zero."""
-    return hours.Hour(0, 1, [price], [[0, 0, 0]], [hours.record(hours.REAL_TIME_LOAD, 0, 0)] * count).encode()
-
-
-def figure_files():
-    """Number, place and bytes of each file, in the order in which the program reads them."""
-    yield 0, 0, plain_hour(5_000, 250)
-    yield 1, 0, plain_hour(5_000, 260)
-    yield 0, 0, plain_hour(1_000_000, 0)
-    yield 4, 12, plain_hour(1_000_001, 0)
-
-
 # ---- Storing
 
 def answer(data):
-    """The second program's number and place, rows 1 to 5."""
+    """The second program's number and place."""
     try:
         second.read_hour(data)
     except second.Refused as refused:
@@ -150,41 +135,33 @@ def answer(data):
     return 0, 0
 
 
-def agreed(name, due, got):
-    if due != got:
-        sys.exit(f"{name}: {due[0]} at {due[1]} is expected, and the second program answers {got[0]} at {got[1]}")
-
-
 def stored():
-    """What belongs into the crates: path and content."""
-    made, lines, settled = {}, [], b""
+    """What belongs into the crate: path and content."""
+    made, lines = {}, []
     for name, number, place, data in cases():
-        agreed(name, (number, place), answer(data))
-        made[f"examined/data/{name}"] = data
+        if answer(data) != (number, place):
+            sys.exit(f"{name}: {number} at {place} is expected, and the second program answers {answer(data)}")
+        made[f"data/{name}"] = data
         lines.append(f"{name} {number} {place}\n")
-    for number, place, data in figure_files():
-        agreed(f"{len(data)} bytes", (number, place), second.settle(data)[:2])
-        settled += data
-    made["examined/args"] = "".join(line.split()[0] + "\n" for line in lines).encode()
-    made["examined/stdout"] = "".join(lines).encode()
-    made["figures/stdin"] = settled
+    made["args"] = "".join(line.split()[0] + "\n" for line in lines).encode()
+    made["stdout"] = "".join(lines).encode()
     return made
 
 
 def main():
     made = stored()
-    there = {path: (CRATES / path).read_bytes() for path in made if (CRATES / path).is_file()}
-    odd = [path for path in sorted(CRATES.glob("examined/data/*")) if f"examined/data/{path.name}" not in made]
+    there = {path: (CRATE / path).read_bytes() for path in made if (CRATE / path).is_file()}
+    odd = [path for path in sorted(CRATE.glob("data/*")) if f"data/{path.name}" not in made]
     if sys.argv[1:] == ["--check"]:
         wrong = [path for path in made if there.get(path) != made[path]] + [str(path) for path in odd]
-        print("\n".join(f"{path} is not what this makes" for path in wrong) or f"{len(made)} files are what this makes")
+        print("\n".join(f"{path} is not what this makes" for path in wrong) or f"{len(made) - 2} files are what this makes")
         return 1 if wrong else 0
     for path in odd:
         path.unlink()
+    (CRATE / "data").mkdir(parents=True, exist_ok=True)
     for path, content in made.items():
-        (CRATES / path).parent.mkdir(parents=True, exist_ok=True)
-        (CRATES / path).write_bytes(content)
-    print(f"{len(made)} files written")
+        (CRATE / path).write_bytes(content)
+    print(f"{len(made) - 2} files written")
     return 0
 
 
