@@ -1,8 +1,9 @@
 #!/usr/bin/env python3
-"""The second program: settles an hour as documents 01 and 003 say, apart from the proved programs.
+"""The second program: settles an hour, writes and reads amounts as documents 01 and 003 say, apart from the proved programs.
 
     python3 tests/second.py statement < hour
     python3 tests/second.py buffers [C [L [S [D]]]] < hour
+    python3 tests/second.py amounts < cases
 
 It is the other opinion that the proved programs are compared with, so it takes nothing from them. It
 works in another way too: energy in kWh and multipliers as exact fractions, as document 003 writes its
@@ -359,7 +360,7 @@ def read_amount(field):
     return 0, -size if sign == b"-" else size
 
 
-# ---- What the two programs print
+# ---- What the programs print
 
 def statement(data):
     """Document 01, "The printed statement"."""
@@ -388,6 +389,29 @@ def buffers(data, lengths=()):
             ["deviations", *answer.deviations],
             ["lines", *(f"{amount}:{records}" for amount, records in answer.lines)]]
     return "".join(" ".join(map(str, row)) + "\n" for row in rows).encode()
+
+
+def answered(number):
+    return b"refused %d at 0" % number if number else b"accepted"
+
+
+def amount_case(field, cents):
+    """A field read, and an amount written over it, as program `amounts` prints them."""
+    number, amount = read_amount(field)
+    text = b"[%s] read: %d %s\n" % (field, amount, answered(number))
+    number, written = write_amount(cents, len(field))
+    afterwards = field if number else written
+    return text + b"%d in %d columns: [%s] %s\n" % (cents, len(field), afterwards, answered(number))
+
+
+def amounts(data):
+    """Case after case: the field's width, the cents, each with a blank after it, the field, and a line feed."""
+    text = []
+    while data:
+        width, cents, rest = data.split(b" ", 2)
+        text.append(amount_case(rest[:int(width)], int(cents)))
+        data = rest[int(width) + 1:]
+    return b"".join(text)
 
 
 # ---- The unrounded amounts that demand 3 speaks of (document 003, D 2.1 and D 2.2)
@@ -426,12 +450,14 @@ def pool_total(hour, ufe):
     return total
 
 
+PRINTED = {"statement": statement, "buffers": buffers, "amounts": amounts}
+
+
 def main(name="", *lengths):
-    if len(lengths) > {"statement": 0, "buffers": 4}.get(name, -1):
+    if len(lengths) > {"statement": 0, "buffers": 4, "amounts": 0}.get(name, -1):
         sys.exit(__doc__)
-    data = sys.stdin.buffer.read()
-    text = statement(data) if name == "statement" else buffers(data, [int(length) for length in lengths])
-    sys.stdout.buffer.write(text)
+    words = [[int(length) for length in lengths]] if lengths else []
+    sys.stdout.buffer.write(PRINTED[name](sys.stdin.buffer.read(), *words))
 
 
 if __name__ == "__main__":

@@ -11,8 +11,8 @@ from naming import CRATES, ROOT, edits, sections  # noqa: E402
 
 PROMISES = (ROOT / "docs" / "PROMISES.md").read_text()
 
-# Crates whose functions are no promise to anybody: laws only (a crate must hold a function), and what test programs print with.
-WITHOUT_PROMISES = {"whole", "rules", "determined", "showing"}
+# Crates whose functions are no promise to anybody: laws only (a crate must hold a function), and what programs read and print with.
+WITHOUT_PROMISES = {"whole", "rules", "determined", "streams", "showing"}
 
 # Functions whose contract no crate reads: the law states its equation itself.
 READ_BY_C_ALONE = {"sneupelaar_settle"}

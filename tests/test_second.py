@@ -1,4 +1,4 @@
-"""Tests of the second program, of the maker of hours and of the comparison itself.
+"""Tests of the second program, of the makers of hours and amounts, and of the comparison itself.
 
     python3 -m unittest tests/test_second.py
 
@@ -25,7 +25,9 @@ from unittest import mock
 HERE = Path(__file__).resolve().parent
 ROOT = HERE.parent
 sys.path.insert(0, str(HERE))
+import fields  # noqa: E402
 import hours  # noqa: E402
+import programs  # noqa: E402
 import second  # noqa: E402
 from hours import EXPORT, GENERATOR, IMPORT, PROFILE_LOAD, REAL_TIME_LOAD, Hour, record  # noqa: E402
 
@@ -388,7 +390,7 @@ class MadeHours(unittest.TestCase):
 
 # Wrong programs: each is the second program with one text changed. Document 01's "Slips to catch" come
 # first; the hours must show every one.
-SLIPS = {
+HOUR_SLIPS = {
     "ancillary energy times H": (
         'multiplier(r["H"]) - r["N"]', 'multiplier(r["H"]) - r["N"] * multiplier(r["H"])'),
     "adjustment outside the multiplier": (
@@ -430,10 +432,38 @@ for name, (low, high) in ENDS.items():
     line = next(line for line in SECOND.splitlines() if line.startswith(f"{name} = "))
     for down, up in STEPS:
         if low != 0 or down >= 0:  # no word is below 0
-            SLIPS[f"{name} {down:+} {up:+}"] = (line + "\n", f"{name} = range({low + down}, {high + up + 1})\n")
+            HOUR_SLIPS[f"{name} {down:+} {up:+}"] = (line + "\n", f"{name} = range({low + down}, {high + up + 1})\n")
 for most in (32, 4, 8):
     for down, up in STEPS:
-        SLIPS[f"1 to {most} {down:+} {up:+}"] = (f"range(1, {most + 1})", f"range({1 + down}, {most + up + 1})")
+        HOUR_SLIPS[f"1 to {most} {down:+} {up:+}"] = (f"range(1, {most + 1})", f"range({1 + down}, {most + up + 1})")
+
+# What document 01 says of text amounts, each broken; the made amounts must show every one.
+AMOUNT_SLIPS = {
+    "cut off from the left": ("        return 9, None\n", "        return 0, text[len(text) - width:]\n"),
+    "one cent too many written": ("abs(amount) > MOST_CENTS", "abs(amount) > MOST_CENTS + 1"),
+    "the last amount refused": ("abs(amount) > MOST_CENTS", "abs(amount) > MOST_CENTS - 1"),
+    "too narrow before out of range": ("        return 8, None\n", "        return 8 if width > 14 else 9, None\n"),
+    "a blank too many asked for": ("if width < len(text)", "if width <= len(text)"),
+    "zero with a minus": ('b"-" if amount < 0', 'b"-" if amount <= 0'),
+    "one digit of cents": (".%02d\" % (b", ".%d\" % (b"),
+    "blanks after the text": ("text.rjust(", "text.ljust("),
+    "zeros for blanks": ('rjust(width, b" ")', 'rjust(width, b"0")'),
+    "a refused field blanked": ("field if number else written", 'b" " * len(field) if number else written'),
+    "minus zero is read": ('sign == b"-" and size == 0', "False"),
+    "amount of a refused reading": ("        return 10, 0\n    return 0,", "        return 10, 1\n    return 0,"),
+    "a sign may be missing": ("([+-])", "([+-]?)"),
+    "leading zeros are read": ("0|[1-9][0-9]{0,9}", "[0-9]{1,10}"),
+    "eleven dollar digits are read": ("{0,9}", "{0,10}"),
+    "ten dollar digits are not read": ("{0,9}", "{0,8}"),
+    "one digit of cents is read": ("([0-9]{2})", "([0-9]{1,2})"),
+    "a comma is read": (r"\.([0-9]{2})", "[.,]([0-9]{2})"),
+    "a tab before the sign is read": ('rb" *(', r'rb"[ \t]*('),
+    "a blank after the sign is read": ("([+-])(", "([+-]) *("),
+    "anything after the cents is read": ("fullmatch", "match"),
+    "a line feed after the cents is read": ('{2})")', r'{2})\n?")'),
+    "plus read as minus": ('0, -size if sign == b"-"', '0, -size if sign == b"+"'),
+}
+SLIPS = {**HOUR_SLIPS, **AMOUNT_SLIPS}
 
 
 def slipped(name):
@@ -455,10 +485,10 @@ class Noticing(unittest.TestCase):
         return status, said.getvalue()
 
     @contextlib.contextmanager
-    def stand_ins(self, statement, buffers):
-        """A folder with programs `statement` and `buffers` that are these Python texts."""
+    def stand_ins(self, statement=SECOND, buffers=SECOND, amounts=SECOND):
+        """A folder with programs of these names that are these Python texts."""
         with tempfile.TemporaryDirectory() as folder:
-            for name, text in (("statement", statement), ("buffers", buffers)):
+            for name, text in (("statement", statement), ("buffers", buffers), ("amounts", amounts)):
                 program = Path(folder, name)
                 Path(folder, name + ".py").write_text(text)
                 program.write_text(f'#!/bin/sh\nexec "{sys.executable}" "$0.py" {name} "$@"\n')
@@ -466,16 +496,18 @@ class Noticing(unittest.TestCase):
             yield Path(folder)
 
     def test_right_programs(self):
-        with self.stand_ins(SECOND, SECOND) as folder:
-            status, said = self.run_compare("--hours", 30, "--programs", folder, "--save", folder / "saved")
+        with self.stand_ins() as folder:
+            status, said = self.run_compare("--hours", 30, "--amounts", 2_500, "--programs", folder,
+                                            "--save", folder / "saved")
             self.assertEqual((status, (folder / "saved").exists()), (0, False), said)
-            self.assertIn("every byte agreed", said)
+            self.assertIn("30 hours of seed 1 against the second program: every byte agreed", said)
+            self.assertIn("2500 amounts of seed 1 against the second program: every byte agreed", said)
             self.assertNotIn("passed", said)
 
     def test_a_wrong_program(self):
         wrong = slipped("loads added")
-        for programs in ((wrong, SECOND), (SECOND, wrong)):
-            with self.stand_ins(*programs) as folder:
+        for texts in ((wrong, SECOND), (SECOND, wrong)):
+            with self.stand_ins(*texts) as folder:
                 status, said = self.run_compare("--hours", 30, "--programs", folder, "--save", folder / "saved")
                 self.assertEqual(status, 1, said)
                 self.assertIn("---- second program wrote:", said)
@@ -484,11 +516,23 @@ class Noticing(unittest.TestCase):
                 data = saved[0].read_bytes()
                 self.assertEqual(data, hours.made(1, int(saved[0].stem.split("-")[-1])).data)
 
+    def test_a_program_that_writes_amounts_wrong(self):
+        for name in ("minus zero is read", "cut off from the left"):
+            with self.stand_ins(amounts=slipped(name)) as folder:
+                status, said = self.run_compare("--amounts", 1_500, "--programs", folder, "--save", folder / "saved")
+                self.assertEqual(status, 1, said)
+                saved = sorted((folder / "saved").iterdir())
+                self.assertTrue(saved)
+                case = fields.made(1, int(saved[0].stem.split("-")[-1]))
+                self.assertEqual(saved[0].read_bytes(), fields.encode(case))
+                self.assertIn(second.amounts(saved[0].read_bytes()).decode("latin-1"), said)
+
     def test_a_program_that_ends_badly(self):
         for ending in ("\n    sys.exit(3)\n", "\n    print('oh', file=sys.stderr)\n"):
-            with self.stand_ins(SECOND + ending, SECOND) as folder:
-                status, said = self.run_compare("--hours", 2, "--programs", folder, "--save", folder / "saved")
-                self.assertEqual(status, 1, said)
+            with self.stand_ins(statement=SECOND + ending, amounts=SECOND + ending) as folder:
+                for what in ("--hours", "--amounts"):
+                    status, said = self.run_compare(what, 2, "--programs", folder, "--save", folder / "saved")
+                    self.assertEqual(status, 1, said)
 
     def test_no_programs(self):
         with tempfile.TemporaryDirectory() as folder:
@@ -498,29 +542,39 @@ class Noticing(unittest.TestCase):
     def without_starting(command, data):
         """What a right program writes, for tests of many hours."""
         program, *lengths = command
-        return (second.statement(data) if program.name == "statement"
-                else second.buffers(data, [int(length) for length in lengths]))
+        return second.PRINTED[program.name](data, *([[int(length) for length in lengths]] if lengths else []))
 
     def test_every_refusal_that_can_occur_is_seen_in_500_hours(self):
-        with self.stand_ins("", "") as folder, mock.patch.object(compare, "run", self.without_starting):
+        with self.stand_ins() as folder, mock.patch.object(programs, "run", self.without_starting):
             for seed in range(2):
-                status, said = self.run_compare("--hours", 500, "--seed", seed, "--programs", folder)
+                status, said = self.run_compare("--hours", 500, "--amounts", 500, "--seed", seed, "--programs", folder)
                 self.assertEqual(status, 0, said)
 
     def test_it_says_if_a_refusal_never_occurred(self):
         only = [hours.honest(hours.few_records)]
-        with self.stand_ins("", "") as folder, mock.patch.object(compare, "run", self.without_starting), \
+        with self.stand_ins() as folder, mock.patch.object(programs, "run", self.without_starting), \
                 mock.patch.object(hours, "ROUND", only):
             status, said = self.run_compare("--hours", 500, "--programs", folder)
             self.assertEqual(status, 1)
-            self.assertIn("never answered in 500 hours: 1, 2, 3, 4, 5, 6\n", said)
+            self.assertIn("never answered in 500 hours: refused 1, refused 2, refused 3, refused 4, refused 5, refused 6\n", said)
+
+    @staticmethod
+    def wrong_program(name):
+        wrong = types.ModuleType("wrong")
+        exec(compile(slipped(name), name, "exec"), wrong.__dict__)
+        return wrong
+
+    def test_the_amounts_show_every_slip(self):
+        data = b"".join(fields.encode(fields.made(1, index)) for index in range(2_000))
+        for name in AMOUNT_SLIPS:
+            with self.subTest(name):
+                self.assertNotEqual(self.wrong_program(name).amounts(data), second.amounts(data))
 
     def test_the_hours_show_every_slip(self):
         cases = [compare.case_of(1, index) for index in range(500)]
         cases.sort(key=lambda case: len(case.hour.data))  # most slips show in small hours, which are quick
-        for name in SLIPS:
-            wrong = types.ModuleType("wrong")
-            exec(compile(slipped(name), name, "exec"), wrong.__dict__)
+        for name in HOUR_SLIPS:
+            wrong = self.wrong_program(name)
             with self.subTest(name):
                 self.assertTrue(any(wrong.statement(case.hour.data) != case.statement
                                     or wrong.buffers(case.hour.data, case.lengths) != case.buffers
@@ -532,19 +586,19 @@ class Noticing(unittest.TestCase):
             program = Path(folder, "statement")
             program.write_bytes(b"\x7fELF")
             with mock.patch("platform.machine", return_value="aarch64"):
-                emulator, loader, option, libraries = compare.words_before(program)
+                emulator, loader, option, libraries = programs.words_before(program)
             self.assertEqual((emulator.name, option), ("qemu-x86_64", "--library-path"))
             for path in (loader, libraries):
                 self.assertIn("aarch64", str(path))
             with mock.patch("platform.machine", return_value="x86_64"):
-                self.assertEqual(compare.words_before(program), [])
+                self.assertEqual(programs.words_before(program), [])
             program.write_text("#!/bin/sh\n")
             with mock.patch("platform.machine", return_value="aarch64"):
-                self.assertEqual(compare.words_before(program), [])
+                self.assertEqual(programs.words_before(program), [])
 
 
 class Pages(unittest.TestCase):
-    """The examples and docs/FORMAT.md say what the programs do."""
+    """The examples, docs/FORMAT.md and the stored files say what the programs do."""
 
     @staticmethod
     def printed(number):
@@ -586,6 +640,13 @@ class Pages(unittest.TestCase):
             at = int(place, 16)
             data[at:at + 16] = bytes.fromhex(line)
         self.assertEqual(bytes(data), (ROOT / "examples" / "printed.hour").read_bytes())
+
+    def test_stored_files(self):
+        """What the gate's programs are run on, and must print, is what the second program says of it."""
+        check = subprocess.run([sys.executable, HERE / "make_examined.py", "--check"], capture_output=True, text=True)
+        self.assertEqual(check.returncode, 0, check.stdout + check.stderr)
+        crate = ROOT / "crates" / "amounts"
+        self.assertEqual(second.amounts((crate / "stdin").read_bytes()), (crate / "stdout").read_bytes())
 
     def test_text_amounts_of_the_format(self):
         page = (ROOT / "docs" / "FORMAT.md").read_text().replace("\u2212", "-")

@@ -86,9 +86,15 @@ def close(s, i):
 
 SIGNATURES = {}
 def twin(crate, module, s, body_of):
-    s = '\n'.join(l for l in s.splitlines() if not l.startswith('ghost use') and not (re.match(r'use (\w+)::', l) and re.match(r'use (\w+)::', l).group(1) not in SOURCES and not l.startswith('use crate'))) + '\n'
+    s = '\n'.join(
+        l for l in s.splitlines()
+        if not l.startswith('ghost use')
+        and not (re.match(r'use (\w+)::', l) and re.match(r'use (\w+)::', l).group(1) not in SOURCES
+                 and not l.startswith('use crate'))) + '\n'
     for name, (home, size, _) in STRUCTS.items():
-        if home == crate: s = re.sub(rf'^(#\[repr\(C\)\]\n)?(pub )?struct {name}\s*\{{.*?\n\}}\n', f'pub type {name} = [i16; {size // 2}];\n', s, flags=re.S | re.M)
+        if home == crate:
+            s = re.sub(rf'^(#\[repr\(C\)\]\n)?(pub )?struct {name}\s*\{{.*?\n\}}\n', f'pub type {name} = [i16; {size // 2}];\n', s,
+                       flags=re.S | re.M)
     out, i = ['ghost use Prim.Native.Nat.{_≤_};\n'], 0
     for m in re.finditer(r'^ *(pub )?(extern "C" )?fn (\w+)', s, flags=re.M):
         if m.start() < i: continue
@@ -106,7 +112,8 @@ def twin(crate, module, s, body_of):
         name = (module + '/' if module else '') + m.group(3)
         if crate == CRATE: SIGNATURES[name] = signature
         result = re.search(r'->\s*(.*)$', signature, flags=re.S)
-        called = crate == CRATE or re.search(rf'\b{crate}::{name.replace("/", "::")}\(', MINE) and not (result and result.group(1).startswith('&'))
+        called = crate == CRATE or re.search(rf'\b{crate}::{name.replace("/", "::")}\(', MINE) and not (
+            result and result.group(1).startswith('&'))
         stub = '{\n    ' + (value(result.group(1), crate) or '' if result else '') + '\n}'
         if called: out.append(signature + clauses + '\n' + (s[b:i] if (crate, name) == (CRATE, body_of) else stub))
     s = ''.join(out + [s[i:]])
@@ -132,7 +139,8 @@ def renamings(shape, kit):
         (words(f"Array.arr-reads 𝓤 H A W {lent}"), f"{kit}.reads 𝓤 H A W"),
         (words(f"Array.pArr {lent}"), f"Value.pVal {kit}.valued {kit}.valued-laws"),
         (words(f"Array.rArr {lent}"), f"Value.rVal {kit}.valued {kit}.valued-laws"),
-        (words(f"Array'.array-lawful 𝓤 H A W (DenSigned.SInt Syntax.{w}) (DenSigned.sint-lawful 𝓤 H A W Syntax.{w}) {n}"), f"{kit}.lawful 𝓤 H A W"),
+        (words(f"Array'.array-lawful 𝓤 H A W (DenSigned.SInt Syntax.{w}) (DenSigned.sint-lawful 𝓤 H A W Syntax.{w}) {n}"),
+         f"{kit}.lawful 𝓤 H A W"),
         (words(f"Copies.cArr (DenSigned.SInt Syntax.{w}) (Copies.cSInt Syntax.{w}) {n}"), f"{kit}.cp"),
         (words(f"Init.room-arr 𝓤 H A W {elem} 0 {n} Path'.refl"), f"{kit}.room 𝓤 H A W"),
         (words(f"Whole.mem-arr 𝓤 H A W {elem}"), f"{kit}.mem 𝓤 H A W"),
@@ -146,7 +154,8 @@ def renamings(shape, kit):
 
 # the names under which the renamings look for a module of the logic, whatever the generated text calls it
 NAMES = {'denote.Array': "Array'", 'borrow.Kind.Array': 'Array', 'borrow.Rule.Array.Rows': 'Rows', 'borrow.Table.Rows': "Rows'",
-    'mathlib.Core.Path': "Path'", 'denote.Signed': 'DenSigned', 'mir.Syntax': 'Syntax', 'borrow.Table.Copies': 'Copies', 'borrow.Rule.Array.Whole': 'Whole',
+    'mathlib.Core.Path': "Path'", 'denote.Signed': 'DenSigned', 'mir.Syntax': 'Syntax', 'borrow.Table.Copies': 'Copies',
+    'borrow.Rule.Array.Whole': 'Whole',
     'borrow.Rule.Array.Init': 'Init', 'borrow.Kind.Value': 'Value', 'borrow.Rule.Yields': 'Yields'}
 USE = re.compile(r"use (\S+?)(?: as (\S+))?$")
 
@@ -160,7 +169,10 @@ def named(text):
             line = f'use {m.group(1)} as {new}'
         out.append(line)
     parts = re.split(r"(^use .*\n)", '\n'.join(out) + '\n', flags=re.M)
-    return ''.join(p if p.startswith('use ') else re.sub(r"(?<![\w'·.\-])([A-Z]\w*'*)\.(?=[\w\[_])", lambda m: other.get(m.group(1), m.group(1)) + '.', p) for p in parts)
+    return ''.join(
+        p if p.startswith('use ') else
+        re.sub(r"(?<![\w'·.\-])([A-Z]\w*'*)\.(?=[\w\[_])", lambda m: other.get(m.group(1), m.group(1)) + '.', p)
+        for p in parts)
 
 def past_end(m):
     """what stands past the end of a slice or an array"""
@@ -231,7 +243,8 @@ def first_proof(fn):
 def put_mods():
     for folder, subs, names in os.walk(os.path.join(PROOFS, 'Port')):
         kids = sorted(set([f[:-5] for f in names if f.endswith('.antt')] + subs))
-        write(os.path.join(PROOFS, os.path.relpath(folder, PROOFS) + '.antt'), '-- Made by tools/walk.py.\n' + ''.join(f'pub mod {k}\n' for k in kids))
+        write(os.path.join(PROOFS, os.path.relpath(folder, PROOFS) + '.antt'),
+              '-- Made by tools/walk.py.\n' + ''.join(f'pub mod {k}\n' for k in kids))
 
 def by_hand(fn):
     """whether people wrote the walk of this function, so that its contract alone is carried over, for its callers"""
@@ -247,7 +260,8 @@ T = tempfile.mkdtemp()
 try:
     deps = [c for c in SOURCES if c != CRATE]
     for c in deps: put_twin(c, T)
-    write(os.path.join(T, 'crates.txt'), ''.join(f'{c}: {" ".join(d for d in CRATES[c] if d in deps or d not in CRATES)}\n' for c in CRATES if c in SOURCES))
+    write(os.path.join(T, 'crates.txt'), ''.join(
+        f'{c}: {" ".join(d for d in CRATES[c] if d in deps or d not in CRATES)}\n' for c in CRATES if c in SOURCES))
     for fn in FNS:
         put_twin(CRATE, T, fn)
         if fn not in SIGNATURES: sys.exit(f'no function {fn}: there are ' + ' '.join(SIGNATURES))
@@ -258,14 +272,20 @@ try:
         if not os.path.exists(os.path.join(base, 'Tie.antt')):
             shutil.rmtree(os.path.join(REPO, 'target', 'walk-twin'), ignore_errors=True)
             shutil.copytree(os.path.join(T, 'crates'), os.path.join(REPO, 'target', 'walk-twin'))
-            sys.exit(f'{fn}: the twin (see target/walk-twin) has no derivation:\n' + '\n'.join(l[:400] for l in said.splitlines() if 'error' in l or 'rt:' in l or fn.split('/')[-1] in l)[:3000])
+            sys.exit(f'{fn}: the twin (see target/walk-twin) has no derivation:\n' + '\n'.join(
+                l[:400] for l in said.splitlines() if 'error' in l or 'rt:' in l or fn.split('/')[-1] in l)[:3000])
         made = lambda m: carried(open(os.path.join(base, m + '.antt')).read())
         of = f'-- Made by tools/walk.py: `{CRATE}::{fn.replace("/", "::")}`, '
         if LENT.search(SIGNATURES[fn]):
-            for m in ('Kinds', 'Reads'): write(os.path.join(PROOFS, 'Port', fn, m + '.antt'), of + 'its contract as a caller and the derivation read it.\n' + made(m))
+            for m in ('Kinds', 'Reads'):
+                write(os.path.join(PROOFS, 'Port', fn, m + '.antt'),
+                      of + 'its contract as a caller and the derivation read it.\n' + made(m))
         if by_hand(fn): continue
-        for m in ('Lts', 'Tie'): write(os.path.join(PROOFS, fn, 'Proof', m + '.antt'), of + ('the derivation of its body.\n' if m == 'Lts' else 'the needs that the derivation leaves.\n') + made(m))
-        if re.search(r'SInt Syntax\.w16', open(os.path.join(PROOFS, fn, 'Proof', 'Lts.antt')).read()): print(f'{fn}: something is not carried over, see Lts.antt at `w16`')
+        for m in ('Lts', 'Tie'):
+            write(os.path.join(PROOFS, fn, 'Proof', m + '.antt'),
+                  of + ('the derivation of its body.\n' if m == 'Lts' else 'the needs that the derivation leaves.\n') + made(m))
+        if re.search(r'SInt Syntax\.w16', open(os.path.join(PROOFS, fn, 'Proof', 'Lts.antt')).read()):
+            print(f'{fn}: something is not carried over, see Lts.antt at `w16`')
         if not os.path.exists(os.path.join(PROOFS, fn, 'Proof.antt')): write(os.path.join(PROOFS, fn, 'Proof.antt'), first_proof(fn))
 finally: shutil.rmtree(T)
 put_mods()

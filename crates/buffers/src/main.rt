@@ -3,29 +3,13 @@
 ghost use Prim.Native.Nat.{_≤_};
 use libc::STDIN_FILENO;
 
-// The decimal number at the start of a text, or `most` if it is larger.
-fn decimal(text: &[u8], most: usize) -> usize
-    requires { ⌜ most ≤ 1000 ⌝ }
-    ensures { λ r. ⌜ r ≤ most ⌝ }
+fn least(a: usize, b: usize) -> usize
+    ensures { λ r. ⌜ r ≤ b ⌝ }
 {
-    let mut number = 0;
-    let mut i = 0;
-    while i < text.len() {
-        let digit = text[i];
-        if digit < b'0' || b'9' < digit {
-            return number;
-        }
-        let next = 10 * number + (digit - b'0') as usize;
-        if most < next {
-            return most;
-        }
-        number = next;
-        i += 1;
-    }
-    number
+    if a < b { a } else { b }
 }
 
-// The length that argument `i` names, `usual` without one.
+// The length that argument `i` names, at most `most`; `usual` without one.
 fn argument(i: usize, usual: usize, most: usize) -> usize
     requires { ⌜ (usual ≤ most) × (most ≤ 1000) ⌝ }
     ensures { λ r. ⌜ r ≤ most ⌝ }
@@ -35,7 +19,8 @@ fn argument(i: usize, usual: usize, most: usize) -> usize
     if n == 0 {
         return usual;
     }
-    decimal(&space[..n], most)
+    let length = streams::number_in(&space[..n]).value;
+    least(sign::size_of(length) as usize, most)
 }
 
 fn main() {
@@ -45,6 +30,10 @@ fn main() {
     let deviations = argument(4, 250, 260);
     // one byte more than the longest file has, so that a longer input is seen
     let mut file = [0u8; 13313];
-    let length = io::read_full(STDIN_FILENO, &mut file);
+    let got = streams::read_all(STDIN_FILENO, b"standard input", &mut file);
+    if got < 0 {
+        return;
+    }
+    let length = io::count(got, &file);
     showing::show_with(&file[..length], charges, lines, shares, deviations);
 }

@@ -1,7 +1,8 @@
 // Examines each file that is named as an argument, and prints its name and the number and place of the answer: `printed 0 0` for a file
 // that is accepted, `sum-last 2 4` for one whose block 4 has a bad sum.
-use libc::STDOUT_FILENO;
 use rules::Answer;
+use streams::print;
+use streams::print_number;
 
 fn main() {
     let n = os::arg_count();
@@ -22,16 +23,20 @@ fn examine_named(i: usize) {
         return;
     }
     let mut file = [0u8; 14336];
-    let got = io::read_full(descriptor, &mut file);
+    let got = streams::read_all(descriptor, &name[..length], &mut file);
     libc::close(descriptor);
-    io::write_all(STDOUT_FILENO, &name[..length]);
-    print_answer(examine::examine(&file[..got]));
+    if got < 0 {
+        return;
+    }
+    let size = io::count(got, &file);
+    print(&name[..length]);
+    print_answer(examine::examine(&file[..size]));
 }
 
 fn print_answer(answer: Answer) {
-    io::write_all(STDOUT_FILENO, b" ");
-    io::print_decimal(STDOUT_FILENO, answer::number_of(answer));
-    io::write_all(STDOUT_FILENO, b" ");
-    io::print_decimal(STDOUT_FILENO, answer::place_of(answer) as u64);
-    io::write_all(STDOUT_FILENO, b"\n");
+    print(b" ");
+    print_number(answer::number_of(answer));
+    print(b" ");
+    print_number(answer::place_of(answer) as u64);
+    print(b"\n");
 }

@@ -3,13 +3,18 @@ use mathlib.Core.Path.{_≡_, ap}
 use mathlib.Core.List.{List, [], _∷_}
 use Prim.Native.Nat.{ℕ, zero, suc, _≤_, _<_}
 use native.Mathlib.Omega.{arith}
-use lib.ListN.{length, getD}
+use lib.ListN.{length, getD, take}
 use Rattle.whole.proofs.Buffers.{length-replacing, getD-replacing}
 use Rattle.rules.specs.Share.{shareSize}
 use Rattle.rules.proofs.Shares.{size-at-most}
 use Rattle.share.specs.Shareable.{at, everyone, Shareable, sharesIn}
 use Rattle.share.proofs.Uses.{ufe-shareable}
 use Rattle.figures.specs.Small.{Small}
+
+pub small-take : (ds : List ℕ) → Small ds → (n : ℕ) → Small (take n ds)
+small-take ds s zero = tt
+small-take [] s (suc n) = tt
+small-take (d ∷ ds) s (suc n) = (s .0, small-take ds (s .1) n)
 
 pub small-at : (ds : List ℕ) → Small ds → (i : ℕ) → i < length ds → getD ds i 0 ≤ 1000
 small-at [] s i l = omega arith

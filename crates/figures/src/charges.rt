@@ -1,15 +1,16 @@
 // Charges: grains to the nearest cent, halves away from zero.
 ghost use Rattle.whole.specs.Signed.{Under};
-use libc::STDOUT_FILENO;
+use streams::print;
+use streams::print_signed;
 
 fn show(grains: i64)
     requires { ⌜ Under grains 4000000000000000000 ⌝ }
 {
-    io::write_all(STDOUT_FILENO, b"grains ");
-    showing::print_signed(grains);
-    io::write_all(STDOUT_FILENO, b": ");
-    showing::print_signed(formula::cents::cents(grains));
-    io::write_all(STDOUT_FILENO, b" cents\n");
+    print(b"grains ");
+    print_signed(grains);
+    print(b": ");
+    print_signed(formula::cents::cents(grains));
+    print(b" cents\n");
 }
 
 pub fn show_charges() {

@@ -1,22 +1,16 @@
 // Shows the figures that document 01 gives to check by, and more that try the same rules, a line a figure: what goes in, and what the
-// functions that settle, write and read make of it. No answer stands here. The expected lines, in the file `stdout`, were worked by hand
-// from document 01.
-mod amounts;
-mod answers;
+// functions that settle make of it. No answer stands here. The expected lines, in the file `stdout`, were worked by hand from document 01.
+// The program `amounts` shows the figures on text amounts, `examined` and `statement` those on lengths and prices.
 mod charges;
 mod deviations;
-mod files;
 mod shares;
 
 fn main() {
     deviations::show_generators();
     deviations::show_loads();
+    deviations::show_profile_loads();
     deviations::show_imports();
     deviations::show_exports();
     shares::show_shares();
     charges::show_charges();
-    amounts::show_written();
-    amounts::show_read();
-    files::show_lengths();
-    files::show_prices();
 }

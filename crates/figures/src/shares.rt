@@ -4,7 +4,8 @@ ghost use Prim.Native.Nat.{ℕ, _≤_, _<_};
 ghost use lib.IntN.{natAbs};
 ghost use lib.ListN.{length, getD};
 ghost use Rattle.figures.specs.Small.{Small};
-use libc::STDOUT_FILENO;
+use streams::print;
+use streams::print_signed;
 
 // Sizes, each with the sign of `u`.
 fn print_sizes(u: i64, sizes: &[u64])
@@ -12,8 +13,8 @@ fn print_sizes(u: i64, sizes: &[u64])
 {
     let mut i = 0;
     while i < sizes.len() {
-        io::write_all(STDOUT_FILENO, b" ");
-        showing::print_signed(sign::with_sign_of(u, sizes[i]));
+        print(b" ");
+        print_signed(sign::with_sign_of(u, sizes[i]));
         i += 1;
     }
 }
@@ -22,36 +23,36 @@ fn print_sizes(u: i64, sizes: &[u64])
 fn show_into(u: i64, demands: &[u64], sizes: &mut [u64])
     requires { ⌜ Small (now demands) × (length (now demands) ≤ 3) × (natAbs u ≤ 1000) × (length (now sizes) ≡ length (now demands)) ⌝ }
 {
-    io::write_all(STDOUT_FILENO, b"U ");
-    showing::print_signed(u);
-    io::write_all(STDOUT_FILENO, b" over D");
+    print(b"U ");
+    print_signed(u);
+    print(b" over D");
     print_sizes(0, demands);
     share::shares(demands, sign::size_of(u), sizes);
-    io::write_all(STDOUT_FILENO, b":");
+    print(b":");
     print_sizes(u, sizes);
-    io::write_all(STDOUT_FILENO, b"\n");
+    print(b"\n");
 }
 
-// This function only makes the room.
-fn show(u: i64, demands: &[u64])
-    requires { ⌜ Small (now demands) × (length (now demands) ≤ 3) × (natAbs u ≤ 1000) ⌝ }
+// The first `n` of three demands, with room for their shares.
+fn show(u: i64, n: usize, first: u64, second: u64, third: u64)
+    requires { ⌜ (natAbs u ≤ 1000) × (n ≤ 3) × (first ≤ 1000) × (second ≤ 1000) × (third ≤ 1000) ⌝ }
 {
-    let n = demands.len();
+    let demands = [first, second, third];
     let mut sizes = [0u64; 3];
-    show_into(u, demands, &mut sizes[..n]);
+    show_into(u, &demands[..n], &mut sizes[..n]);
 }
 
 // U 5 over D 2, 1: the second has the larger remainder. U 2 over D 3, 1 and over D 1, 3: equal remainders, the first has the unit.
 pub fn show_shares() {
-    show(10, &[1, 1, 1]);
-    show(-10, &[1, 1, 1]);
-    show(11, &[1, 1, 1]);
-    show(1, &[1, 1, 1]);
-    show(5, &[2, 1]);
-    show(-5, &[2, 1]);
-    show(2, &[3, 1]);
-    show(2, &[1, 3]);
-    show(-2, &[1, 3]);
-    show(7, &[0, 5]);
-    show(0, &[0, 0]);
+    show(10, 3, 1, 1, 1);
+    show(-10, 3, 1, 1, 1);
+    show(11, 3, 1, 1, 1);
+    show(1, 3, 1, 1, 1);
+    show(5, 2, 2, 1, 0);
+    show(-5, 2, 2, 1, 0);
+    show(2, 2, 3, 1, 0);
+    show(2, 2, 1, 3, 0);
+    show(-2, 2, 1, 3, 0);
+    show(7, 2, 0, 5, 0);
+    show(0, 2, 0, 0, 0);
 }

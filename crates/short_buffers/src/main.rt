@@ -4,7 +4,11 @@ use libc::STDIN_FILENO;
 
 fn main() {
     let mut space = io::buffer();
-    let length = io::read_full(STDIN_FILENO, &mut space);
+    let got = streams::read_all(STDIN_FILENO, b"standard input", &mut space);
+    if got < 0 {
+        return;
+    }
+    let length = io::count(got, &space);
     let file = &space[..length];
     showing::show_with(file, 2, 2, 2, 2);
     showing::show_with(file, 1, 2, 2, 2);

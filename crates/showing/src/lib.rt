@@ -3,53 +3,47 @@
 ghost use mathlib.Core.Path.{_≡_};
 ghost use Prim.Native.Nat.{_≤_};
 ghost use lib.ListN.{length};
-use libc::STDOUT_FILENO;
 use rules::Settled;
-
-// A number whole, with its minus; the program `figures` prints its numbers with it too.
-pub fn print_signed(number: i64) {
-    if number < 0 {
-        io::write_all(STDOUT_FILENO, b"-");
-    }
-    io::print_decimal(STDOUT_FILENO, sign::size_of(number));
-}
+use streams::print;
+use streams::print_number;
+use streams::print_signed;
 
 // A name and the numbers, one blank apart.
 fn print_numbers(name: &[u8], numbers: &[i64]) {
-    io::write_all(STDOUT_FILENO, name);
+    print(name);
     let mut i = 0;
     while i < numbers.len() {
-        io::write_all(STDOUT_FILENO, b" ");
+        print(b" ");
         print_signed(numbers[i]);
         i += 1;
     }
-    io::write_all(STDOUT_FILENO, b"\n");
+    print(b"\n");
 }
 
 // Each line as its amount and its record count.
 fn print_lines(amounts: &[i64], counts: &[u32])
     requires { ⌜ length (now amounts) ≡ length (now counts) ⌝ }
 {
-    io::write_all(STDOUT_FILENO, b"lines");
+    print(b"lines");
     let mut m = 0;
     while m < amounts.len() {
-        io::write_all(STDOUT_FILENO, b" ");
+        print(b" ");
         print_signed(amounts[m]);
-        io::write_all(STDOUT_FILENO, b":");
-        io::print_decimal(STDOUT_FILENO, counts[m] as u64);
+        print(b":");
+        print_number(counts[m] as u64);
         m += 1;
     }
-    io::write_all(STDOUT_FILENO, b"\n");
+    print(b"\n");
 }
 
 fn print_answer(settled: Settled) {
     let answer = settled.answer;
     let figures = settled.ufe;
-    io::write_all(STDOUT_FILENO, b"answer ");
-    io::print_decimal(STDOUT_FILENO, answer::number_of(answer));
-    io::write_all(STDOUT_FILENO, b" at ");
-    io::print_decimal(STDOUT_FILENO, answer::place_of(answer) as u64);
-    io::write_all(STDOUT_FILENO, b"\n");
+    print(b"answer ");
+    print_number(answer::number_of(answer));
+    print(b" at ");
+    print_number(answer::place_of(answer) as u64);
+    print(b"\n");
     print_numbers(b"ufe", &figures);
 }
 

@@ -12,20 +12,20 @@ Inv-loop amounts counts m₀ t5 t6 t7 m = m ≤ length amounts
 abbrev μ-loop : tie.MeasureT-loop
 μ-loop amounts counts m₀ t5 t6 t7 m = length amounts - m
 
-slice-aggregate-write-all : tie.Need-slice-aggregate-write-all Inv-loop μ-loop
-slice-aggregate-write-all c = search needs
+slice-aggregate-print : tie.Need-slice-aggregate-print Inv-loop μ-loop
+slice-aggregate-print c = search needs
 
-write-all-requires : tie.Need-write-all-requires Inv-loop μ-loop
-write-all-requires c κs = tt
+print-requires : tie.Need-print-requires Inv-loop μ-loop
+print-requires c κs = tt
 
 loop-holds : tie.Need-loop-holds Inv-loop μ-loop
 loop-holds c = omega arith
 
-slice-aggregate-write-all-2 : tie.Need-slice-aggregate-write-all-2 Inv-loop μ-loop
-slice-aggregate-write-all-2 c = search needs
+slice-aggregate-print-2 : tie.Need-slice-aggregate-print-2 Inv-loop μ-loop
+slice-aggregate-print-2 c = search needs
 
-write-all-requires-2 : tie.Need-write-all-requires-2 Inv-loop μ-loop
-write-all-requires-2 c κs = tt
+print-requires-2 : tie.Need-print-requires-2 Inv-loop μ-loop
+print-requires-2 c κs = tt
 
 mul-print-signed : tie.Need-mul-print-signed Inv-loop μ-loop
 mul-print-signed c = omega arith
@@ -36,23 +36,23 @@ shared-slice-copy-out-print-signed c = omega arith
 print-signed-requires : tie.Need-print-signed-requires Inv-loop μ-loop
 print-signed-requires c κs = tt
 
-slice-aggregate-write-all-3 : tie.Need-slice-aggregate-write-all-3 Inv-loop μ-loop
-slice-aggregate-write-all-3 c = search needs
+slice-aggregate-print-3 : tie.Need-slice-aggregate-print-3 Inv-loop μ-loop
+slice-aggregate-print-3 c = search needs
 
-write-all-requires-3 : tie.Need-write-all-requires-3 Inv-loop μ-loop
-write-all-requires-3 c κs = tt
+print-requires-3 : tie.Need-print-requires-3 Inv-loop μ-loop
+print-requires-3 c κs = tt
 
-mul-print-decimal : tie.Need-mul-print-decimal Inv-loop μ-loop
-mul-print-decimal c = omega arith
+mul-print-number : tie.Need-mul-print-number Inv-loop μ-loop
+mul-print-number c = omega arith
 
-shared-slice-read-print-decimal : tie.Need-shared-slice-read-print-decimal Inv-loop μ-loop
-shared-slice-read-print-decimal c = omega arith
+shared-slice-read-print-number : tie.Need-shared-slice-read-print-number Inv-loop μ-loop
+shared-slice-read-print-number c = omega arith
 
-cast-print-decimal : tie.Need-cast-print-decimal Inv-loop μ-loop
-cast-print-decimal c = omega (arith, c .shared-slice-known2 .given (c .before .before .before .before .before .before .before .before .loop .m))
+cast-print-number : tie.Need-cast-print-number Inv-loop μ-loop
+cast-print-number c = omega (arith, c .shared-slice-known2 .given (c .before .before .before .before .before .before .before .before .loop .m))
 
-print-decimal-requires : tie.Need-print-decimal-requires Inv-loop μ-loop
-print-decimal-requires c κs = tt
+print-number-requires : tie.Need-print-number-requires Inv-loop μ-loop
+print-number-requires c κs = tt
 
 add-m : tie.Need-add-m Inv-loop μ-loop
 add-m c = omega arith
@@ -63,11 +63,11 @@ loop-less c = omega arith
 loop-again : tie.Need-loop-again Inv-loop μ-loop
 loop-again c = omega arith
 
-slice-aggregate-write-all-4 : tie.Need-slice-aggregate-write-all-4 Inv-loop μ-loop
-slice-aggregate-write-all-4 c = search needs
+slice-aggregate-print-4 : tie.Need-slice-aggregate-print-4 Inv-loop μ-loop
+slice-aggregate-print-4 c = search needs
 
-write-all-requires-4 : tie.Need-write-all-requires-4 Inv-loop μ-loop
-write-all-requires-4 c κs = tt
+print-requires-4 : tie.Need-print-requires-4 Inv-loop μ-loop
+print-requires-4 c κs = tt
 
 returns : tie.Need-returns Inv-loop μ-loop
 returns c = search needs
@@ -78,23 +78,23 @@ print-lines-spec =
     (tie.spec
     Inv-loop
     μ-loop
-    slice-aggregate-write-all
-    write-all-requires
+    slice-aggregate-print
+    print-requires
     loop-holds
-    slice-aggregate-write-all-2
-    write-all-requires-2
+    slice-aggregate-print-2
+    print-requires-2
     mul-print-signed
     shared-slice-copy-out-print-signed
     print-signed-requires
-    slice-aggregate-write-all-3
-    write-all-requires-3
-    mul-print-decimal
-    shared-slice-read-print-decimal
-    cast-print-decimal
-    print-decimal-requires
+    slice-aggregate-print-3
+    print-requires-3
+    mul-print-number
+    shared-slice-read-print-number
+    cast-print-number
+    print-number-requires
     add-m
     loop-less
     loop-again
-    slice-aggregate-write-all-4
-    write-all-requires-4
+    slice-aggregate-print-4
+    print-requires-4
     returns)

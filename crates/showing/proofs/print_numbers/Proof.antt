@@ -12,17 +12,17 @@ Inv-loop name numbers i₀ t4 t5 i = i ≤ length numbers
 abbrev μ-loop : tie.MeasureT-loop
 μ-loop name numbers i₀ t4 t5 i = length numbers - i
 
-write-all-requires : tie.Need-write-all-requires Inv-loop μ-loop
-write-all-requires c κs = tt
+print-requires : tie.Need-print-requires Inv-loop μ-loop
+print-requires c κs = tt
 
 loop-holds : tie.Need-loop-holds Inv-loop μ-loop
 loop-holds c = omega arith
 
-slice-aggregate-write-all : tie.Need-slice-aggregate-write-all Inv-loop μ-loop
-slice-aggregate-write-all c = search needs
+slice-aggregate-print : tie.Need-slice-aggregate-print Inv-loop μ-loop
+slice-aggregate-print c = search needs
 
-write-all-requires-2 : tie.Need-write-all-requires-2 Inv-loop μ-loop
-write-all-requires-2 c κs = tt
+print-requires-2 : tie.Need-print-requires-2 Inv-loop μ-loop
+print-requires-2 c κs = tt
 
 mul-print-signed : tie.Need-mul-print-signed Inv-loop μ-loop
 mul-print-signed c = omega arith
@@ -42,11 +42,11 @@ loop-less c = omega arith
 loop-again : tie.Need-loop-again Inv-loop μ-loop
 loop-again c = omega arith
 
-slice-aggregate-write-all-2 : tie.Need-slice-aggregate-write-all-2 Inv-loop μ-loop
-slice-aggregate-write-all-2 c = search needs
+slice-aggregate-print-2 : tie.Need-slice-aggregate-print-2 Inv-loop μ-loop
+slice-aggregate-print-2 c = search needs
 
-write-all-requires-3 : tie.Need-write-all-requires-3 Inv-loop μ-loop
-write-all-requires-3 c κs = tt
+print-requires-3 : tie.Need-print-requires-3 Inv-loop μ-loop
+print-requires-3 c κs = tt
 
 returns : tie.Need-returns Inv-loop μ-loop
 returns c = search needs
@@ -57,16 +57,16 @@ print-numbers-spec =
     (tie.spec
     Inv-loop
     μ-loop
-    write-all-requires
+    print-requires
     loop-holds
-    slice-aggregate-write-all
-    write-all-requires-2
+    slice-aggregate-print
+    print-requires-2
     mul-print-signed
     shared-slice-copy-out-print-signed
     print-signed-requires
     add-i
     loop-less
     loop-again
-    slice-aggregate-write-all-2
-    write-all-requires-3
+    slice-aggregate-print-2
+    print-requires-3
     returns)

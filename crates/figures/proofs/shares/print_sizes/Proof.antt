@@ -15,11 +15,11 @@ abbrev μ-loop : tie.MeasureT-loop
 loop-holds : tie.Need-loop-holds Inv-loop μ-loop
 loop-holds c = omega arith
 
-slice-aggregate-write-all : tie.Need-slice-aggregate-write-all Inv-loop μ-loop
-slice-aggregate-write-all c = search needs
+slice-aggregate-print : tie.Need-slice-aggregate-print Inv-loop μ-loop
+slice-aggregate-print c = search needs
 
-write-all-requires : tie.Need-write-all-requires Inv-loop μ-loop
-write-all-requires c κs = tt
+print-requires : tie.Need-print-requires Inv-loop μ-loop
+print-requires c κs = tt
 
 mul-with-sign-of : tie.Need-mul-with-sign-of Inv-loop μ-loop
 mul-with-sign-of c = omega arith
@@ -52,8 +52,8 @@ print-sizes-spec =
     Inv-loop
     μ-loop
     loop-holds
-    slice-aggregate-write-all
-    write-all-requires
+    slice-aggregate-print
+    print-requires
     mul-with-sign-of
     shared-slice-read-with-sign-of
     with-sign-of-requires

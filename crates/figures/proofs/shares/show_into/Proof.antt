@@ -7,20 +7,20 @@ use Rattle.figures.proofs.Shown.{small-fits, shareable, share-fits}
 use Rattle.figures.proofs.shares.show_into.Statement.{statement}
 use Rattle.figures.proofs.shares.show_into.Tie as tie
 
-slice-aggregate-write-all : tie.Need-slice-aggregate-write-all
-slice-aggregate-write-all c = search needs
+slice-aggregate-print : tie.Need-slice-aggregate-print
+slice-aggregate-print c = search needs
 
-write-all-requires : tie.Need-write-all-requires
-write-all-requires c κs = search needs
+print-requires : tie.Need-print-requires
+print-requires c κs = search needs
 
 print-signed-requires : tie.Need-print-signed-requires
 print-signed-requires c κs = search needs
 
-slice-aggregate-write-all-2 : tie.Need-slice-aggregate-write-all-2
-slice-aggregate-write-all-2 c = search needs
+slice-aggregate-print-2 : tie.Need-slice-aggregate-print-2
+slice-aggregate-print-2 c = search needs
 
-write-all-requires-2 : tie.Need-write-all-requires-2
-write-all-requires-2 c κs = search needs
+print-requires-2 : tie.Need-print-requires-2
+print-requires-2 c κs = search needs
 
 print-sizes-requires : tie.Need-print-sizes-requires
 print-sizes-requires c κs = let start = c .before .before .before .before .before .before .before in
@@ -40,22 +40,22 @@ shares-requires : tie.Need-shares-requires
 shares-requires c κs = let s = start c in
     shareable (s .args .demands .now) (s .pre .0) (s .pre .1) (c .before .size-of .result) (size-most c) (s .args .sizes .now) (s .pre .3)
 
-slice-aggregate-write-all-3 : tie.Need-slice-aggregate-write-all-3
-slice-aggregate-write-all-3 c = search needs
+slice-aggregate-print-3 : tie.Need-slice-aggregate-print-3
+slice-aggregate-print-3 c = search needs
 
-write-all-requires-3 : tie.Need-write-all-requires-3
-write-all-requires-3 c κs = search needs
+print-requires-3 : tie.Need-print-requires-3
+print-requires-3 c κs = search needs
 
 print-sizes-requires-2 : tie.Need-print-sizes-requires-2
 print-sizes-requires-2 c κs = let d = c .before .before .before .before .before .before in
     let s = start d in
     share-fits (s .args .demands .now) (s .pre .0) (s .pre .1) (d .before .size-of .result) (size-most d) (s .args .sizes .now) (s .pre .3) _ (c .before .before .before .before .before .shares .ensures)
 
-slice-aggregate-write-all-4 : tie.Need-slice-aggregate-write-all-4
-slice-aggregate-write-all-4 c = search needs
+slice-aggregate-print-4 : tie.Need-slice-aggregate-print-4
+slice-aggregate-print-4 c = search needs
 
-write-all-requires-4 : tie.Need-write-all-requires-4
-write-all-requires-4 c κs = search needs
+print-requires-4 : tie.Need-print-requires-4
+print-requires-4 c κs = search needs
 
 same-length : tie.Need-same-length
 same-length c = search needs
@@ -67,18 +67,18 @@ pub show-into-spec : {M : Type 1} → statement M
 show-into-spec =
     tie.close
     (tie.spec
-    slice-aggregate-write-all
-    write-all-requires
+    slice-aggregate-print
+    print-requires
     print-signed-requires
-    slice-aggregate-write-all-2
-    write-all-requires-2
+    slice-aggregate-print-2
+    print-requires-2
     print-sizes-requires
     size-of-requires
     shares-requires
-    slice-aggregate-write-all-3
-    write-all-requires-3
+    slice-aggregate-print-3
+    print-requires-3
     print-sizes-requires-2
-    slice-aggregate-write-all-4
-    write-all-requires-4
+    slice-aggregate-print-4
+    print-requires-4
     same-length
     returns)

@@ -1,16 +1,19 @@
--- `statement::read_input` meets its contract: a read puts no more than there is room, and each turn reads something.
+-- `streams::read_all` meets its contract: a read puts no more than there is room, and each turn reads something.
 use Prim.Native.Nat.{_-_, _≤_}
 use mathlib.Core.Path.{_≡_}
 use borrow.Author.Needs.{needs}
 use lib.ListN as ListN
-use Rattle.statement.proofs.read_input.Statement.{statement}
-use Rattle.statement.proofs.read_input.Tie as tie
+use native.Mathlib.Omega.{arith}
+use mir.Syntax.{w64}
+use mir.ValLaws.{toZ-pos}
+use Rattle.streams.proofs.read_all.Statement.{statement}
+use Rattle.streams.proofs.read_all.Tie as tie
 
 abbrev Inv-loop : tie.InvT-loop
-Inv-loop file₀ length₀ file length = (length ≤ ListN.length file) × (ListN.length file ≡ ListN.length file₀)
+Inv-loop descriptor name file₀ length₀ file length = (length ≤ ListN.length file) × (ListN.length file ≡ ListN.length file₀)
 
 abbrev μ-loop : tie.MeasureT-loop
-μ-loop file₀ length₀ file length = ListN.length file - length
+μ-loop descriptor name file₀ length₀ file length = ListN.length file - length
 
 loop-holds : tie.Need-loop-holds Inv-loop μ-loop
 loop-holds c = search needs
@@ -26,6 +29,9 @@ part-read-end c = search needs
 
 read-requires : tie.Need-read-requires Inv-loop μ-loop
 read-requires c κs = search needs
+
+fail-requires : tie.Need-fail-requires Inv-loop μ-loop
+fail-requires c κs = search needs
 
 same-length : tie.Need-same-length Inv-loop μ-loop
 same-length c = search needs
@@ -45,11 +51,14 @@ part-count-end c = search needs
 count-requires : tie.Need-count-requires Inv-loop μ-loop
 count-requires c κs = search needs
 
+cast-result : tie.Need-cast-result Inv-loop μ-loop
+cast-result c = search needs
+
 same-length-2 : tie.Need-same-length-2 Inv-loop μ-loop
 same-length-2 c = search needs
 
 returns-2 : tie.Need-returns-2 Inv-loop μ-loop
-returns-2 c = search needs
+returns-2 c = rw (toZ-pos w64 (c .before .before .before .before .before .before .before .before .before .before .loop .length) (omega arith)) (omega arith)
 
 add-length : tie.Need-add-length Inv-loop μ-loop
 add-length c = search needs
@@ -60,14 +69,17 @@ loop-less c = search needs
 loop-again : tie.Need-loop-again Inv-loop μ-loop
 loop-again c = search needs
 
+cast-result-2 : tie.Need-cast-result-2 Inv-loop μ-loop
+cast-result-2 c = search needs
+
 same-length-3 : tie.Need-same-length-3 Inv-loop μ-loop
 same-length-3 c = search needs
 
 returns-3 : tie.Need-returns-3 Inv-loop μ-loop
-returns-3 c = search needs
+returns-3 c = rw (toZ-pos w64 (c .before .loop .length) (omega arith)) (omega arith)
 
-pub read-input-spec : {M : Type 1} → statement M
-read-input-spec =
+pub read-all-spec : {M : Type 1} → statement M
+read-all-spec =
     tie.close
     (tie.spec
     Inv-loop
@@ -77,16 +89,19 @@ read-input-spec =
     part-read-start
     part-read-end
     read-requires
+    fail-requires
     same-length
     returns
     sub-count
     part-count-start
     part-count-end
     count-requires
+    cast-result
     same-length-2
     returns-2
     add-length
     loop-less
     loop-again
+    cast-result-2
     same-length-3
     returns-3)

@@ -1,0 +1,36 @@
+-- `statement::print_statement` lends what was put of its text, and no more.
+use mathlib.Core.Path.{sym}
+use borrow.Author.Needs.{needs}
+use lib.Seq.{length-take-le}
+use Rattle.report.proofs.Promised.{count-within}
+use Rattle.statement.proofs.print_statement.Statement.{statement}
+use Rattle.statement.proofs.print_statement.Tie as tie
+
+slice-aggregate-statement : tie.Need-slice-aggregate-statement
+slice-aggregate-statement c = search needs
+
+statement-requires : tie.Need-statement-requires
+statement-requires c κs = search needs
+
+array-share-prefix-text : tie.Need-array-share-prefix-text
+array-share-prefix-text c = count-within (record { count-is = c .before .statement .ensures .0; out-is = c .before .statement .ensures .1 })
+
+slice-aggregate-print : tie.Need-slice-aggregate-print
+slice-aggregate-print c = sym (length-take-le _ _ (array-share-prefix-text (c .before)))
+
+print-requires : tie.Need-print-requires
+print-requires c κs = search needs
+
+returns : tie.Need-returns
+returns c = search needs
+
+pub print-statement-spec : {M : Type 1} → statement M
+print-statement-spec =
+    tie.close
+    (tie.spec
+    slice-aggregate-statement
+    statement-requires
+    array-share-prefix-text
+    slice-aggregate-print
+    print-requires
+    returns)

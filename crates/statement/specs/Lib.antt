@@ -1,2 +1,0 @@
--- What the contracts of `statement` cite.
-pub mod Reading

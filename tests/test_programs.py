@@ -1,0 +1,144 @@
+"""What the built programs and ./settle do when they cannot read or write, and document 01's figures on lengths and prices.
+
+    python3 -m unittest tests/test_programs.py       # programs from target/bin
+
+A program cannot set its exit status: it says what failed on standard error, once, and ./settle makes 1 of that.
+"""
+
+import contextlib
+import os
+import subprocess
+import sys
+import tempfile
+import unittest
+from pathlib import Path
+
+HERE = Path(__file__).resolve().parent
+ROOT = HERE.parent
+PRINTED = ROOT / "examples" / "printed.hour"
+sys.path.insert(0, str(HERE))
+import hours  # noqa: E402
+import programs  # noqa: E402
+
+READING_STANDARD_INPUT = ("statement", "buffers", "short_buffers", "amounts")
+
+
+@contextlib.contextmanager
+def opened(*paths):
+    """Descriptors that are open for reading, or for writing where the path is a device."""
+    descriptors = [os.open(path, os.O_WRONLY if str(path).startswith("/dev/") else os.O_RDONLY) for path in paths]
+    try:
+        yield descriptors
+    finally:
+        for descriptor in descriptors:
+            os.close(descriptor)
+
+
+def ended(words, stdin=subprocess.DEVNULL, stdout=subprocess.PIPE, closing=None):
+    """Status, output and what was said, of a program that is started with a descriptor of its own closed, or none."""
+    close = (lambda: os.close(closing)) if closing is not None else None
+    run = subprocess.run(words, stdin=stdin, stdout=stdout, stderr=subprocess.PIPE, env=programs.environment(),
+                         timeout=programs.SECONDS, preexec_fn=close, cwd=ROOT, text=True)
+    return run.returncode, run.stdout, run.stderr
+
+
+class CannotRead(unittest.TestCase):
+    def test_a_directory_as_standard_input(self):
+        for name in READING_STANDARD_INPUT:
+            with self.subTest(name), opened(ROOT) as (folder,):
+                self.assertEqual(ended(programs.command(name), stdin=folder),
+                                 (0, "", "standard input: Is a directory\n"))
+
+    def test_standard_input_closed(self):
+        for name in READING_STANDARD_INPUT:
+            with self.subTest(name):
+                self.assertEqual(ended(programs.command(name), closing=0),
+                                 (0, "", "standard input: Bad file descriptor\n"))
+
+    def test_a_file_that_is_none(self):
+        """The other files are examined all the same."""
+        words = [*programs.command("examined"), "examples/printed.hour", "examples", "nothing", "examples/printed.hour"]
+        self.assertEqual(ended(words), (0, "examples/printed.hour 0 0\n" * 2,
+                                        "examples: Is a directory\nnothing: No such file or directory\n"))
+
+
+class CannotWrite(unittest.TestCase):
+    """It is said once, however much there is to write."""
+
+    # What each is started on: a word, standard input.
+    STARTED = {"statement": ((), PRINTED), "buffers": ((), PRINTED), "short_buffers": ((), PRINTED),
+               "amounts": ((), ROOT / "crates" / "amounts" / "stdin"),
+               "examined": (["examples/printed.hour"] * 2, PRINTED), "figures": ((), PRINTED)}
+
+    def test_standard_output_full(self):
+        for name, (words, data) in self.STARTED.items():
+            with self.subTest(name), opened(data, "/dev/full") as (stdin, full):
+                self.assertEqual(ended([*programs.command(name), *words], stdin, full),
+                                 (0, None, "standard output: No space left on device\n"))
+
+    def test_standard_output_closed(self):
+        for name, (words, data) in self.STARTED.items():
+            with self.subTest(name), opened(data) as (stdin,):
+                self.assertEqual(ended([*programs.command(name), *words], stdin, closing=1),
+                                 (0, "", "standard output: Bad file descriptor\n"))
+
+
+class LengthsAndPrices(unittest.TestCase):
+    """Document 01, "Figures to check by": the last of them, settled by the program that people run."""
+
+    def statement(self, price, records):
+        """What is printed of an hour of one member and so many loads that are all zero, and the hour's length."""
+        loads = [hours.record(hours.REAL_TIME_LOAD, 0, 0)] * records
+        data = hours.Hour(7, 1, [price], [[0, 0, 0]], loads).encode()
+        return len(data), programs.run(programs.command("statement"), data).decode()
+
+    def test_lengths(self):
+        self.assertEqual(self.statement(5_000, 250), (13_312, "hour 7 members 1 records 250\n00          +0.00\n"))
+        self.assertEqual(self.statement(5_000, 260), (13_824, "refused 1 at 0\n"))
+
+    def test_prices(self):
+        self.assertEqual(self.statement(1_000_000, 0), (512, "hour 7 members 1 records 0\n00          +0.00\n"))
+        self.assertEqual(self.statement(1_000_001, 0), (512, "refused 4 at 12\n"))
+
+
+class Settle(unittest.TestCase):
+    STATEMENT = "hour 7 members 2 records 2\n00          +5.00\n01          -5.00\n"
+
+    def settle(self, *words, **streams):
+        return ended([ROOT / "settle", *words], **streams)
+
+    def test_an_hour(self):
+        self.assertEqual(self.settle(PRINTED), (0, self.STATEMENT, ""))
+        with opened(PRINTED) as (stdin,):
+            self.assertEqual(self.settle(stdin=stdin), (0, self.STATEMENT, ""))
+
+    def test_a_refused_hour_is_an_answer(self):
+        self.assertEqual(self.settle(), (0, "refused 1 at 0\n", ""))
+
+    def test_what_cannot_be_read(self):
+        """The other files are settled all the same."""
+        missing = ROOT / "nothing.hour"
+        self.assertEqual(self.settle(PRINTED, missing, ROOT, PRINTED),
+                         (1, f"{PRINTED}:\n{self.STATEMENT}{missing}:\n{ROOT}:\n{PRINTED}:\n{self.STATEMENT}",
+                          f"settle: cannot read {missing}\nsettle: {ROOT}: standard input: Is a directory\n"))
+        with opened(ROOT) as (folder,):
+            self.assertEqual(self.settle(stdin=folder), (1, "", "settle: standard input: Is a directory\n"))
+
+    def test_what_cannot_be_written(self):
+        with opened("/dev/full") as (full,):
+            self.assertEqual(self.settle(PRINTED, stdout=full),
+                             (1, None, f"settle: {PRINTED}: standard output: No space left on device\n"))
+
+    def test_a_program_that_is_not_there_cannot_be_built(self):
+        """A copy of ./settle elsewhere, with nothing to prove."""
+        with tempfile.TemporaryDirectory() as folder:
+            copy = Path(folder, "settle")
+            copy.write_bytes((ROOT / "settle").read_bytes())
+            copy.chmod(0o755)
+            status, printed, said = ended([copy, PRINTED])
+            self.assertEqual((status, printed), (1, ""))
+            self.assertTrue(said.endswith("settle: the program could not be proved and built\n"), said)
+
+
+if __name__ == "__main__":
+    unittest.main()
