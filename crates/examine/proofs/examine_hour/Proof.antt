@@ -1,12 +1,19 @@
 -- `examine::examine_hour` meets its contract: the first row that is broken. The first fault tells the first bad record.
-use mathlib.Core.Path.{sym, _∙_, ap}
+use mathlib.Core.Path.{_≡_, sym, _∙_, ap}
+use mathlib.Core.Option.{none}
 use native.Mathlib.Omega.{arith}
 use borrow.Author.Needs.{needs}
-use Rattle.rules.specs.Refusals.{foundAt, verdict, wordRows}
+use Rattle.rules.specs.HourFile.{hourly, hourOf}
+use Rattle.rules.specs.Refusals.{foundAt, badHead, verdict, wordRows}
 use Rattle.rules.proofs.Faults.{fault-record, fault-nowhere}
 use Rattle.examine.specs.Fault.{faultAt}
 use Rattle.examine.proofs.examine_hour.Statement.{statement}
 use Rattle.examine.proofs.examine_hour.Tie as tie
+
+-- row 4 passed: the head is whole
+module _ (c : tie.After-enum-told) where
+  head-good : badHead (hourOf hourly (c .before .before .before .before .args .file .now)) ≡ none
+  head-good = sym (c .before .before .bad-head .ensures) ∙ ap foundAt (c .enum-told .given .1)
 
 bad-head-requires : tie.Need-bad-head-requires
 bad-head-requires c κs = omega arith
@@ -30,8 +37,8 @@ enum-known-i c = search needs
 returns-2 : tie.Need-returns-2
 unfolding verdict wordRows
 returns-2 c =
-    let head = c .before .before .before .before in
-    simp (sym (head .before .before .bad-head .ensures) ∙ ap foundAt (head .enum-told .given .1), fault-record _ _ _ (sym (c .before .before .before .first-fault .ensures) ∙ ap faultAt (c .before .i .given .1)))
+    let searched = c .before .before .before in
+    simp (head-good (searched .before), fault-record _ _ _ (sym (searched .first-fault .ensures) ∙ ap faultAt (c .before .i .given .1)))
 
 enum-told-2 : tie.Need-enum-told-2
 enum-told-2 c = search needs
@@ -39,8 +46,8 @@ enum-told-2 c = search needs
 returns-3 : tie.Need-returns-3
 unfolding verdict wordRows
 returns-3 c =
-    let head = c .before .before .before in
-    simp (sym (head .before .before .bad-head .ensures) ∙ ap foundAt (head .enum-told .given .1), fault-nowhere _ (sym (c .before .before .first-fault .ensures) ∙ ap faultAt (c .enum-told2 .given .1)))
+    let searched = c .before .before in
+    simp (head-good (searched .before), fault-nowhere _ (sym (searched .first-fault .ensures) ∙ ap faultAt (c .enum-told2 .given .1)))
 
 pub examine-hour-spec : {M : Type 1} → statement M
 examine-hour-spec =
