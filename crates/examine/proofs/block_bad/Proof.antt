@@ -4,7 +4,6 @@ use mathlib.Core.Path.{_≡_, sym, _∙_, ap}
 use mathlib.Core.Bool.{Bool}
 use Prim.Native.Nat.{ℕ}
 use native.Mathlib.Omega.{arith}
-use borrow.Author.Needs.{needs}
 use Rattle.rules.specs.declared.Found.{Found}
 use Rattle.rules.specs.HourFile.{word}
 use Rattle.rules.specs.Refusals.{isBroken, foundAt}
@@ -62,10 +61,10 @@ first-not-zero-requires : tie.Need-first-not-zero-requires
 first-not-zero-requires c κs = tt
 
 enum-told : tie.Need-enum-told
-enum-told c = search needs
+enum-told c = c .match .keys1
 
 enum-told-2 : tie.Need-enum-told-2
-enum-told-2 c = search needs
+enum-told-2 c = c .match .keys2
 
 returns-3 : tie.Need-returns-3
 returns-3 c = sym (rest-told (c .before .before) ∙ ap (λ (f : Found). isBroken (foundAt f)) (c .enum-told .given .1))

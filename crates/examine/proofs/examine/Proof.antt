@@ -5,7 +5,6 @@ use mathlib.Core.Option.{none}
 use mathlib.Core.List.{List}
 use Prim.Native.Nat.{ℕ}
 use native.Mathlib.Omega.{arith}
-use borrow.Author.Needs.{needs}
 use Rattle.rules.specs.HourFile.{hourly, lengthBad}
 use Rattle.rules.specs.Refusals.{foundAt, verdict, badLength, badSum, badBlock, layoutRows, fileRows}
 use Rattle.rules.proofs.Words.{length-is-whole}
@@ -52,7 +51,7 @@ bad-sum-requires : tie.Need-bad-sum-requires
 bad-sum-requires c κs = tt
 
 enum-known-b : tie.Need-enum-known-b
-enum-known-b c = search needs
+enum-known-b c = c .match .keys1
 
 returns-2 : tie.Need-returns-2
 unfolding verdict fileRows layoutRows badLength
@@ -61,13 +60,13 @@ returns-2 c =
     simp (length-good (searched .before), sym (searched .bad-sum .ensures) ∙ ap foundAt (c .before .b .given .1))
 
 enum-told : tie.Need-enum-told
-enum-told c = search needs
+enum-told c = c .match .keys2
 
 bad-block-requires : tie.Need-bad-block-requires
 bad-block-requires c κs = length-is-whole hourly _ (length-good (row-1 c)) .most
 
 enum-known-b-2 : tie.Need-enum-known-b-2
-enum-known-b-2 c = search needs
+enum-known-b-2 c = c .match2 .keys1
 
 returns-3 : tie.Need-returns-3
 unfolding verdict fileRows layoutRows badLength
@@ -77,7 +76,7 @@ returns-3 c =
     simp (length-good (row-1 sums), sums-good sums, sym (searched .bad-block .ensures) ∙ ap foundAt (c .before .b2 .given .1))
 
 enum-told-2 : tie.Need-enum-told-2
-enum-told-2 c = search needs
+enum-told-2 c = c .match2 .keys2
 
 examine-hour-requires : tie.Need-examine-hour-requires
 examine-hour-requires c κs =

@@ -2,7 +2,6 @@
 use mathlib.Core.Path.{_≡_, sym, _∙_, ap}
 use mathlib.Core.Option.{none}
 use native.Mathlib.Omega.{arith}
-use borrow.Author.Needs.{needs}
 use Rattle.rules.specs.HourFile.{hourly, hourOf}
 use Rattle.rules.specs.Refusals.{foundAt, badHead, verdict, wordRows}
 use Rattle.rules.proofs.Faults.{fault-record, fault-nowhere}
@@ -19,20 +18,20 @@ bad-head-requires : tie.Need-bad-head-requires
 bad-head-requires c κs = omega arith
 
 enum-known-w : tie.Need-enum-known-w
-enum-known-w c = search needs
+enum-known-w c = c .match .keys1
 
 returns : tie.Need-returns
 unfolding verdict wordRows
 returns c = simp (sym (c .before .before .before .bad-head .ensures) ∙ ap foundAt (c .before .w .given .1))
 
 enum-told : tie.Need-enum-told
-enum-told c = search needs
+enum-told c = c .match .keys2
 
 first-fault-requires : tie.Need-first-fault-requires
 first-fault-requires c κs = omega arith
 
 enum-known-i : tie.Need-enum-known-i
-enum-known-i c = search needs
+enum-known-i c = c .match2 .keys1
 
 returns-2 : tie.Need-returns-2
 unfolding verdict wordRows
@@ -41,7 +40,7 @@ returns-2 c =
     simp (head-good (searched .before), fault-record _ _ _ (sym (searched .first-fault .ensures) ∙ ap faultAt (c .before .i .given .1)))
 
 enum-told-2 : tie.Need-enum-told-2
-enum-told-2 c = search needs
+enum-told-2 c = c .match2 .keys2
 
 returns-3 : tie.Need-returns-3
 unfolding verdict wordRows

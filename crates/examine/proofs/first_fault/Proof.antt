@@ -139,7 +139,7 @@ unfolding badWord firstBroken
 rows-again c =
     let inner = c .before in
     let turn = inner .before .before .before .before in
-    let whole = first-less (word-bad (file turn) (at turn)) _ 12 (inner .loop .inv) (c .loop-test .left) in
+    let whole = first-less (word-bad (file turn) (at turn)) _ 12 (inner .loop .inv) (omega arith) in
     first-next (record-bad (file turn)) (at turn) (turn .rows .inv) (ap isBroken whole)
 
 -- the loops were left by the label; had they run out, no record would be left

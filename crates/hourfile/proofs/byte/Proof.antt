@@ -2,7 +2,6 @@
 use mathlib.Core.Path.{sym}
 use native.Mathlib.Omega.{arith}
 use lib.ListN.{List·getD-eq-default}
-use borrow.Author.Needs.{needs}
 use Rattle.hourfile.proofs.byte.Statement.{statement}
 use Rattle.hourfile.proofs.byte.Tie as tie
 
@@ -13,7 +12,7 @@ wide-requires : tie.Need-wide-requires
 wide-requires c κs = tt
 
 returns : tie.Need-returns
-returns c = search needs
+returns c = c .wide .ensures
 
 returns-2 : tie.Need-returns-2
 returns-2 c = (sym (List·getD-eq-default (c .before .before .args .part .now) 0 (c .if1 .left)), omega arith)
