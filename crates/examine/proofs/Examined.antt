@@ -21,6 +21,7 @@ module _ (s : List ℕ) where
   accepted-when-whole r e = let rows = accepts-when-whole (fileRows s) (file-numbered s) in
       (λ a. rows .0 (sym e ∙ ap verdictOf a), λ w. one-answer r Accepted (e ∙ rows .1 w))
 
-  -- the counts, prices, zones, ties, kinds, members, areas, energies and multipliers of an accepted file lie in their ranges; at most 250 records
+  -- the counts, prices, zones, ties, kinds, members, areas, energies and multipliers of an accepted file lie in their ranges; it has at
+  -- most 250 records
   pub accepted-kept : (r : Answer) → Examined s r → r ≡ Accepted → FileKept s
   accepted-kept r e a = file-kept s (accepted-when-whole r e .0 a)

@@ -1,5 +1,6 @@
-// Refusals 1 to 5 of a file, in the order of the table: the length, the blocks' sums, their layout, the head, the records. Each row is
-// looked through in its order and left at the first fault, so that a refused file costs no more than an accepted one.
+// Refusals 1 to 5 of an hour file, in the order of the table: the length, the blocks' sums, their layout, the head, the records. Others
+// call `examine` alone; it reads words by `hourfile` and asks `wordrules` what each may be. Each row is looked through in its order and
+// left at the first fault, so that a refused file costs no more than an accepted one.
 ghost use mathlib.Core.Path.{_≡_};
 ghost use mathlib.Core.Bool.{not, _&&_};
 ghost use Prim.Native.Nat.{_+_, _-_, _*_, _%_, _≤_};
@@ -11,6 +12,7 @@ ghost use Rattle.rules.specs.HourFile.{hourly};
 ghost use Rattle.rules.specs.Ranges as Ranges;
 ghost use Rattle.rules.specs.Refusals as Refusals;
 ghost use Rattle.rules.specs.Refusals.{foundAt};
+ghost use Rattle.examine.specs.Broken.{brokenBelow};
 ghost use Rattle.examine.specs.Fault.{faultAt};
 use rules::Answer;
 use rules::Found;
@@ -88,7 +90,7 @@ fn block_word_bad(block: &[u8], n: u32, held: u32, b: u32, w: usize) -> bool
 
 // Whether one of words 0 to 6 of block `b` of `n` breaks the layout.
 fn front_bad(block: &[u8], n: u32, held: u32, b: u32) -> bool
-    ensures { λ r. ⌜ r ≡ Refusals.isBroken (Ranges.firstBroken (Ranges.blockRule hourly n held b) (HourFile.word (now (block .entry))) 7) ⌝ }
+    ensures { λ r. ⌜ r ≡ brokenBelow 7 n held b (now (block .entry)) ⌝ }
 {
     let mut w = 0;
     while w < 7 {
@@ -102,7 +104,7 @@ fn front_bad(block: &[u8], n: u32, held: u32, b: u32) -> bool
 
 // Whether block `b` of `n` breaks the layout. The body of the first block is for refusal 4; of another block it is zero past the records.
 fn block_bad(block: &[u8], n: u32, b: u32) -> bool
-    ensures { λ r. ⌜ r ≡ Refusals.isBroken (Ranges.firstBroken (Ranges.blockRule hourly n (HourFile.word (now (block .entry)) 2) b) (HourFile.word (now (block .entry))) 128) ⌝ }
+    ensures { λ r. ⌜ r ≡ brokenBelow 128 n (HourFile.word (now (block .entry)) 2) b (now (block .entry)) ⌝ }
 {
     let held = hourfile::word(block, 2);
     if front_bad(block, n, held, b) {

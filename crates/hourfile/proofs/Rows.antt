@@ -1,4 +1,5 @@
--- In a file that keeps its ranges the head and every record lie whole, so that words are read without a test: past the end a kind would be 0, which is none.
+-- In a file that keeps its ranges the head and every record lie whole, so that words are read without a test: past the end a kind would
+-- be 0, which is none.
 use mathlib.Core.Path.{_≡_, sym, _∙_, ap}
 use mathlib.Core.List.{List}
 use Prim.Native.Nat.{ℕ, _+_, _*_, _/_, _%_, _≤_, _<_}
@@ -11,15 +12,21 @@ use Rattle.rules.proofs.Words.{length-is-whole, record-count, record-word, head
 use Rattle.rules.proofs.PartWords.{word-past, record-part-word}
 use Rattle.hourfile.specs.Part.{recordPart}
 
-module _ (s : List ℕ) (i : ℕ) where
+module _ (s : List ℕ) (i : ℕ) (there : i < hourOf hourly s .count) where
+  -- a word of a record, read from the record's part of the file
+  pub part-word : {row : List ℕ} → row ≡ recordPart s i → (w : ℕ) → w < 12 → word row w ≡ hourOf hourly s .rec i w
+  part-word part w l = ap (λ (p : List ℕ). word p w) part ∙ record-part-word s i w (rw (← record-count) there) l
+
   -- the first word of a record that lies past the last block is 0
-  kind-past : length s ≤ 512 * (1 + i / 10) → i < hourOf hourly s .count → hourOf hourly s .rec i 0 ≡ 0
+  kind-past : length s ≤ 512 * (1 + i / 10) → hourOf hourly s .rec i 0 ≡ 0
   unfolding recordWord blockWord
-  kind-past l there = record-word hourly s i 0 (rw (← record-count) there) (omega arith) ∙ word-past s (128 * (1 + i / 10) + (8 + 12 * (i % 10) + 0)) (omega arith)
+  kind-past l =
+      record-word hourly s i 0 (rw (← record-count) there) (omega arith)
+      ∙ word-past s (128 * (1 + i / 10) + (8 + 12 * (i % 10) + 0)) (omega arith)
 
 module _ {s : List ℕ} {i : ℕ} (kept : FileKept s) (there : i < hourOf hourly s .count) where
   past-not : length s ≤ 512 * (1 + i / 10) → ⊥
-  past-not l = omega (arith, kind-past s i l there, kept .hour-kept .record-kept i there .kind-least)
+  past-not l = omega (arith, kind-past s i there l, kept .hour-kept .record-kept i there .kind-least)
 
   pub record-inside : 592 + 48 * i + 32 * (i / 10) ≤ length s
   record-inside =
@@ -28,10 +35,12 @@ module _ {s : List ℕ} {i : ℕ} (kept : FileKept s) (there : i < hourOf hourly
 
   module _ {row : List ℕ} (part : row ≡ recordPart s i) where
     pub row-length : length row ≡ 48
-    row-length = ap length part ∙ length-take-le 48 (drop (544 + 48 * i + 32 * (i / 10)) s) (omega (arith, length-drop (544 + 48 * i + 32 * (i / 10)) s, record-inside))
+    row-length =
+        let from : ℕ = 544 + 48 * i + 32 * (i / 10) in
+        ap length part ∙ length-take-le 48 (drop from s) (omega (arith, length-drop from s, record-inside))
 
     pub row-word : (w : ℕ) → w < 12 → word row w ≡ hourOf hourly s .rec i w
-    row-word w l = ap (λ (p : List ℕ). word p w) part ∙ record-part-word s i w (rw (← record-count) there) l
+    row-word w l = part-word s i there part w l
 
 -- ---- the head
 

@@ -54,12 +54,19 @@ fn wide(x: u8) -> u32
     x as u32
 }
 
+// The word that four bytes make, the lowest first.
+fn joined(a: u8, b: u8, c: u8, d: u8) -> u32
+    ensures { λ r. ⌜ r ≡ a + 256 * b + 65536 * c + 16777216 * d ⌝ }
+{
+    wide(a) + 256 * wide(b) + 65536 * wide(c) + 16777216 * wide(d)
+}
+
 // Byte `i` of a part; 0 past its end.
-fn byte(part: &[u8], i: usize) -> u32
-    ensures { λ r. ⌜ (r ≡ getD (now (part .entry)) i 0) × (r < 256) ⌝ }
+fn byte(part: &[u8], i: usize) -> u8
+    ensures { λ r. ⌜ r ≡ getD (now (part .entry)) i 0 ⌝ }
 {
     if i < part.len() {
-        return wide(part[i]);
+        return part[i];
     }
     0
 }
@@ -70,10 +77,7 @@ pub fn whole_word(part: &[u8], k: usize) -> u32
     ensures { λ r. ⌜ r ≡ HourFile.word (now (part .entry)) k ⌝ }
 {
     let at = 4 * k;
-    wide(part[at])
-        + 256 * wide(part[at + 1])
-        + 65536 * wide(part[at + 2])
-        + 16777216 * wide(part[at + 3])
+    joined(part[at], part[at + 1], part[at + 2], part[at + 3])
 }
 
 // Word `k` where the part ends in it.
@@ -82,10 +86,12 @@ fn cut_word(part: &[u8], k: usize) -> u32
     ensures { λ r. ⌜ r ≡ HourFile.word (now (part .entry)) k ⌝ }
 {
     let at = 4 * k;
-    byte(part, at)
-        + 256 * byte(part, at + 1)
-        + 65536 * byte(part, at + 2)
-        + 16777216 * byte(part, at + 3)
+    joined(
+        byte(part, at),
+        byte(part, at + 1),
+        byte(part, at + 2),
+        byte(part, at + 3),
+    )
 }
 
 // Word `k` of a part, little-endian; bytes past the end are 0.

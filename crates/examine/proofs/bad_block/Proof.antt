@@ -3,14 +3,15 @@ use mathlib.Core.Path.{_≡_, refl, sym, _∙_, ap}
 use mathlib.Core.Bool.{Bool}
 use mathlib.Core.Option.{none}
 use mathlib.Core.List.{List}
-use Prim.Native.Nat.{ℕ, _-_, _≤_}
+use Prim.Native.Nat.{ℕ, _-_}
 use native.Mathlib.Omega.{arith}
 use Rattle.whole.specs.Below.{firstBelow}
-use Rattle.whole.proofs.Search.{first-next, first-hit}
+use Rattle.whole.proofs.Search.{first-next, first-hit, first-less}
 use Rattle.rules.specs.HourFile.{hourly, word, blocks, blockWord}
 use Rattle.rules.specs.Ranges.{blockRule, firstBroken}
 use Rattle.rules.specs.Refusals.{isBroken, badBlock}
 use Rattle.rules.proofs.Faults.{block-part-broken}
+use Rattle.examine.specs.Broken.{brokenBelow}
 use Rattle.examine.proofs.bad_block.Statement.{statement}
 use Rattle.examine.proofs.bad_block.Tie as tie
 
@@ -18,30 +19,41 @@ abbrev bad : (s : List ℕ) (n b : ℕ) → Bool
 bad s n b = isBroken (firstBroken (blockRule hourly n (blockWord s b 2) b) (blockWord s b) 128)
 
 abbrev Inv-loop : tie.InvT-loop
-Inv-loop file n b₀ b = (b ≤ n) × (firstBelow (bad file n) b ≡ none)
+Inv-loop file n b₀ b = firstBelow (bad file n) b ≡ none
 
 abbrev μ-loop : tie.MeasureT-loop
 μ-loop file n b₀ b = n - b
 
-module _ (c : tie.After-block-bad Inv-loop μ-loop) where
+module _ (turn : tie.At-loop Inv-loop μ-loop) where
   abbrev file : List ℕ
-  file = c .before .before .before .before .before .before .args .file .now
+  file = turn .before .before .before .args .file .now
 
   abbrev n : ℕ
-  n = c .before .before .before .before .blocks2 .result
+  n = turn .before .blocks2 .result
 
-  abbrev b : ℕ
-  b = c .before .before .before .loop .b
+  -- the code counts the blocks once
+  over-all : badBlock hourly file ≡ firstBelow (bad file n) n
+  unfolding badBlock
+  over-all = ap (λ (n : ℕ). firstBelow (bad file n) n) (sym (turn .before .blocks2 .ensures))
 
-  told : c .block-bad .result ≡ bad file n b
-  told = c .block-bad .ensures ∙ ap (λ (l : List ℕ). isBroken (firstBroken (blockRule hourly n (word l 2) b) (word l) 128)) (c .before .block .ensures) ∙ block-part-broken file n b
+-- the turn of the loop in which a block was judged
+abbrev turn-of : tie.After-block-bad Inv-loop μ-loop → tie.At-loop Inv-loop μ-loop
+turn-of c = c .before .before .before
+
+told : (c : tie.After-block-bad Inv-loop μ-loop) → c .block-bad .result ≡ bad (file (turn-of c)) (n (turn-of c)) (turn-of c .loop .b)
+told c =
+    let turn = turn-of c in
+    let b = turn .loop .b in
+    c .block-bad .ensures
+    ∙ ap (λ (block : List ℕ). brokenBelow 128 (n turn) (word block 2) b block) (c .before .block .ensures)
+    ∙ block-part-broken (file turn) (n turn) b
 
 blocks-requires : tie.Need-blocks-requires Inv-loop μ-loop
 blocks-requires c κs = tt
 
 loop-holds : tie.Need-loop-holds Inv-loop μ-loop
 unfolding firstBelow
-loop-holds c = (omega arith, refl)
+loop-holds c = refl
 
 block-requires : tie.Need-block-requires Inv-loop μ-loop
 unfolding blocks
@@ -59,12 +71,11 @@ block-bad-requires : tie.Need-block-bad-requires Inv-loop μ-loop
 block-bad-requires c κs = tt
 
 returns : tie.Need-returns Inv-loop μ-loop
-unfolding badBlock
 returns c =
-    let at = c .before .before .before .before in
-    let s = file (c .before) in
-    sym (ap (λ (n : ℕ). firstBelow (bad s n) n) (sym (at .before .blocks2 .ensures))
-    ∙ first-hit (bad s (n (c .before))) (at .loop .b) (n (c .before)) (at .loop .inv .1) (sym (told (c .before)) ∙ c .if1 .taken) (c .before .before .before .loop-test .taken))
+    let turn = turn-of (c .before) in
+    let broken = sym (told (c .before)) ∙ c .if1 .taken in
+    let there = c .before .before .before .loop-test .taken in
+    sym (over-all turn ∙ first-hit (bad (file turn) (n turn)) (turn .loop .b) (n turn) (turn .loop .inv) broken there)
 
 add-b : tie.Need-add-b Inv-loop μ-loop
 add-b c = omega arith
@@ -74,17 +85,11 @@ loop-less c = omega arith
 
 loop-again : tie.Need-loop-again Inv-loop μ-loop
 loop-again c =
-    let at = c .before .before .before .before in
-    (omega arith, first-next (bad (file (c .before)) (n (c .before))) (at .loop .b) (at .loop .inv .1) (sym (told (c .before)) ∙ c .if1 .left))
+    let turn = turn-of (c .before) in
+    first-next (bad (file turn) (n turn)) (turn .loop .b) (turn .loop .inv) (sym (told (c .before)) ∙ c .if1 .left)
 
 returns-2 : tie.Need-returns-2 Inv-loop μ-loop
-unfolding badBlock
-returns-2 c =
-    let at = c .before in
-    let s = at .before .before .before .args .file .now in
-    let n : ℕ = at .before .blocks2 .result in
-    let e : at .loop .b ≡ n = omega arith in
-    sym (ap (λ (n : ℕ). firstBelow (bad s n) n) (sym (at .before .blocks2 .ensures)) ∙ ap (firstBelow (bad s n)) (sym e) ∙ at .loop .inv .1)
+returns-2 c = let turn = c .before in sym (over-all turn ∙ first-less (bad (file turn) (n turn)) _ _ (turn .loop .inv) (c .loop-test .left))
 
 pub bad-block-spec : {M : Type 1} → statement M
 bad-block-spec =

@@ -9,7 +9,7 @@ use lib.ListN.{take, drop}
 use lib.Dec.{leb, eqb}
 use borrow.Author.Tests.{le-leb, lt-leb}
 use Rattle.whole.specs.Below.{firstBelow}
-use Rattle.whole.proofs.Search.{first-next, first-hit, first-rest, none-below}
+use Rattle.whole.proofs.Search.{first-next, first-hit, first-less, first-rest, none-below}
 use Rattle.rules.specs.Record.{zones, areas}
 use Rattle.rules.specs.HourFile.{hourly, word, hourOf}
 use Rattle.rules.specs.Ranges.{keeps, headRule, firstBroken}
@@ -23,7 +23,7 @@ abbrev bad : List ℕ → ℕ → Bool
 bad s w = let h = hourOf hourly s in not (keeps (headRule (zones h) (areas h) w) (h .head w))
 
 abbrev Inv-loop : tie.InvT-loop
-Inv-loop file head zones areas w₀ w = (9 ≤ w) × (w ≤ 48) × (firstBelow (bad file) w ≡ none)
+Inv-loop file head zones areas w₀ w = (9 ≤ w) × (firstBelow (bad file) w ≡ none)
 
 abbrev μ-loop : tie.MeasureT-loop
 μ-loop file head zones areas w₀ w = 48 - w
@@ -33,17 +33,31 @@ module _ (s head : List ℕ) (e : head ≡ take 512 (drop (512 * 0) s)) where
   read : (w : ℕ) → 8 ≤ w → w < 128 → word head w ≡ hourOf hourly s .head w
   read w l m = ap (λ (l : List ℕ). word l w) e ∙ head-part-word s w l m
 
-  told : (z a w : ℕ) → z ≡ word head 10 → a ≡ word head 11 → 8 ≤ w → w < 128 → not (keeps (headRule z a w) (word head w)) ≡ bad s w
+  told : (z a w : ℕ) → z ≡ word head 10 → a ≡ word head 11 → 8 ≤ w → w < 128
+      → not (keeps (headRule z a w) (word head w)) ≡ bad s w
   told z a w ez ea l m = rw (ez ∙ read 10 (omega arith) (omega arith), ea ∙ read 11 (omega arith) (omega arith), read w l m)
 
   rest-zero : (w : ℕ) → 48 ≤ w → w < 128 → bad s w ≡ (leb 48 w && not (eqb (word head w) 0))
   rest-zero w l m = head-zero _ _ w _ l ∙ sym (rw (le-leb 48 w l, read w (omega arith) m))
 
-told-here : (c : tie.After-head-word-bad Inv-loop μ-loop) → c .head-word-bad .result ≡ bad (c .before .before .before .before .before .before .before .args .file .now) (c .before .before .loop .w)
+-- the moment at which the first block is in hand
+abbrev in-hand : tie.At-loop Inv-loop μ-loop → tie.After-block Inv-loop μ-loop
+in-hand turn = turn .before .before .before
+
+abbrev file : tie.At-loop Inv-loop μ-loop → List ℕ
+file turn = in-hand turn .before .before .args .file .now
+
+-- the turn of the loop in which a word was judged
+abbrev turn-of : tie.After-head-word-bad Inv-loop μ-loop → tie.At-loop Inv-loop μ-loop
+turn-of c = c .before .before
+
+told-here : (c : tie.After-head-word-bad Inv-loop μ-loop) → c .head-word-bad .result ≡ bad (file (turn-of c)) (turn-of c .loop .w)
 told-here c =
-    let at = c .before .before in
-    let given = at .before in
-    c .head-word-bad .ensures ∙ told _ _ (given .before .before .block .ensures) _ _ (at .loop .w) (given .before .word .ensures) (given .word2 .ensures) (omega arith) (omega arith)
+    let counts = turn-of c .before in
+    let zones-read = counts .before .word .ensures in
+    let areas-read = counts .word2 .ensures in
+    c .head-word-bad .ensures
+    ∙ told _ _ (in-hand (turn-of c) .block .ensures) _ _ (turn-of c .loop .w) zones-read areas-read (omega arith) (omega arith)
 
 block-requires : tie.Need-block-requires Inv-loop μ-loop
 block-requires c κs = omega arith
@@ -55,7 +69,7 @@ word-requires-2 : tie.Need-word-requires-2 Inv-loop μ-loop
 word-requires-2 c κs = tt
 
 loop-holds : tie.Need-loop-holds Inv-loop μ-loop
-loop-holds c = (omega arith, omega arith, none-below _ 9 (λ w l. head-any _ _ w _ l))
+loop-holds c = (omega arith, none-below _ 9 (λ w l. head-any _ _ w _ l))
 
 head-word-bad-requires : tie.Need-head-word-bad-requires Inv-loop μ-loop
 head-word-bad-requires c κs = tt
@@ -63,8 +77,9 @@ head-word-bad-requires c κs = tt
 returns : tie.Need-returns Inv-loop μ-loop
 unfolding badHead firstBroken
 returns c =
-    let at = c .before .before .before in
-    sym (first-hit (bad (at .before .before .before .before .before .args .file .now)) (at .loop .w) 128 (at .loop .inv .2) (sym (told-here (c .before)) ∙ c .if1 .taken) (omega arith))
+    let turn = turn-of (c .before) in
+    let broken = sym (told-here (c .before)) ∙ c .if1 .taken in
+    sym (first-hit (bad (file turn)) (turn .loop .w) 128 (turn .loop .inv .1) broken (omega arith))
 
 add-w : tie.Need-add-w Inv-loop μ-loop
 add-w c = omega arith
@@ -74,8 +89,8 @@ loop-less c = omega arith
 
 loop-again : tie.Need-loop-again Inv-loop μ-loop
 loop-again c =
-    let at = c .before .before .before in
-    (omega arith, omega arith, first-next (bad (at .before .before .before .before .before .args .file .now)) (at .loop .w) (at .loop .inv .2) (sym (told-here (c .before)) ∙ c .if1 .left))
+    let turn = turn-of (c .before) in
+    (omega arith, first-next (bad (file turn)) (turn .loop .w) (turn .loop .inv .1) (sym (told-here (c .before)) ∙ c .if1 .left))
 
 first-not-zero-requires : tie.Need-first-not-zero-requires Inv-loop μ-loop
 first-not-zero-requires c κs = tt
@@ -83,12 +98,11 @@ first-not-zero-requires c κs = tt
 returns-2 : tie.Need-returns-2 Inv-loop μ-loop
 unfolding badHead firstBroken
 returns-2 c =
-    let at = c .before .before in
-    let given = at .before in
-    let s = given .before .before .before .before .args .file .now in
-    let e : at .loop .w ≡ 48 = omega arith in
+    let turn = c .before .before in
+    let s = file turn in
+    let passed = first-less (bad s) _ 48 (turn .loop .inv .1) (c .before .loop-test .left) in
     c .first-not-zero .ensures
-    ∙ sym (first-rest (bad s) _ 48 128 (ap (firstBelow (bad s)) (sym e) ∙ at .loop .inv .2) (λ w l. rw (lt-leb 48 w l)) (rest-zero s _ (given .before .before .block .ensures)))
+    ∙ sym (first-rest (bad s) _ 48 128 passed (λ w l. rw (lt-leb 48 w l)) (rest-zero s _ (in-hand turn .block .ensures)))
 
 pub bad-head-spec : {M : Type 1} → statement M
 bad-head-spec =

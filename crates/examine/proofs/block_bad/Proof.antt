@@ -1,31 +1,38 @@
--- `examine::block_bad` meets its contract: the words in front first; then nothing more of the first block, and of another the zeros past its records.
+-- `examine::block_bad` meets its contract: the words in front first; then nothing more of the first block, and of another the zeros past
+-- its records.
 use mathlib.Core.Path.{_≡_, sym, _∙_, ap}
 use mathlib.Core.Bool.{Bool}
 use Prim.Native.Nat.{ℕ}
 use native.Mathlib.Omega.{arith}
-use borrow.Author.Needs.{needs}
 use Rattle.rules.specs.declared.Found.{Found}
-use Rattle.rules.specs.HourFile.{hourly, word}
-use Rattle.rules.specs.Ranges.{blockRule, firstBroken}
+use Rattle.rules.specs.HourFile.{word}
 use Rattle.rules.specs.Refusals.{isBroken, foundAt}
 use Rattle.rules.proofs.Faults.{front-broken, first-block-whole, past-front}
+use Rattle.examine.specs.Broken.{brokenBelow}
 use Rattle.examine.proofs.block_bad.Statement.{statement}
 use Rattle.examine.proofs.block_bad.Tie as tie
 
--- the count that the code has read is the block's own
+-- the moment at which the words in front have been judged, by the count that the code has read
 module _ (c : tie.After-front-bad) where
-  abbrev broken : (held n : ℕ) → Bool
-  broken held n = let at = c .before .before .before .args in isBroken (firstBroken (blockRule hourly (at .n) held (at .b)) (word (at .block .now)) n)
+  abbrev given : tie.Start
+  given = c .before .before .before
 
-  as-read : broken (c .before .word .result) 128 ≡ broken (word (c .before .before .before .args .block .now) 2) 128
-  as-read = ap (λ (held : ℕ). broken held 128) (c .before .word .ensures)
+  abbrev broken : (held : ℕ) → Bool
+  broken held = let at = given .args in brokenBelow 128 (at .n) held (at .b) (at .block .now)
+
+  -- what is promised: by the block's own count
+  abbrev promised : Bool
+  promised = broken (word (given .args .block .now) 2)
+
+  as-read : promised ≡ broken (c .before .word .result)
+  as-read = ap broken (sym (c .before .word .ensures))
 
 -- past the front, what the search of the zeros found
-rest-told : (c : tie.After-first-not-zero) → broken (c .before .before .before) (word (c .before .before .before .before .before .before .args .block .now) 2) 128 ≡ isBroken (foundAt (c .first-not-zero .result))
+rest-told : (c : tie.After-first-not-zero) → promised (c .before .before .before) ≡ isBroken (foundAt (c .first-not-zero .result))
 rest-told c =
-    let at = c .before .before .before in
-    sym (as-read at)
-    ∙ ap isBroken (past-front _ _ _ _ (sym (at .front-bad .ensures) ∙ c .before .before .if1 .left) (c .before .if2 .left) ∙ sym (c .first-not-zero .ensures))
+    let front = c .before .before .before in
+    let passed = sym (front .front-bad .ensures) ∙ c .before .before .if1 .left in
+    as-read front ∙ ap isBroken (past-front _ _ _ _ passed (c .before .if2 .left) ∙ sym (c .first-not-zero .ensures))
 
 word-requires : tie.Need-word-requires
 word-requires c κs = tt
@@ -34,12 +41,12 @@ front-bad-requires : tie.Need-front-bad-requires
 front-bad-requires c κs = tt
 
 returns : tie.Need-returns
-returns c = sym (sym (as-read (c .before)) ∙ front-broken _ _ _ _ (sym (c .before .front-bad .ensures) ∙ c .if1 .taken))
+returns c = sym (as-read (c .before) ∙ front-broken _ _ _ _ (sym (c .before .front-bad .ensures) ∙ c .if1 .taken))
 
 returns-2 : tie.Need-returns-2
 returns-2 c =
-    let at = c .before .before in
-    sym (sym (as-read at) ∙ first-block-whole _ _ _ _ (sym (at .front-bad .ensures) ∙ c .before .if1 .left) (c .if2 .taken))
+    let front = c .before .before in
+    sym (as-read front ∙ first-block-whole _ _ _ _ (sym (front .front-bad .ensures) ∙ c .before .if1 .left) (c .if2 .taken))
 
 cast-first-not-zero : tie.Need-cast-first-not-zero
 cast-first-not-zero c = omega arith
@@ -54,10 +61,10 @@ first-not-zero-requires : tie.Need-first-not-zero-requires
 first-not-zero-requires c κs = tt
 
 enum-told : tie.Need-enum-told
-enum-told c = search needs
+enum-told c = c .match .keys1
 
 enum-told-2 : tie.Need-enum-told-2
-enum-told-2 c = search needs
+enum-told-2 c = c .match .keys2
 
 returns-3 : tie.Need-returns-3
 returns-3 c = sym (rest-told (c .before .before) ∙ ap (λ (f : Found). isBroken (foundAt f)) (c .enum-told .given .1))

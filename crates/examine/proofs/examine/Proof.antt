@@ -2,8 +2,9 @@
 use mathlib.Core.Path.{_≡_, sym, _∙_, ap}
 use mathlib.Core.Bool.{false}
 use mathlib.Core.Option.{none}
+use mathlib.Core.List.{List}
+use Prim.Native.Nat.{ℕ}
 use native.Mathlib.Omega.{arith}
-use borrow.Author.Needs.{needs}
 use Rattle.rules.specs.HourFile.{hourly, lengthBad}
 use Rattle.rules.specs.Refusals.{foundAt, verdict, badLength, badSum, badBlock, layoutRows, fileRows}
 use Rattle.rules.proofs.Words.{length-is-whole}
@@ -11,18 +12,33 @@ use Rattle.rules.proofs.Faults.{few-records}
 use Rattle.examine.proofs.examine.Statement.{statement}
 use Rattle.examine.proofs.examine.Tie as tie
 
-length-good : (c : tie.Else1) → lengthBad hourly (c .before .before .before .args .file .now) ≡ false
-length-good c = sym (c .before .length-bad .ensures) ∙ c .if1 .left
+-- row 1 passed: the length is good
+module _ (c : tie.Else1) where
+  abbrev file : List ℕ
+  file = c .before .before .before .args .file .now
 
-length-passed : (c : tie.Else1) → badLength hourly (c .before .before .before .args .file .now) ≡ none
-unfolding badLength
-length-passed c = rw (length-good c)
+  length-good : lengthBad hourly file ≡ false
+  length-good = sym (c .before .length-bad .ensures) ∙ c .if1 .left
 
-sums-good : (c : tie.After-enum-told) → badSum (c .before .before .before .before .before .before .args .file .now) ≡ none
-sums-good c = sym (c .before .before .bad-sum .ensures) ∙ ap foundAt (c .enum-told .given .1)
+  length-passed : badLength hourly file ≡ none
+  unfolding badLength
+  length-passed = rw length-good
 
-blocks-good : (c : tie.After-enum-told2) → badBlock hourly (c .before .before .before .before .before .before .before .before .before .args .file .now) ≡ none
-blocks-good c = sym (c .before .before .bad-block .ensures) ∙ ap foundAt (c .enum-told2 .given .1)
+-- row 2 passed: no sum is bad
+module _ (c : tie.After-enum-told) where
+  abbrev row-1 : tie.Else1
+  row-1 = c .before .before .before
+
+  sums-good : badSum (file row-1) ≡ none
+  sums-good = sym (c .before .before .bad-sum .ensures) ∙ ap foundAt (c .enum-told .given .1)
+
+-- row 3 passed: no block is bad
+module _ (c : tie.After-enum-told2) where
+  abbrev row-2 : tie.After-enum-told
+  row-2 = c .before .before .before
+
+  blocks-good : badBlock hourly (file (row-1 row-2)) ≡ none
+  blocks-good = sym (c .before .before .bad-block .ensures) ∙ ap foundAt (c .enum-told2 .given .1)
 
 length-bad-requires : tie.Need-length-bad-requires
 length-bad-requires c κs = tt
@@ -35,38 +51,44 @@ bad-sum-requires : tie.Need-bad-sum-requires
 bad-sum-requires c κs = tt
 
 enum-known-b : tie.Need-enum-known-b
-enum-known-b c = search needs
+enum-known-b c = c .match .keys1
 
 returns-2 : tie.Need-returns-2
 unfolding verdict fileRows layoutRows badLength
-returns-2 c = simp (length-good (c .before .before .before .before), sym (c .before .before .before .bad-sum .ensures) ∙ ap foundAt (c .before .b .given .1))
+returns-2 c =
+    let searched = c .before .before .before in
+    simp (length-good (searched .before), sym (searched .bad-sum .ensures) ∙ ap foundAt (c .before .b .given .1))
 
 enum-told : tie.Need-enum-told
-enum-told c = search needs
+enum-told c = c .match .keys2
 
 bad-block-requires : tie.Need-bad-block-requires
-bad-block-requires c κs = length-is-whole hourly _ (length-good (c .before .before .before)) .most
+bad-block-requires c κs = length-is-whole hourly _ (length-good (row-1 c)) .most
 
 enum-known-b-2 : tie.Need-enum-known-b-2
-enum-known-b-2 c = search needs
+enum-known-b-2 c = c .match2 .keys1
 
 returns-3 : tie.Need-returns-3
 unfolding verdict fileRows layoutRows badLength
-returns-3 c = simp (length-good (c .before .before .before .before .before .before .before), sums-good (c .before .before .before .before), sym (c .before .before .before .bad-block .ensures) ∙ ap foundAt (c .before .b2 .given .1))
+returns-3 c =
+    let searched = c .before .before .before in
+    let sums = searched .before in
+    simp (length-good (row-1 sums), sums-good sums, sym (searched .bad-block .ensures) ∙ ap foundAt (c .before .b2 .given .1))
 
 enum-told-2 : tie.Need-enum-told-2
-enum-told-2 c = search needs
+enum-told-2 c = c .match2 .keys2
 
 examine-hour-requires : tie.Need-examine-hour-requires
 examine-hour-requires c κs =
-    let at = c .before .before .before .before .before .before in
-    let s = at .before .before .before .args .file .now in
-    let whole = length-is-whole hourly s (length-good at) in
-    (omega arith, few-records s (length-passed at) (blocks-good c))
+    let length = row-1 (row-2 c) in
+    let whole = length-is-whole hourly (file length) (length-good length) in
+    (omega arith, few-records (file length) (length-passed length) (blocks-good c))
 
 returns-4 : tie.Need-returns-4
 unfolding verdict fileRows layoutRows badLength
-returns-4 c = c .examine-hour .ensures ∙ simp (length-good (c .before .before .before .before .before .before .before), sums-good (c .before .before .before .before), blocks-good (c .before))
+returns-4 c =
+    let blocks = c .before in
+    c .examine-hour .ensures ∙ simp (length-good (row-1 (row-2 blocks)), sums-good (row-2 blocks), blocks-good blocks)
 
 pub examine-spec : {M : Type 1} → statement M
 examine-spec =

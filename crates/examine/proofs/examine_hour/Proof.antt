@@ -1,46 +1,52 @@
 -- `examine::examine_hour` meets its contract: the first row that is broken. The first fault tells the first bad record.
-use mathlib.Core.Path.{sym, _∙_, ap}
+use mathlib.Core.Path.{_≡_, sym, _∙_, ap}
+use mathlib.Core.Option.{none}
 use native.Mathlib.Omega.{arith}
-use borrow.Author.Needs.{needs}
-use Rattle.rules.specs.Refusals.{foundAt, verdict, wordRows}
+use Rattle.rules.specs.HourFile.{hourly, hourOf}
+use Rattle.rules.specs.Refusals.{foundAt, badHead, verdict, wordRows}
 use Rattle.rules.proofs.Faults.{fault-record, fault-nowhere}
 use Rattle.examine.specs.Fault.{faultAt}
 use Rattle.examine.proofs.examine_hour.Statement.{statement}
 use Rattle.examine.proofs.examine_hour.Tie as tie
 
+-- row 4 passed: the head is whole
+module _ (c : tie.After-enum-told) where
+  head-good : badHead (hourOf hourly (c .before .before .before .before .args .file .now)) ≡ none
+  head-good = sym (c .before .before .bad-head .ensures) ∙ ap foundAt (c .enum-told .given .1)
+
 bad-head-requires : tie.Need-bad-head-requires
 bad-head-requires c κs = omega arith
 
 enum-known-w : tie.Need-enum-known-w
-enum-known-w c = search needs
+enum-known-w c = c .match .keys1
 
 returns : tie.Need-returns
 unfolding verdict wordRows
 returns c = simp (sym (c .before .before .before .bad-head .ensures) ∙ ap foundAt (c .before .w .given .1))
 
 enum-told : tie.Need-enum-told
-enum-told c = search needs
+enum-told c = c .match .keys2
 
 first-fault-requires : tie.Need-first-fault-requires
 first-fault-requires c κs = omega arith
 
 enum-known-i : tie.Need-enum-known-i
-enum-known-i c = search needs
+enum-known-i c = c .match2 .keys1
 
 returns-2 : tie.Need-returns-2
 unfolding verdict wordRows
 returns-2 c =
-    let head = c .before .before .before .before in
-    simp (sym (head .before .before .bad-head .ensures) ∙ ap foundAt (head .enum-told .given .1), fault-record _ _ _ (sym (c .before .before .before .first-fault .ensures) ∙ ap faultAt (c .before .i .given .1)))
+    let searched = c .before .before .before in
+    simp (head-good (searched .before), fault-record _ _ _ (sym (searched .first-fault .ensures) ∙ ap faultAt (c .before .i .given .1)))
 
 enum-told-2 : tie.Need-enum-told-2
-enum-told-2 c = search needs
+enum-told-2 c = c .match2 .keys2
 
 returns-3 : tie.Need-returns-3
 unfolding verdict wordRows
 returns-3 c =
-    let head = c .before .before .before in
-    simp (sym (head .before .before .bad-head .ensures) ∙ ap foundAt (head .enum-told .given .1), fault-nowhere _ (sym (c .before .before .first-fault .ensures) ∙ ap faultAt (c .enum-told2 .given .1)))
+    let searched = c .before .before in
+    simp (head-good (searched .before), fault-nowhere _ (sym (searched .first-fault .ensures) ∙ ap faultAt (c .enum-told2 .given .1)))
 
 pub examine-hour-spec : {M : Type 1} → statement M
 examine-hour-spec =

@@ -22,6 +22,13 @@ Inv-loop block from w₀ w = (from ≤ w) × (firstBelow (not-zero block from) w
 abbrev μ-loop : tie.MeasureT-loop
 μ-loop block from w₀ w = 128 - w
 
+-- of what the function was given
+abbrev block : tie.At-loop Inv-loop μ-loop → List ℕ
+block turn = turn .before .before .args .block .now
+
+abbrev from : tie.At-loop Inv-loop μ-loop → ℕ
+from turn = turn .before .before .args .from
+
 loop-holds : tie.Need-loop-holds Inv-loop μ-loop
 loop-holds c = (omega arith, none-below _ _ (λ w l. rw (lt-leb _ _ l)))
 
@@ -30,11 +37,11 @@ word-requires c κs = tt
 
 returns : tie.Need-returns Inv-loop μ-loop
 returns c =
-    let at = c .before .before .before in
-    let block = at .before .before .args .block .now in
-    let w = at .loop .w in
-    sym (first-hit (not-zero block (at .before .before .args .from)) w 128 (at .loop .inv .1)
-    (rw (le-leb _ _ (at .loop .inv .0), ne-eqb (word block w) 0 (λ e. c .if1 .taken (c .before .word .ensures ∙ e))))
+    let turn = c .before .before .before in
+    let w = turn .loop .w in
+    let is-not = ne-eqb (word (block turn) w) 0 (λ e. c .if1 .taken (c .before .word .ensures ∙ e)) in
+    sym (first-hit (not-zero (block turn) (from turn)) w 128 (turn .loop .inv .1)
+    (rw (le-leb _ _ (turn .loop .inv .0), is-not))
     (c .before .before .loop-test .taken))
 
 add-w : tie.Need-add-w Inv-loop μ-loop
@@ -45,13 +52,10 @@ loop-less c = omega arith
 
 loop-again : tie.Need-loop-again Inv-loop μ-loop
 loop-again c =
-    let at = c .before .before .before in
-    let block = at .before .before .args .block .now in
-    let w = at .loop .w in (
-      omega arith,
-      first-next (not-zero block (at .before .before .args .from)) w (at .loop .inv .1)
-          (rw (le-leb _ _ (at .loop .inv .0), eq-eqb (word block w) 0 (sym (c .before .word .ensures) ∙ c .if1 .left))),
-    )
+    let turn = c .before .before .before in
+    let w = turn .loop .w in
+    let is = eq-eqb (word (block turn) w) 0 (sym (c .before .word .ensures) ∙ c .if1 .left) in
+    (omega arith, first-next (not-zero (block turn) (from turn)) w (turn .loop .inv .1) (rw (le-leb _ _ (turn .loop .inv .0), is)))
 
 returns-2 : tie.Need-returns-2 Inv-loop μ-loop
 returns-2 c = sym (first-less _ _ 128 (c .before .loop .inv .1) (c .loop-test .left))

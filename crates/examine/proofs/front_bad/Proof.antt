@@ -3,10 +3,10 @@ use mathlib.Core.Path.{_≡_, refl, sym, _∙_, ap}
 use mathlib.Core.Bool.{Bool, not}
 use mathlib.Core.Option.{none}
 use mathlib.Core.List.{List}
-use Prim.Native.Nat.{ℕ, _-_, _≤_}
+use Prim.Native.Nat.{ℕ, _-_}
 use native.Mathlib.Omega.{arith}
 use Rattle.whole.specs.Below.{firstBelow}
-use Rattle.whole.proofs.Search.{first-next, first-hit}
+use Rattle.whole.proofs.Search.{first-next, first-hit, first-less}
 use Rattle.rules.specs.HourFile.{hourly, word}
 use Rattle.rules.specs.Ranges.{keeps, blockRule, firstBroken}
 use Rattle.rules.specs.Refusals.{isBroken}
@@ -17,18 +17,18 @@ abbrev bad : (block : List ℕ) (n held b w : ℕ) → Bool
 bad block n held b w = not (keeps (blockRule hourly n held b w) (word block w))
 
 abbrev Inv-loop : tie.InvT-loop
-Inv-loop block n held b w₀ w = (w ≤ 7) × (firstBelow (bad block n held b) w ≡ none)
+Inv-loop block n held b w₀ w = firstBelow (bad block n held b) w ≡ none
 
 abbrev μ-loop : tie.MeasureT-loop
 μ-loop block n held b w₀ w = 7 - w
 
--- of what the function was given
+-- whether a word breaks its rule, of the block that the function was given
 abbrev bad-here : tie.At-loop Inv-loop μ-loop → ℕ → Bool
-bad-here c = let at = c .before .before .args in bad (at .block .now) (at .n) (at .held) (at .b)
+bad-here turn = let given = turn .before .before .args in bad (given .block .now) (given .n) (given .held) (given .b)
 
 loop-holds : tie.Need-loop-holds Inv-loop μ-loop
 unfolding firstBelow
-loop-holds c = (omega arith, refl)
+loop-holds c = refl
 
 block-word-bad-requires : tie.Need-block-word-bad-requires Inv-loop μ-loop
 block-word-bad-requires c κs = tt
@@ -36,8 +36,9 @@ block-word-bad-requires c κs = tt
 returns : tie.Need-returns Inv-loop μ-loop
 unfolding firstBroken
 returns c =
-    let at = c .before .before .before in
-    sym (ap isBroken (first-hit (bad-here at) (at .loop .w) 7 (at .loop .inv .1) (sym (c .before .block-word-bad .ensures) ∙ c .if1 .taken) (c .before .before .loop-test .taken)))
+    let turn = c .before .before .before in
+    let broken = sym (c .before .block-word-bad .ensures) ∙ c .if1 .taken in
+    sym (ap isBroken (first-hit (bad-here turn) (turn .loop .w) 7 (turn .loop .inv) broken (omega arith)))
 
 add-w : tie.Need-add-w Inv-loop μ-loop
 add-w c = omega arith
@@ -47,15 +48,12 @@ loop-less c = omega arith
 
 loop-again : tie.Need-loop-again Inv-loop μ-loop
 loop-again c =
-    let at = c .before .before .before in
-    (omega arith, first-next (bad-here at) (at .loop .w) (at .loop .inv .1) (sym (c .before .block-word-bad .ensures) ∙ c .if1 .left))
+    let turn = c .before .before .before in
+    first-next (bad-here turn) (turn .loop .w) (turn .loop .inv) (sym (c .before .block-word-bad .ensures) ∙ c .if1 .left)
 
 returns-2 : tie.Need-returns-2 Inv-loop μ-loop
 unfolding firstBroken
-returns-2 c =
-    let at = c .before in
-    let e : at .loop .w ≡ 7 = omega arith in
-    sym (ap isBroken (ap (firstBelow (bad-here at)) (sym e) ∙ at .loop .inv .1))
+returns-2 c = sym (ap isBroken (first-less (bad-here (c .before)) _ 7 (c .before .loop .inv) (omega arith)))
 
 pub front-bad-spec : {M : Type 1} → statement M
 front-bad-spec =

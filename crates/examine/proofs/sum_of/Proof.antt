@@ -1,5 +1,6 @@
 -- `examine::sum_of` meets its contract. The loop's invariant: the sum, modulo 2^32, of the words passed.
 use mathlib.Core.Path.{_≡_, refl, _∙_, ap}
+use mathlib.Core.List.{List}
 use Prim.Native.Nat.{ℕ, _-_, _%_, _≤_}
 use native.Mathlib.Omega.{arith}
 use Rattle.whole.specs.Below.{sumBelow}
@@ -13,6 +14,9 @@ Inv-loop block sum₀ w₀ sum w = (w ≤ 128) × (sum ≡ sumBelow (word block)
 
 abbrev μ-loop : tie.MeasureT-loop
 μ-loop block sum₀ w₀ sum w = 128 - w
+
+abbrev block : tie.At-loop Inv-loop μ-loop → List ℕ
+block turn = turn .before .before .args .block .now
 
 loop-holds : tie.Need-loop-holds Inv-loop μ-loop
 unfolding sumBelow
@@ -32,13 +36,14 @@ loop-less c = omega arith
 
 loop-again : tie.Need-loop-again Inv-loop μ-loop
 loop-again c =
-    let at = c .before .before .before in
-    (omega arith, wraps-on 0x1_0000_0000 (word (at .before .before .args .block .now)) (at .loop .w) (at .loop .sum) (c .before .word .result) (c .added .result) (at .loop .inv .1) (c .before .word .ensures) (c .added .ensures))
+    let turn = c .before .before .before in
+    let so-far = turn .loop .inv .1 in
+    (omega arith, wraps-on 0x1_0000_0000 (word (block turn)) (turn .loop .w) _ _ _ so-far (c .before .word .ensures) (c .added .ensures))
 
 returns : tie.Need-returns Inv-loop μ-loop
 returns c =
     let e : c .before .loop .w ≡ 128 = omega arith in
-    c .before .loop .inv .1 ∙ ap (λ (w : ℕ). sumBelow (word (c .before .before .before .args .block .now)) w % 0x1_0000_0000) e
+    c .before .loop .inv .1 ∙ ap (λ (w : ℕ). sumBelow (word (block (c .before))) w % 0x1_0000_0000) e
 
 pub sum-of-spec : {M : Type 1} → statement M
 sum-of-spec =

@@ -1,17 +1,33 @@
 -- `hourfile::body` meets its contract: each part by the tests that led to it; 480 is what lies between the two ends.
 use mathlib.Core.Path.{_≡_, sym, _∙_, ap}
+use mathlib.Core.Bool.{false}
+use mathlib.Core.List.{List}
 use Prim.Native.Nat.{ℕ, _+_, _*_, _-_}
 use native.Mathlib.Omega.{arith}
 use lib.Dec.{leb}
 use lib.ListN.{take, drop}
 use borrow.Author.Tests.{lt-leb}
-use Rattle.rules.specs.HourFile.{hourly, blocks, body}
+use Rattle.rules.specs.HourFile.{hourly, lengthBad, blocks, body}
 use Rattle.rules.proofs.Words.{body-empty-bad, body-empty-past}
 use Rattle.hourfile.proofs.body.Statement.{statement}
 use Rattle.hourfile.proofs.body.Tie as tie
 
 gap : (k : ℕ) → (512 * k + 512) - (512 * k + 32) ≡ 480
 gap k = omega arith
+
+-- past both tests: the length is good and the block is there
+module _ (c : tie.Else2) where
+  abbrev given : tie.Start
+  given = c .before .before .before .before .before
+
+  abbrev file : List ℕ
+  file = given .args .file .now
+
+  length-good : lengthBad hourly file ≡ false
+  length-good = sym (c .before .before .before .length-bad .ensures) ∙ c .before .before .if1 .left
+
+  block-there : leb (blocks file) (given .args .at) ≡ false
+  block-there = ap (λ (n : ℕ). leb n (given .args .at)) (sym (c .before .blocks2 .ensures)) ∙ lt-leb _ _ (c .if2 .left)
 
 length-bad-requires : tie.Need-length-bad-requires
 length-bad-requires c κs = tt
@@ -29,7 +45,7 @@ slice-aggregate-result-2 : tie.Need-slice-aggregate-result-2
 slice-aggregate-result-2 c = omega arith
 
 returns-2 : tie.Need-returns-2
-returns-2 c = sym (body-empty-past hourly _ _ (rw (← c .before .before .blocks2 .ensures) (c .before .if2 .taken)))
+returns-2 c = sym (body-empty-past hourly _ _ (omega arith))
 
 mul-from : tie.Need-mul-from
 unfolding blocks
@@ -60,10 +76,9 @@ part-result-end c = omega arith
 returns-3 : tie.Need-returns-3
 unfolding body
 returns-3 c =
-    let s = c .before .before .before .before .before .before .args .file .now in
-    let b = c .before .before .before .before .before .before .args .at in
-    ap (λ (m : ℕ). take m (drop (512 * b + 32) s)) (gap b)
-    ∙ simp (sym (c .before .before .before .before .length-bad .ensures) ∙ c .before .before .before .if1 .left, ap (λ (n : ℕ). leb n b) (sym (c .before .before .blocks2 .ensures)) ∙ lt-leb _ _ (c .before .if2 .left))
+    let tested = c .before in
+    let at = given tested .args .at in
+    ap (λ (m : ℕ). take m (drop (512 * at + 32) (file tested))) (gap at) ∙ simp (length-good tested, block-there tested)
 
 pub body-spec : {M : Type 1} → statement M
 body-spec =

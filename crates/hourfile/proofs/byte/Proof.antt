@@ -1,22 +1,18 @@
 -- `hourfile::byte` meets its contract: a byte past the end is the default.
-use mathlib.Core.Path.{sym}
+use mathlib.Core.Path.{refl, sym}
 use native.Mathlib.Omega.{arith}
 use lib.ListN.{List·getD-eq-default}
-use borrow.Author.Needs.{needs}
 use Rattle.hourfile.proofs.byte.Statement.{statement}
 use Rattle.hourfile.proofs.byte.Tie as tie
 
-shared-slice-read-wide : tie.Need-shared-slice-read-wide
-shared-slice-read-wide c = omega arith
-
-wide-requires : tie.Need-wide-requires
-wide-requires c κs = tt
+shared-slice-read-result : tie.Need-shared-slice-read-result
+shared-slice-read-result c = omega arith
 
 returns : tie.Need-returns
-returns c = search needs
+returns c = refl
 
 returns-2 : tie.Need-returns-2
-returns-2 c = (sym (List·getD-eq-default (c .before .before .args .part .now) 0 (c .if1 .left)), omega arith)
+returns-2 c = sym (List·getD-eq-default (c .before .args .part .now) 0 (c .if1 .left))
 
 pub byte-spec : {M : Type 1} → statement M
-byte-spec = tie.close (tie.spec shared-slice-read-wide wide-requires returns returns-2)
+byte-spec = tie.close (tie.spec shared-slice-read-result returns returns-2)

@@ -1,4 +1,4 @@
--- `hourfile::cut_word` meets its contract: four bytes, each below 256.
+-- `hourfile::cut_word` meets its contract: four bytes, those past the end 0, joined as the definition joins them.
 use native.Mathlib.Omega.{arith}
 use Rattle.rules.specs.HourFile.{word}
 use Rattle.hourfile.proofs.cut_word.Statement.{statement}
@@ -16,23 +16,11 @@ add-byte c = omega arith
 byte-requires-2 : tie.Need-byte-requires-2
 byte-requires-2 c κs = tt
 
-mul-result : tie.Need-mul-result
-mul-result c = omega arith
-
-add-result : tie.Need-add-result
-add-result c = omega arith
-
 add-byte-2 : tie.Need-add-byte-2
 add-byte-2 c = omega arith
 
 byte-requires-3 : tie.Need-byte-requires-3
 byte-requires-3 c κs = tt
-
-mul-result-2 : tie.Need-mul-result-2
-mul-result-2 c = omega arith
-
-add-result-2 : tie.Need-add-result-2
-add-result-2 c = omega arith
 
 add-byte-3 : tie.Need-add-byte-3
 add-byte-3 c = omega arith
@@ -40,11 +28,8 @@ add-byte-3 c = omega arith
 byte-requires-4 : tie.Need-byte-requires-4
 byte-requires-4 c κs = tt
 
-mul-result-3 : tie.Need-mul-result-3
-mul-result-3 c = omega arith
-
-add-result-3 : tie.Need-add-result-3
-add-result-3 c = omega arith
+joined-requires : tie.Need-joined-requires
+joined-requires c κs = tt
 
 returns : tie.Need-returns
 unfolding word
@@ -58,14 +43,9 @@ cut-word-spec =
     byte-requires
     add-byte
     byte-requires-2
-    mul-result
-    add-result
     add-byte-2
     byte-requires-3
-    mul-result-2
-    add-result-2
     add-byte-3
     byte-requires-4
-    mul-result-3
-    add-result-3
+    joined-requires
     returns)

@@ -1,4 +1,4 @@
--- `hourfile::whole_word` meets its contract: four bytes, each below 256.
+-- `hourfile::whole_word` meets its contract: four bytes that are there, joined as the definition joins them.
 use native.Mathlib.Omega.{arith}
 use Rattle.rules.specs.HourFile.{word}
 use Rattle.hourfile.proofs.whole_word.Statement.{statement}
@@ -7,81 +7,45 @@ use Rattle.hourfile.proofs.whole_word.Tie as tie
 mul-at : tie.Need-mul-at
 mul-at c = omega arith
 
-shared-slice-read-wide : tie.Need-shared-slice-read-wide
-shared-slice-read-wide c = omega arith
+shared-slice-read-joined : tie.Need-shared-slice-read-joined
+shared-slice-read-joined c = omega arith
 
-wide-requires : tie.Need-wide-requires
-wide-requires c κs = tt
+add-joined : tie.Need-add-joined
+add-joined c = omega arith
 
-add-wide : tie.Need-add-wide
-add-wide c = omega arith
+shared-slice-read-joined-2 : tie.Need-shared-slice-read-joined-2
+shared-slice-read-joined-2 c = omega arith
 
-shared-slice-read-wide-2 : tie.Need-shared-slice-read-wide-2
-shared-slice-read-wide-2 c = omega arith
+add-joined-2 : tie.Need-add-joined-2
+add-joined-2 c = omega arith
 
-wide-requires-2 : tie.Need-wide-requires-2
-wide-requires-2 c κs = tt
+shared-slice-read-joined-3 : tie.Need-shared-slice-read-joined-3
+shared-slice-read-joined-3 c = omega arith
 
-mul-result : tie.Need-mul-result
-mul-result c = omega arith
+add-joined-3 : tie.Need-add-joined-3
+add-joined-3 c = omega arith
 
-add-result : tie.Need-add-result
-add-result c = omega arith
+shared-slice-read-joined-4 : tie.Need-shared-slice-read-joined-4
+shared-slice-read-joined-4 c = omega arith
 
-add-wide-2 : tie.Need-add-wide-2
-add-wide-2 c = omega arith
-
-shared-slice-read-wide-3 : tie.Need-shared-slice-read-wide-3
-shared-slice-read-wide-3 c = omega arith
-
-wide-requires-3 : tie.Need-wide-requires-3
-wide-requires-3 c κs = tt
-
-mul-result-2 : tie.Need-mul-result-2
-mul-result-2 c = omega arith
-
-add-result-2 : tie.Need-add-result-2
-add-result-2 c = omega arith
-
-add-wide-3 : tie.Need-add-wide-3
-add-wide-3 c = omega arith
-
-shared-slice-read-wide-4 : tie.Need-shared-slice-read-wide-4
-shared-slice-read-wide-4 c = omega arith
-
-wide-requires-4 : tie.Need-wide-requires-4
-wide-requires-4 c κs = tt
-
-mul-result-3 : tie.Need-mul-result-3
-mul-result-3 c = omega arith
-
-add-result-3 : tie.Need-add-result-3
-add-result-3 c = omega arith
+joined-requires : tie.Need-joined-requires
+joined-requires c κs = tt
 
 returns : tie.Need-returns
 unfolding word
-returns c = omega arith
+returns c = c .joined .ensures
 
 pub whole-word-spec : {M : Type 1} → statement M
 whole-word-spec =
     tie.close
     (tie.spec
     mul-at
-    shared-slice-read-wide
-    wide-requires
-    add-wide
-    shared-slice-read-wide-2
-    wide-requires-2
-    mul-result
-    add-result
-    add-wide-2
-    shared-slice-read-wide-3
-    wide-requires-3
-    mul-result-2
-    add-result-2
-    add-wide-3
-    shared-slice-read-wide-4
-    wide-requires-4
-    mul-result-3
-    add-result-3
+    shared-slice-read-joined
+    add-joined
+    shared-slice-read-joined-2
+    add-joined-2
+    shared-slice-read-joined-3
+    add-joined-3
+    shared-slice-read-joined-4
+    joined-requires
     returns)

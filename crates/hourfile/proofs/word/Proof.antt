@@ -1,7 +1,6 @@
 -- `hourfile::word` meets its contract: a word past the end is 0.
 use mathlib.Core.Path.{sym}
 use native.Mathlib.Omega.{arith}
-use borrow.Author.Needs.{needs}
 use Rattle.rules.proofs.PartWords.{word-past}
 use Rattle.hourfile.proofs.word.Statement.{statement}
 use Rattle.hourfile.proofs.word.Tie as tie
@@ -10,13 +9,13 @@ whole-word-requires : tie.Need-whole-word-requires
 whole-word-requires c κs = omega arith
 
 returns : tie.Need-returns
-returns c = search needs
+returns c = c .whole-word .ensures
 
 cut-word-requires : tie.Need-cut-word-requires
 cut-word-requires c κs = omega arith
 
 returns-2 : tie.Need-returns-2
-returns-2 c = search needs
+returns-2 c = c .cut-word .ensures
 
 returns-3 : tie.Need-returns-3
 returns-3 c =
