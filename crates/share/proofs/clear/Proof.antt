@@ -33,7 +33,10 @@ loop-less : tie.Need-loop-less Inv-loop μ-loop
 loop-less c = omega arith
 
 loop-again : tie.Need-loop-again Inv-loop μ-loop
-loop-again c = (omega arith, rw (c .before .loop .inv .1) (replacing-next (λ j. 0) (c .before .loop .i) (c .before .before .args .out .now) (omega arith)))
+loop-again c = (
+  omega arith,
+  rw (c .before .loop .inv .1) (replacing-next (λ j. 0) (c .before .loop .i) (c .before .before .args .out .now) (omega arith)),
+)
 
 same-length : tie.Need-same-length Inv-loop μ-loop
 same-length c = kept (c .before)

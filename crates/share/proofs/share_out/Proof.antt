@@ -20,7 +20,8 @@ same-length-2 c = search needs
 
 returns : tie.Need-returns
 returns c =
-    shared-out (c .before .before .before .before .before .before .before .before .before .before .before .before .before .before .before .before .before .pre)
+    shared-out
+    (c .before .before .before .before .before .before .before .before .before .before .before .before .before .before .before .before .before .pre)
     (c .before .before .before .before .before .before .before .before .before .before .before .divide .ensures)
     (c .before .before .before .before .hand-out .ensures)
 

@@ -40,7 +40,8 @@ told r k e f = f ∙ sym (ap (λ (x : Kind). accountedAs x (r .A) (r .H)) e)
 
 returns : tie.Need-returns
 unfolding accountedAs
-returns c = told _ Generator (c .enum-told .given .1) (stored (metered (at-lost (c .before .before)) :- lost (at-lost (c .before .before))) tt)
+returns c =
+    told _ Generator (c .enum-told .given .1) (stored (metered (at-lost (c .before .before)) :- lost (at-lost (c .before .before))) tt)
 
 returns-2 : tie.Need-returns-2
 unfolding accountedAs
