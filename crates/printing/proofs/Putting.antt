@@ -40,5 +40,6 @@ part-put o ys at end l m e =
     }
 
 -- at the start of a list that is long enough: the text, and the rest as it was
-pub put-first : {o p xs : List ℕ} {next : ℕ} → Put o 0 xs next p → length xs ≤ length o → (next ≡ length xs) × (p ≡ xs ++ drop (length xs) o)
+pub put-first : {o p xs : List ℕ} {next : ℕ} → Put o 0 xs next p → length xs ≤ length o →
+    (next ≡ length xs) × (p ≡ xs ++ drop (length xs) o)
 put-first {o} {p} {xs} f l = (f .next-is ∙ zero-add (length xs), f .after-is ∙ sets-eq xs o 0 (omega arith) ∙ rw zero-add)

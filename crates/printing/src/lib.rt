@@ -1,5 +1,5 @@
-// The lines of a statement (document 01, "The printed statement") as bytes, from numbers alone: each is put into a lent slice, and the place
-// after it is handed back.
+// The lines of a statement (document 01, "The printed statement") as bytes, from numbers alone: each is put into a lent slice, and the
+// place after it is handed back.
 ghost use Prim.Native.Nat.{_+_, _≤_, _<_};
 ghost use lib.IntN.{natAbs};
 ghost use lib.ListN.{length, replicate};

@@ -86,7 +86,8 @@ isExport k = eqb (kindNumber k) 5
 abbrev pub isLoad : Kind → Bool
 isLoad k = isRealTime k || isProfile k
 
--- "The sums": S scheduled, A actual, J adjustment, N ancillary, O obligation, M maximum, F and H the scheduled and the hour-ahead multiplier
+-- "The sums": S scheduled, A actual, J adjustment, N ancillary, O obligation, M maximum, F and H the scheduled and the hour-ahead
+-- multiplier
 pub record Entry : Type 0 where
   pub kind : Kind
   pub S : ℤ

@@ -39,7 +39,8 @@ returns c =
     let part : length (midOf at (at + 14 - at) o) ≡ 14 = mid-len at (at + 14) o (s .pre .0) ∙ omega arith in
     let field : w .last .1 .0 ≡ write (replicate 14 32) (s .args .cents) .field =
     w .ensures .1 ∙ rw (read-back (s .fits .cents)) (written-in-14 (midOf at (at + 14 - at) o) (s .args .cents) part (s .pre .1)) in
-    let width : length (w .last .1 .0) ≡ at + 14 - at = ap length field ∙ field-has-width (replicate 14 32) (s .args .cents) ∙ omega arith in
+    let width : length (w .last .1 .0) ≡ at + 14 - at = ap length field ∙ field-has-width (replicate 14 32) (s .args .cents)
+    ∙ omega arith in
     put-as field (part-put o (w .last .1 .0) at (at + 14) (omega arith) (s .pre .0) width)
 
 pub put-charge-spec : {M : Type 1} → statement M

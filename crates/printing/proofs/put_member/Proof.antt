@@ -29,11 +29,13 @@ line-by-parts m tens ones z l t o =
 
 charge-put : (c : tie.After-put-charge) → let s = c .before .before .before .before .before in
     Put
-    (set (set (set (s .args .out .now) (s .args .at) (c .before .before .before .digit .result)) (s .args .at + 1) (c .before .before .digit2 .result)) (s .args .at + 2) 32)
+    (set (set (set (s .args .out .now) (s .args .at) (c .before .before .before .digit .result)) (s .args .at + 1)
+    (c .before .before .digit2 .result)) (s .args .at + 2) 32)
     (s .args .at + 3) (write (replicate 14 32) (s .args .cents) .field) (c .put-charge .result) (c .put-charge .last .0)
 charge-put c = let s = c .before .before .before .before .before in rw (← read-back (s .fits .cents)) (c .put-charge .ensures)
 
-kept-length : (c : tie.After-put-charge) → length (c .put-charge .last .0) ≡ length (c .before .before .before .before .before .args .out .now)
+kept-length : (c : tie.After-put-charge) →
+    length (c .put-charge .last .0) ≡ length (c .before .before .before .before .before .args .out .now)
 kept-length c = put-length (charge-put c) ∙ simp length-set
 
 digit-requires : tie.Need-digit-requires
@@ -82,7 +84,8 @@ returns c =
     let b = c .before .before in
     let p = b .before .before .before .before .before in
     let s = p .before .before .before .before .before in
-    put-as (line-by-parts (s .args .member) _ _ (s .args .cents) (s .pre .1) (p .before .before .before .digit .ensures) (p .before .before .digit2 .ensures))
+    put-as (line-by-parts (s .args .member) _ _ (s .args .cents) (s .pre .1) (p .before .before .before .digit .ensures)
+    (p .before .before .digit2 .ensures))
     (put-on (put-on (three-stored (s .args .out .now) (s .args .at) _ _ 32) (charge-put p)) (b .put-bytes .ensures))
 
 pub put-member-spec : {M : Type 1} → statement M

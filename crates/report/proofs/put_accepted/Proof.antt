@@ -13,11 +13,13 @@ use Rattle.report.proofs.put_accepted.Statement.{statement}
 use Rattle.report.proofs.put_accepted.Tie as tie
 
 -- the numbers that were read are the hour's
-line-1 : (c : tie.After-put-first-line) → let s = c .before .before .before .before .before .before .before .args in let h = hourIn (s .file .now) in
+line-1 : (c : tie.After-put-first-line) → let s = c .before .before .before .before .before .before .before .args in
+    let h = hourIn (s .file .now) in
     Put (s .out .now) 0 (firstLine (hourNumber h) (members h) (h .count)) (c .put-first-line .result) (c .put-first-line .last .0)
 line-1 c =
     let known = c .before .before in
-    rw (← known .before .before .head-word .ensures, ← known .before .members .ensures, ← known .records .ensures) (c .put-first-line .ensures)
+    rw (← known .before .before .head-word .ensures, ← known .before .members .ensures, ← known .records .ensures)
+    (c .put-first-line .ensures)
 
 head-word-requires : tie.Need-head-word-requires
 head-word-requires c κs = search needs

@@ -47,7 +47,8 @@ members-requires : tie.Need-members-requires Inv-loop μ-loop
 members-requires c κs = tt
 
 loop-holds : tie.Need-loop-holds Inv-loop μ-loop
-loop-holds c = let s = c .before .before .before .args in (omega arith, c .members .ensures, put-none (hourIn (s .file .now)) (s .out .now) (s .at))
+loop-holds c =
+    let s = c .before .before .before .args in (omega arith, c .members .ensures, put-none (hourIn (s .file .now)) (s .out .now) (s .at))
 
 mul-put-member : tie.Need-mul-put-member Inv-loop μ-loop
 mul-put-member c =
@@ -93,7 +94,8 @@ same-length c = put-length (c .before .loop .inv .2)
 returns : tie.Need-returns Inv-loop μ-loop
 returns c =
     let l = c .before .loop in
-    let all : l .m ≡ Record.members (hourIn (c .before .before .before .before .before .args .file .now)) = omega (arith, l .inv .0, l .inv .1) in
+    let all : l .m ≡ Record.members (hourIn (c .before .before .before .before .before .args .file .now)) =
+    omega (arith, l .inv .0, l .inv .1) in
     rw all at (l .inv .2)
 
 pub put-members-spec : {M : Type 1} → statement M

@@ -26,7 +26,13 @@ returns : tie.Need-returns
 returns c =
     let t = c .before .before .before .before .before in
     let s = t .before .before .before .before .before .before .before in
-    answered (record { charges-room = s .pre; shares-room = search needs; deviations-room = search needs; amounts-room = search needs; counts-room = search needs }) (t .settle .ensures)
+    answered (record {
+      charges-room = s .pre;
+      shares-room = search needs;
+      deviations-room = search needs;
+      amounts-room = search needs;
+      counts-room = search needs;
+    }) (t .settle .ensures)
 
 pub settle-charges-spec : {M : Type 1} → statement M
 settle-charges-spec =

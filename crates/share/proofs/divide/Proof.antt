@@ -1,5 +1,5 @@
 -- `share::divide` meets its contract: after i demands, the first i places of both buffers and the sum of the whole parts are the
--- definitions'. Assumes nothing.
+-- definitions'.
 use mathlib.Core.Path.{_≡_, sym, _∙_, ap}
 use Prim.Native.Nat.{_+_, _-_, _≤_}
 use native.Mathlib.Omega.{arith}

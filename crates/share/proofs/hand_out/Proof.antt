@@ -1,4 +1,4 @@
--- `share::hand_out` meets its contract: after k rounds, k units are handed out. Assumes nothing.
+-- `share::hand_out` meets its contract: after k rounds, k units are handed out.
 use mathlib.Core.Path.{_≡_}
 use Prim.Native.Nat.{_-_, _≤_, _<_}
 use native.Mathlib.Omega.{arith}
@@ -22,8 +22,8 @@ module _ (c : tie.After-largest Inv-loop μ-loop) where
       (c .largest .ensures)
 
   in-rests : c .largest .result < length (c .before .before .before .loop .rests)
-  in-rests = omega
-      (arith, best-in, rests-length (c .before .before .before .before .before .before .pre) (c .before .before .before .loop .inv .1))
+  in-rests =
+      omega (arith, best-in, rests-length (c .before .before .before .before .before .before .pre) (c .before .before .before .loop .inv .1))
 
   in-out : c .largest .result < length (c .before .before .before .loop .out)
   in-out =

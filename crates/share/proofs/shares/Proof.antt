@@ -1,4 +1,4 @@
--- `share::shares` meets its contract. Assumes nothing.
+-- `share::shares` meets its contract: nothing where nobody demands anything, else shared out in room of its own.
 use mathlib.Core.Path.{sym, _∙_}
 use native.Mathlib.Omega.{arith}
 use lib.ListN.{length}

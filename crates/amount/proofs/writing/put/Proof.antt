@@ -41,7 +41,9 @@ module _ (f : List ℕ) (start : ℕ) (z : ℤ) (fits : start + length (amountTe
   blanks-before : length f - length (amountText z) ≡ start
   blanks-before = omega arith
 
-  one-run : sets (sets (set blanked start (signByte z)) (start + length (signByte z ∷ [])) dollars) (start + length (signByte z ∷ dollars)) cents ≡ sets blanked start (amountText z)
+  one-run :
+      sets (sets (set blanked start (signByte z)) (start + length (signByte z ∷ [])) dollars) (start + length (signByte z ∷ dollars)) cents
+      ≡ sets blanked start (amountText z)
   unfolding amountText
   one-run = rw (stored-on (signByte z ∷ []) dollars blanked start) (stored-on (signByte z ∷ dollars) cents blanked start)
 
@@ -80,8 +82,8 @@ slice-write-field c = omega (
 put-digits-requires : tie.Need-put-digits-requires
 put-digits-requires c κs =
     let s = c .before .before .before .before .before .before .before .before in
-    let h : length (decimal (natAbs (s .args .cents) / 100)) ≤ length (s .args .field .now) - 3 = omega
-    (arith, text-length (s .args .cents)) in (
+    let h : length (decimal (natAbs (s .args .cents) / 100)) ≤ length (s .args .field .now) - 3 =
+    omega (arith, text-length (s .args .cents)) in (
       rw (sized (c .before .before .before .before .before .before)) h,
       simp length-set (omega (arith, c .before .before .before .before .put-blanks .kept .0)),
     )

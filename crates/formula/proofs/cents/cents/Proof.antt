@@ -1,4 +1,4 @@
--- `formula::cents::cents` meets its contract. Assumes nothing.
+-- `formula::cents::cents` meets its contract: half a cent away from zero, then the quotient toward it.
 use mathlib.Core.Path.{_∙_}
 use lib.Dec.{lit<}
 use native.Mathlib.Omega.{arith}

@@ -1,4 +1,4 @@
--- `formula::deviation::accounted` meets its contract: every step fits, and so what is stored is what is meant. Assumes nothing.
+-- `formula::deviation::accounted` meets its contract: every step fits, and so what is stored is what is meant.
 use mathlib.Core.Path.{_≡_, refl, sym, _∙_, ap}
 use lib.IntN.{ℤ, pos, +ℤ-idl}
 use Rattle.whole.proofs.Machine.{Num, #, _:-_, _:*_, fits, stored}

@@ -56,7 +56,8 @@ returns c =
     let all : l .i ≡ length (s .text .now) = omega arith in
     record {
       next-is = omega arith;
-      after-is = l .inv .2 ∙ rw (all, take-length (s .text .now)) (sym (sets-eq (s .text .now) (s .out .now) (s .at) (c .before .before .pre)));
+      after-is =
+          l .inv .2 ∙ rw (all, take-length (s .text .now)) (sym (sets-eq (s .text .now) (s .out .now) (s .at) (c .before .before .pre)));
     }
 
 pub put-bytes-spec : {M : Type 1} → statement M
