@@ -25,7 +25,8 @@ one-reading s r t v w = ap₂ (λ (a : Answer) (z : ℤ). record { answer = a; a
 
 -- ---- written, then read
 
-pub written-is-read : (f g : List ℕ) (z : ℤ) (r : Reading) → Wrote f z Accepted g → HasRead g r → r ≡ record { answer = Accepted; amount = z }
+pub written-is-read : (f g : List ℕ) (z : ℤ) (r : Reading) → Wrote f z Accepted g → HasRead g r →
+    r ≡ record { answer = Accepted; amount = z }
 written-is-read f g z r w h = one-reading g r (record { answer = Accepted; amount = z }) h (record {
   verdict-is = sym (ap (λ (a : ReadAmount). a .verdict) reads);
   amount-is = sym (ap (λ (a : ReadAmount). a .amount) reads);
@@ -36,7 +37,8 @@ written-is-read f g z r w h = one-reading g r (record { answer = Accepted; amoun
 
 -- ---- read, then written at the same width
 
-pub read-is-written : (s f g : List ℕ) (z : ℤ) (a : Answer) → HasRead s (record { answer = Accepted; amount = z }) → length f ≡ length s → Wrote f z a g → (a ≡ Accepted) × (g ≡ s)
+pub read-is-written : (s f g : List ℕ) (z : ℤ) (a : Answer) → HasRead s (record { answer = Accepted; amount = z }) → length f ≡ length s →
+    Wrote f z a g → (a ≡ Accepted) × (g ≡ s)
 read-is-written s f g z a h l w = one-writing f z a Accepted g s w (record {
   verdict-is = sym (ap (λ (v : Written). v .verdict) writes);
   field-is = sym (ap (λ (v : Written). v .field) writes);

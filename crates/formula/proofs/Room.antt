@@ -21,7 +21,8 @@ module _ {h : Hour} (kept : HourKept h) (n : ℕ) (there : n < h .count) where
 
   demand-most : demandOf h n ≤ 100000
   unfolding demandOf
-  demand-most = cond-ind (isLoad (entryOf h n .kind)) (demand h n) 0 (λ d. d ≤ 100000) (λ t. kept .record-kept n there .demand-most) (λ t. omega arith)
+  demand-most = cond-ind (isLoad (entryOf h n .kind)) (demand h n) 0 (λ d. d ≤ 100000) (λ t. kept .record-kept n there .demand-most)
+      (λ t. omega arith)
 
   demand-fits : getD (tallyAfter h n .demand) (areaOf h n) 0 + demandOf h n < 0x1_0000_0000_0000_0000
   demand-fits = rw (tally-demand h (areaOf h n) area-there n) (omega (arith, demand-running kept (areaOf h n) n (omega arith), demand-most))
@@ -32,7 +33,8 @@ module _ {h : Hour} (kept : HourKept h) (n : ℕ) (there : n < h .count) where
     area-there = area-there;
     records-fit = omega (arith, tally-records h n, kept .count-most);
     demand-fits = demand-fits;
-    energy-fits = rw (tally-energy h (areaOf h n) area-there n) (u-fits (energy-running kept (areaOf h n) n (omega arith) u+ accounted-under (kept .record-kept n there .entry-kept)) tt);
+    energy-fits = rw (tally-energy h (areaOf h n) area-there n)
+        (u-fits (energy-running kept (areaOf h n) n (omega arith) u+ accounted-under (kept .record-kept n there .entry-kept)) tt);
   }
 
   -- The line of its member has room for its grains.

@@ -1,4 +1,3 @@
--- Laws that the proofs of `report` share, and what its promise alone says.
-pub mod Putting
+-- What settling's promise says to the statement, and what the statement's own promise says.
 pub mod Settled
 pub mod Promised

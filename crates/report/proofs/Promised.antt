@@ -28,10 +28,12 @@ module _ {s out after : List ℕ} {n : ℕ} (f : HasStated s out n after) where
   nothing-put short = (f .count-is ∙ rw (lt-ltb (length out) 615 short), f .out-is ∙ rw (lt-ltb (length out) 615 short))
 
 -- a reader that stops one byte past the longest file prints the statement of its whole input
-pub cut-input-stated : (s : List ℕ) {out after : List ℕ} {n : ℕ} → 615 ≤ length out → HasStated (take 13313 s) out n after → take n after ≡ statement s
+pub cut-input-stated : (s : List ℕ) {out after : List ℕ} {n : ℕ} → 615 ≤ length out → HasStated (take 13313 s) out n after →
+    take n after ≡ statement s
 cut-input-stated s room f = whole-statement f room ∙ cut-input-same s
 
 -- The bytes put are bytes of the slice.
 pub count-within : {s out after : List ℕ} {n : ℕ} → HasStated s out n after → n ≤ length after
 unfolding stated
-count-within {s} {out} f = rw (f .count-is, f .out-is) (split (ltb (length out) 615) (λ e. rw e zero-le) (λ e. rw (e, length-append) (omega arith)))
+count-within {s} {out} f =
+    rw (f .count-is, f .out-is) (split (ltb (length out) 615) (λ e. rw e zero-le) (λ e. rw (e, length-append) (omega arith)))

@@ -1,4 +1,2 @@
--- What the contracts of `report` cite beside `rules`.
-pub mod Put
-pub mod Lines
+-- What the contracts of `report` cite beside `rules` and `printing`.
 pub mod Stated

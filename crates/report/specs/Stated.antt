@@ -1,12 +1,19 @@
--- What printing a statement answers and leaves in the caller's slice.
-use Prim.Native.Nat.{ℕ, _≤_}
+-- What printing a statement answers and leaves in the caller's slice, and what its steps ask.
+use Prim.Native.Nat.{ℕ, _≤_, _<_}
 use mathlib.Core.Path.{_≡_}
 use mathlib.Core.Bool.{cond}
 use mathlib.Core.List.{List, _++_}
-use lib.IntN.{ℤ}
-use lib.ListN.{length, drop}
+use lib.IntN.{ℤ, pos}
+use lib.ListN.{length, drop, getD}
 use lib.Dec.{ltb}
+use Rattle.rules.specs.declared.Answer.{Answer}
+use Rattle.rules.specs.declared.Answer.the-variants.{Accepted}
+use Rattle.rules.specs.Record.{members}
+use Rattle.rules.specs.Charge.{charge}
+use Rattle.rules.specs.Refusals.{verdictOf, verdict, hourRows}
 use Rattle.rules.specs.Statement.{statement}
+use Rattle.rules.specs.Kept.{FileKept}
+use Rattle.hour.specs.Hour.{hourIn}
 
 -- the bytes put, and the slice afterwards
 pub record Stated : Type 0 where
@@ -24,11 +31,13 @@ pub record HasStated (s out : List ℕ) (count : ℕ) (after : List ℕ) : Type 
   pub count-is : count ≡ stated s out .count
   pub out-is : after ≡ stated s out .out
 
--- room for every hour, and for every statement
-pub record Rooms (charges shares deviations amounts : List ℤ) (counts out : List ℕ) : Type 0 where
-  pub charges-room : 32 ≤ length charges
-  pub shares-room : 250 ≤ length shares
-  pub deviations-room : 250 ≤ length deviations
-  pub amounts-room : 32 ≤ length amounts
-  pub counts-room : 32 ≤ length counts
-  pub out-room : 615 ≤ length out
+-- the file keeps its ranges, and its hour's charges stand in the first places
+pub record Charged (s : List ℕ) (charges : List ℤ) : Type 0 where
+  pub kept : FileKept s
+  pub room : members (hourIn s) ≤ length charges
+  pub charges-are : (m : ℕ) → m < members (hourIn s) → getD charges m (pos 0) ≡ charge (hourIn s) m
+
+-- the answer that rows 1 to 7 give, and the charges where it is acceptance
+pub record Answered (s : List ℕ) (answer : Answer) (charges : List ℤ) : Type 0 where
+  pub verdict-is : verdictOf answer ≡ verdict (hourRows s)
+  pub charged : answer ≡ Accepted → Charged s charges

@@ -1,48 +1,95 @@
 // The printed statement of an hour file (document 01, "The printed statement"), as bytes in the caller's slice: of every byte string, and
 // whole or not at all.
 ghost use mathlib.Core.Path.{_≡_};
-ghost use Prim.Native.Nat.{_≤_};
+ghost use Prim.Native.Nat.{_+_, _*_, _≤_};
 ghost use lib.ListN.{length};
+ghost use Rattle.rules.specs.Record.{members};
+ghost use Rattle.rules.specs.Refusals.{verdictOf};
 ghost use Rattle.rules.specs.Statement as Statement;
-ghost use Rattle.report.specs.Lines.{Charged, acceptedLines};
-ghost use Rattle.report.specs.Put.{Put};
-ghost use Rattle.report.specs.Stated.{Rooms, stated};
+ghost use Rattle.hour.specs.Hour.{hourIn};
+ghost use Rattle.printing.specs.Put.{Put};
+ghost use Rattle.report.specs.Stated.{Charged, Answered, stated};
 use rules::Answer;
-
-mod lines;
-mod text;
 
 // The most bytes that the statement of any byte string has: 39 for line 1, and 18 for each of 32 members (`statement-fits` of `rules`).
 pub const LONGEST: usize = 615;
 
-// Line 1 and a line for each member.
-fn put_accepted(file: &[u8], charges: &[i64], out: &mut [u8]) -> usize
-    requires { ⌜ Charged (now file) (now charges) × (615 ≤ length (now out)) ⌝ }
-    ensures { λ r. ⌜ Put (now (out .entry)) 0 (acceptedLines (now (file .entry))) r (now (out .exit)) ⌝ }
+// A line a member, in order.
+fn put_members(file: &[u8], charges: &[i64], out: &mut [u8], at: usize) -> usize
+    requires { ⌜ Charged (now file) (now charges) × (at + 18 * members (hourIn (now file)) ≤ length (now out)) ⌝ }
+    ensures { λ r. let h = hourIn (now (file .entry)) in
+        ⌜ Put (now (out .entry)) at (Statement.memberLines h (members h)) r (now (out .exit)) ⌝ }
 {
-    let after_first = lines::put_first_line(file, out);
-    lines::put_members(file, charges, out, after_first)
+    let members = hour::members(file);
+    let mut place = at;
+    let mut m = 0;
+    while m < members {
+        place = printing::put_member(out, place, m, charges[m]);
+        m += 1;
+    }
+    place
 }
 
-// Settles the file in the buffers lent, which have room for every hour, and puts the statement of what came out.
-fn put_statement(
-    file: &[u8],
-    charges: &mut [i64],
-    shares: &mut [i64],
-    deviations: &mut [i64],
-    amounts: &mut [i64],
-    counts: &mut [u32],
-    out: &mut [u8],
-) -> usize
-    requires { ⌜ Rooms (now charges) (now shares) (now deviations) (now amounts) (now counts) (now out) ⌝ }
+// Line 1, with the hour's number and the counts as the file has them, and a line for each member.
+fn put_accepted(file: &[u8], charges: &[i64], out: &mut [u8]) -> usize
+    requires { ⌜ Charged (now file) (now charges) × (615 ≤ length (now out)) ⌝ }
+    ensures { λ r. ⌜ Put (now (out .entry)) 0 (Statement.acceptedLines (hourIn (now (file .entry)))) r (now (out .exit)) ⌝ }
+{
+    let hour = hourfile::head_word(file, 8) as u64;
+    let members = hour::members(file) as u64;
+    let records = hourfile::records(file) as u64;
+    let after_first = printing::put_first_line(out, hour, members, records);
+    put_members(file, charges, out, after_first)
+}
+
+// A refusal's number and place.
+fn put_refused(answer: Answer, out: &mut [u8]) -> usize
+    requires { ⌜ 53 ≤ length (now out) ⌝ }
+    ensures { λ r. ⌜ Put (now (out .entry)) 0 (Statement.refusedLine (verdictOf answer)) r (now (out .exit)) ⌝ }
+{
+    let number = answer::number_of(answer);
+    let place = answer::place_of(answer) as u64;
+    printing::put_refusal(out, number, place)
+}
+
+// The statement of a file to which settling has given this answer and, where it is accepted, these charges.
+fn put_answered(file: &[u8], answer: Answer, charges: &[i64], out: &mut [u8]) -> usize
+    requires { ⌜ Answered (now file) answer (now charges) × (615 ≤ length (now out)) ⌝ }
     ensures { λ r. ⌜ Put (now (out .entry)) 0 (Statement.statement (now (file .entry))) r (now (out .exit)) ⌝ }
 {
-    let settled = settle::settle(file, charges, shares, deviations, amounts, counts);
-    let answer = settled.answer;
     let Answer::Accepted = answer else {
-        return lines::put_refusal(answer, out);
+        return put_refused(answer, out);
     };
     put_accepted(file, charges, out)
+}
+
+// Settles the file, in buffers with room for every hour. Only the charges are printed; the others are let go.
+fn settle_charges(file: &[u8], charges: &mut [i64]) -> Answer
+    requires { ⌜ 32 ≤ length (now charges) ⌝ }
+    ensures { λ r. ⌜ Answered (now (file .entry)) r (now (charges .exit)) ⌝ }
+{
+    let mut shares = [0i64; 250];
+    let mut deviations = [0i64; 250];
+    let mut amounts = [0i64; 32];
+    let mut counts = [0u32; 32];
+    let settled = settle::settle(
+        file,
+        charges,
+        &mut shares,
+        &mut deviations,
+        &mut amounts,
+        &mut counts,
+    );
+    settled.answer
+}
+
+// Settles the file in the charges lent, and puts the statement of what came out.
+fn put_settled(file: &[u8], charges: &mut [i64], out: &mut [u8]) -> usize
+    requires { ⌜ (32 ≤ length (now charges)) × (615 ≤ length (now out)) ⌝ }
+    ensures { λ r. ⌜ Put (now (out .entry)) 0 (Statement.statement (now (file .entry))) r (now (out .exit)) ⌝ }
+{
+    let answer = settle_charges(file, charges);
+    put_answered(file, answer, charges, out)
 }
 
 // Puts the statement of a file at the start of `out`, and hands back how many bytes it has. Where `out` is shorter than the longest
@@ -55,17 +102,5 @@ pub fn statement(file: &[u8], out: &mut [u8]) -> usize
         return 0;
     }
     let mut charges = [0i64; 32];
-    let mut shares = [0i64; 250];
-    let mut deviations = [0i64; 250];
-    let mut amounts = [0i64; 32];
-    let mut counts = [0u32; 32];
-    put_statement(
-        file,
-        &mut charges,
-        &mut shares,
-        &mut deviations,
-        &mut amounts,
-        &mut counts,
-        out,
-    )
+    put_settled(file, &mut charges, out)
 }

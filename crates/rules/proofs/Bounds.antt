@@ -21,7 +21,8 @@ use Rattle.whole.proofs.Division.{nearest-under}
 use Rattle.rules.specs.declared.Kind.{Kind}
 use Rattle.rules.specs.declared.Kind.the-variants.{Generator, RealTimeLoad, ProfileLoad, Import, Export, Unknown}
 use Rattle.rules.specs.Record.{Hour, Entry, members, areas, price, zoneOf, tieIn, tieOut, memberOf, areaOf, entryOf, isLoad}
-use Rattle.rules.specs.Deviation.{unitsPerKWh, generatorUnavailable, generatorDeviation, loadUnavailable, loadDeviation, importDeviation, exportDeviation, deviationAs, deviation}
+use Rattle.rules.specs.Deviation.{unitsPerKWh, generatorUnavailable, generatorDeviation, loadUnavailable, loadDeviation}
+use Rattle.rules.specs.Deviation.{importDeviation, exportDeviation, deviationAs, deviation}
 use Rattle.rules.specs.Ufe.{inArea, ufe, demand, demands}
 use Rattle.rules.specs.Charge.{enteringAs, entering, nearestCent, cents, shareOf, grains, amount, charge}
 use Rattle.rules.specs.Posting.{accountedAs, accounted}
@@ -33,7 +34,8 @@ use Rattle.rules.proofs.Fair.{share-sizes-at-most}
 -- ---- a record
 
 -- M and N are not negative, so that only A and O count
-unavailable-under : (M A O N : ℤ) → Upto M 100000 → Upto A 100000 → Upto O 100000 → Upto N 100000 → Under (minℤ (pos 0) (M -ℤ A -ℤ (O -ℤ N))) 200000
+unavailable-under : (M A O N : ℤ) → Upto M 100000 → Upto A 100000 → Upto O 100000 → Upto N 100000 →
+    Under (minℤ (pos 0) (M -ℤ A -ℤ (O -ℤ N))) 200000
 unavailable-under = all4 _ (λ M A O N. simp zr (omega arith))
 
 -- the bound is reached at both ends of H
@@ -120,7 +122,8 @@ module _ {h : Hour} (kept : HourKept h) where
   demand-running a n l = omega (arith, sum-mono _ (λ i. 100000) n each, sum-const 100000 n, kept .count-most)
     where
       each : (i : ℕ) → i < n → cond (inArea h a isLoad i) (demand h i) 0 ≤ 100000
-      each i m = cond-ind (inArea h a isLoad i) (demand h i) 0 (λ d. d ≤ 100000) (λ t. kept .record-kept i (omega arith) .demand-most) (λ t. zero-le)
+      each i m = cond-ind (inArea h a isLoad i) (demand h i) 0 (λ d. d ≤ 100000) (λ t. kept .record-kept i (omega arith) .demand-most)
+          (λ t. zero-le)
 
   pub demands-most : (a : ℕ) → demands h a ≤ 25000000
   unfolding demands
@@ -130,7 +133,8 @@ module _ {h : Hour} (kept : HourKept h) where
   energy-at i l = accounted-under (kept .record-kept i l .entry-kept)
 
   -- A running sum of an area's energy is at most 5×10^11 units in size.
-  pub energy-running : (a n : ℕ) → n ≤ h .count → Under (totalBelow (λ i. cond (eqb (areaOf h i) a) (accounted (entryOf h i)) (pos 0)) n) 500000000000
+  pub energy-running : (a n : ℕ) → n ≤ h .count →
+      Under (totalBelow (λ i. cond (eqb (areaOf h i) a) (accounted (entryOf h i)) (pos 0)) n) 500000000000
   energy-running a n l = u-le (total-under _ 2000000000 n each) (omega (arith, kept .count-most))
     where
       each : (i : ℕ) → i < n → Under (cond (eqb (areaOf h i) a) (accounted (entryOf h i)) (pos 0)) 2000000000
@@ -151,9 +155,11 @@ module _ {h : Hour} (kept : HourKept h) where
   pub ufe-under : (a : ℕ) → a < areas h → Under (ufe h a) 1000000000000
   ufe-under a l = rw (ufe-by-record h a) (u-more 1000000000000 (ties-under a l u+ energy-running a (h .count) (le-refl (h .count))) tt)
 
-  -- its ties, and 2×10^9 for each of its records: each record counts in one area, so that the areas together stay below eight times the above
+  -- its ties, and 2×10^9 for each of its records: each record counts in one area, so that the areas together stay below eight times the
+  -- above
   ufe-within : (a : ℕ) → a < areas h → Under (ufe h a) (100000000000 + sumBelow (λ i. cond (eqb (areaOf h i) a) 2000000000 0) (h .count))
-  ufe-within a l = rw (ufe-by-record h a) (ties-under a l u+ total-within _ _ (h .count) (λ i m. u-picked (eqb (areaOf h i) a) (energy-at i m)))
+  ufe-within a l =
+      rw (ufe-by-record h a) (ties-under a l u+ total-within _ _ (h .count) (λ i m. u-picked (eqb (areaOf h i) a) (energy-at i m)))
 
   -- The UFE of all areas together is at most 1.3×10^12 units in size.
   pub all-ufe-most : sumBelow (λ a. natAbs (ufe h a)) (areas h) ≤ 1300000000000
@@ -172,7 +178,12 @@ module _ {h : Hour} (kept : HourKept h) where
 
   -- All shares together are at most 1.3×10^12 units in size.
   pub all-shares-most : sumBelow (λ i. natAbs (shareOf h i)) (h .count) ≤ 1300000000000
-  all-shares-most = omega (arith, by-area (λ i. natAbs (shareOf h i)), sum-mono _ (λ a. natAbs (ufe h a)) (areas h) (λ a l. share-sizes-at-most h a), all-ufe-most)
+  all-shares-most = omega (
+    arith,
+    by-area (λ i. natAbs (shareOf h i)),
+    sum-mono _ (λ a. natAbs (ufe h a)) (areas h) (λ a l. share-sizes-at-most h a),
+    all-ufe-most,
+  )
 
   pub share-under : (i : ℕ) → i < h .count → Under (shareOf h i) 1000000000000
   share-under i l =
@@ -201,7 +212,8 @@ module _ {h : Hour} (kept : HourKept h) where
   grains-under i l = grains-within i 1000000000000 l (share-under i l)
 
   -- A running sum of a member's grains is at most 3.55×10^18 in size, and so is its exact amount.
-  pub amount-running : (m n : ℕ) → n ≤ h .count → Under (totalBelow (λ i. cond (eqb (memberOf h i) m) (grains h i) (pos 0)) n) 3550000000000000000
+  pub amount-running : (m n : ℕ) → n ≤ h .count →
+      Under (totalBelow (λ i. cond (eqb (memberOf h i) m) (grains h i) (pos 0)) n) 3550000000000000000
   amount-running m n l = u-le (total-within _ (λ i. (9000000000 + natAbs (shareOf h i)) * 1000000) n each) (omega (
     arith,
     sum-mul (λ i. 9000000000 + natAbs (shareOf h i)) 1000000 n,
@@ -213,7 +225,8 @@ module _ {h : Hour} (kept : HourKept h) where
   ))
     where
       each : (i : ℕ) → i < n → Under (cond (eqb (memberOf h i) m) (grains h i) (pos 0)) ((9000000000 + natAbs (shareOf h i)) * 1000000)
-      each i j = u-cond (eqb (memberOf h i) m) (u-le (grains-within i (natAbs (shareOf h i)) (omega arith) (u-lit (shareOf h i))) (omega arith))
+      each i j =
+          u-cond (eqb (memberOf h i) m) (u-le (grains-within i (natAbs (shareOf h i)) (omega arith) (u-lit (shareOf h i))) (omega arith))
 
   pub amount-under : (m : ℕ) → Under (amount h m) 3550000000000000000
   unfolding amount

@@ -29,7 +29,8 @@ use Rattle.rules.specs.Statement.{memberLine}
 use Rattle.rules.specs.Kept.{HourKept}
 use Rattle.rules.specs.Promises.{Accepts, AllWhole, Demand1, ByFormula, allZones, Demand2, Demand3}
 use Rattle.rules.proofs.Tariff.{deviation-renders, ufe-renders, amount-is-IEC}
-use Rattle.rules.proofs.Rows.{no-place, accepts-when-whole, whole-parts, hour-numbered, settle-accepts, settle-refuses, settle-changes-nothing, settle-fills, write-accepts, write-refuses, write-changes-nothing}
+use Rattle.rules.proofs.Rows.{no-place, accepts-when-whole, whole-parts, hour-numbered, settle-accepts, settle-refuses}
+use Rattle.rules.proofs.Rows.{settle-changes-nothing, settle-fills, write-accepts, write-refuses, write-changes-nothing}
 use Rattle.rules.proofs.Text.{read-accepts, read-refuses, written-read, read-written, text-fits-14, write-accepted-at}
 use Rattle.rules.proofs.Kept.{passed-kept}
 use Rattle.rules.proofs.Bounds.{charge-under}
@@ -44,7 +45,8 @@ record Passed (h : Hour) : Type 0 where
 
 hour-passed : (s : List ℕ) → AllWhole (hourRows s) → Passed (hourOf hourly s)
 unfolding hourRows sumRows
-hour-passed s w = record { kept = passed-kept s w .hour-kept; no-bad-area = whole-parts (fileRows s) (sumRows (hourOf hourly s)) .0 w .1 .0 }
+hour-passed s w =
+    record { kept = passed-kept s w .hour-kept; no-bad-area = whole-parts (fileRows s) (sumRows (hourOf hourly s)) .0 w .1 .0 }
 
 -- what row 11 says of the buffers
 pub record Room (h : Hour) (b : Buffers) : Type 0 where
@@ -62,7 +64,12 @@ buffers-room h b w =
     let x = neither (c || l || s) (ltb (length (b .deviations)) (h .count)) (no-place _ (w .0)) in
     let y = neither (c || l) s (x .0) in
     let z = neither c l (y .0) in
-    record { charges-room = ltb-false _ _ (z .0); lines-room = ltb-false _ _ (z .1); shares-room = ltb-false _ _ (y .1); deviations-room = ltb-false _ _ (x .1) }
+    record {
+      charges-room = ltb-false _ _ (z .0);
+      lines-room = ltb-false _ _ (z .1);
+      shares-room = ltb-false _ _ (y .1);
+      deviations-room = ltb-false _ _ (x .1);
+    }
 
 -- ---- the figures
 
@@ -72,7 +79,8 @@ module _ (h : Hour) (kept : HourKept h) where
 
   no-records-no-amount : (m : ℕ) → recordsOf h m ≡ 0 → amount h m ≡ pos 0
   unfolding recordsOf amount
-  no-records-no-amount m e = total-ext _ _ (h .count) (λ i l. rw (count-zero (λ i. eqb (memberOf h i) m) (h .count) e i l)) ∙ total-zero (h .count)
+  no-records-no-amount m e =
+      total-ext _ _ (h .count) (λ i l. rw (count-zero (λ i. eqb (memberOf h i) m) (h .count) e i l)) ∙ total-zero (h .count)
 
   no-records-no-charge : (m : ℕ) → recordsOf h m ≡ 0 → charge h m ≡ pos 0
   unfolding charge cents nearestCent
@@ -85,8 +93,10 @@ module _ (h : Hour) (kept : HourKept h) where
       let charge-at = getD-replacing (charge h) (members h) (b .charges) in
       let line-at = getD-replacing (lineOf h) (members h) (b .lines) in
       record {
-        ufe-is = λ a l. getD-values (λ a. cond (ltb a (areas h)) (ufe h a) (pos 0)) 8 a (pos 0) (omega (arith, kept .areas-most)) ∙ rw (lt-ltb a (areas h) l) (ufe-renders h a);
-        deviation-is = λ i l. getD-replacing (λ i. deviation (entryOf h i)) (h .count) (b .deviations) i (pos 0) l ∙ deviation-renders (entryOf h i);
+        ufe-is = λ a l. getD-values (λ a. cond (ltb a (areas h)) (ufe h a) (pos 0)) 8 a (pos 0) (omega (arith, kept .areas-most))
+            ∙ rw (lt-ltb a (areas h) l) (ufe-renders h a);
+        deviation-is =
+            λ i l. getD-replacing (λ i. deviation (entryOf h i)) (h .count) (b .deviations) i (pos 0) l ∙ deviation-renders (entryOf h i);
         share-is = λ i l. getD-replacing (shareOf h) (h .count) (b .shares) i (pos 0) l ∙ shares-by-rank h i l;
         charge-is = λ m l. charge-at m (pos 0) l ∙ ap cents (iec m);
         line-is = λ m l. line-at m emptyLine l ∙ ap (λ (z : ℤ). record { amount = z; records = recordsOf h m }) (iec m);
@@ -133,7 +143,8 @@ demand1 = record {
 
 -- every charge of an hour that passes rows 1 to 5 is printed whole
 charge-printed : (h : Hour) → HourKept h → (m : ℕ) →
-    (length (amountText (charge h m)) ≤ 14) × (memberLine h m ≡ digitByte (m / 10) ∷ digitByte (m % 10) ∷ bytes " " ++ amountField 14 (charge h m) ++ bytes "\n")
+    (length (amountText (charge h m)) ≤ 14)
+    × (memberLine m (charge h m) ≡ digitByte (m / 10) ∷ digitByte (m % 10) ∷ bytes " " ++ amountField 14 (charge h m) ++ bytes "\n")
 unfolding memberLine
 charge-printed h kept m =
     let in-range : natAbs (charge h m) ≤ 999999999999 = let u = charge-under kept m in omega arith in

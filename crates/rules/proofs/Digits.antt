@@ -82,7 +82,8 @@ pub all-counted : {n : ℕ} {s : List ℕ} → DigitsOf n s → (t : List ℕ) �
 unfolding digitCount
 all-counted (one n l) t = rw (is-digit n l) (omega arith)
 all-counted (more {s = s} d p l r) t =
-    rw (append-assoc s (digitByte d ∷ []) t, all-counted r (digitByte d ∷ t), is-digit d l, length-append s (digitByte d ∷ [])) (omega arith)
+    rw (append-assoc s (digitByte d ∷ []) t, all-counted r (digitByte d ∷ t), is-digit d l, length-append s (digitByte d ∷ []))
+    (omega arith)
 
 pub make-the-number : {n : ℕ} {s : List ℕ} → DigitsOf n s → (t : List ℕ) → digitsValue (s ++ t) (length s) ≡ n
 unfolding digitsValue
@@ -168,13 +169,16 @@ module _ (s : List ℕ) where
   several-read zero h z = one-read h
   several-read (suc n) h z =
       let c = counted-are-digits s (suc n) h in
-      rw (one-more-taken (suc n) h) (more (getD s (suc n) 0 - 48) (value-not-zero n (omega arith) z) (omega arith) (several-read n (omega arith) z))
+      rw (one-more-taken (suc n) h)
+      (more (getD s (suc n) 0 - 48) (value-not-zero n (omega arith) z) (omega arith) (several-read n (omega arith) z))
 
   -- the first n digits that stand there, if they don't begin with a zero or are one, are those of the number that they make
-  pub read-digits : (n : ℕ) → 1 ≤ n → n ≤ digitCount s → (eqb n 1 || not (eqb (getD s 0 0) 48)) ≡ true → DigitsOf (digitsValue s n) (take n s)
+  pub read-digits : (n : ℕ) → 1 ≤ n → n ≤ digitCount s → (eqb n 1 || not (eqb (getD s 0 0) 48)) ≡ true →
+      DigitsOf (digitsValue s n) (take n s)
   read-digits zero p h e = absurd (not-suc-le-zero p)
   read-digits (suc zero) p h e = one-read h
-  read-digits (suc (suc n)) p h e = several-read (suc n) h (eqb-false (getD s 0 0) 48 (not-true _ (rw (ne-eqb (suc (suc n)) 1 (λ q. omega arith)) at e)))
+  read-digits (suc (suc n)) p h e =
+      several-read (suc n) h (eqb-false (getD s 0 0) 48 (not-true _ (rw (ne-eqb (suc (suc n)) 1 (λ q. omega arith)) at e)))
 
 -- ---- room
 
@@ -213,7 +217,8 @@ decimal-last n e = rw (digits-last 19 n (omega arith), small)
 
 pub decimal-more : (n : ℕ) → n < 10 ^ 20 → (n / 10 ≡ 0 → ⊥) → decimal n ≡ decimal (n / 10) ++ digitByte (n % 10) ∷ []
 unfolding decimal
-decimal-more n h f = rw (digits-more 19 n (omega arith), room-changes-nothing 19 20 (n / 10) (omega arith) (omega arith) (omega arith) (omega arith))
+decimal-more n h f =
+    rw (digits-more 19 n (omega arith), room-changes-nothing 19 20 (n / 10) (omega arith) (omega arith) (omega arith) (omega arith))
 
 pub decimal-length-last : (n : ℕ) → n / 10 ≡ 0 → length (decimal n) ≡ 1
 decimal-length-last n e = rw (decimal-last n e)

@@ -13,10 +13,10 @@ use Rattle.whole.specs.Below.{sumBelow, totalBelow}
 use Rattle.whole.specs.Signed.{Under, withSignOf}
 use Rattle.whole.proofs.Tests.{split}
 use Rattle.whole.proofs.Linear.{zr, all4, all5}
-use Rattle.whole.proofs.Ring.{rr, ring5, same}
 use Rattle.whole.proofs.Ranges.{_u+_, _u*_, u-lit, u-le, abs-with-sign}
 use Rattle.whole.proofs.Sums.{sum-ext, sum-mul, product-but}
-use Rattle.whole.proofs.Totals.{total-ext, total-add, total-neg, total-sub, total-mul, total-times, total-swap, total-pick, total-within, total-under, total-with-sign, own-sign, sign-of-zero}
+use Rattle.whole.proofs.Totals.{total-ext, total-add, total-neg, total-sub, total-mul, total-times, total-swap, total-pick, total-within}
+use Rattle.whole.proofs.Totals.{total-under, total-with-sign, own-sign, sign-of-zero}
 use Rattle.whole.proofs.Division.{nearest-half}
 use Rattle.rules.specs.declared.Kind.{Kind}
 use Rattle.rules.specs.declared.Kind.the-variants.{Generator, RealTimeLoad, ProfileLoad, Import, Export, Unknown}
@@ -40,7 +40,8 @@ cond-abs true z = refl
 cond-abs false z = refl
 
 -- a size less than a unit from its exact fraction, with the sign of what is shared
-near-with-sign : (U : ℤ) (s t d : ℕ) → s * t < d * natAbs U + t → d * natAbs U < s * t + t → natAbs (withSignOf U s *ℤ pos t -ℤ pos d *ℤ U) < t
+near-with-sign : (U : ℤ) (s t d : ℕ) → s * t < d * natAbs U + t → d * natAbs U < s * t + t →
+    natAbs (withSignOf U s *ℤ pos t -ℤ pos d *ℤ U) < t
 near-with-sign (pos u) s t d p q = simp zr (omega arith)
 near-with-sign (negsuc u) s t d p q = simp zr (omega arith)
 
@@ -50,7 +51,8 @@ module _ (h : Hour) where
   sizeIn a = shareSize (inArea h a isLoad) (demand h) (h .count) (natAbs (ufe h a))
 
   no-load-no-size : (a i : ℕ) → inArea h a isLoad i ≡ false → pos 0 ≡ withSignOf (ufe h a) (sizeIn a i)
-  no-load-no-size a i f = sym (ap (withSignOf (ufe h a)) (nothing-for-others (inArea h a isLoad) (demand h) (h .count) (natAbs (ufe h a)) i f) ∙ sign-of-zero (ufe h a))
+  no-load-no-size a i f = sym (ap (withSignOf (ufe h a))
+      (nothing-for-others (inArea h a isLoad) (demand h) (h .count) (natAbs (ufe h a)) i f) ∙ sign-of-zero (ufe h a))
 
   no-load-no-share : (i : ℕ) → isLoad (entryOf h i .kind) ≡ false → shareOf h i ≡ pos 0
   unfolding shareOf
@@ -63,7 +65,8 @@ module _ (h : Hour) where
   -- Every record's share is that by rank.
   pub shares-by-rank : (i : ℕ) → i < h .count → shareOf h i ≡ rankedShare h i
   unfolding rankedShare
-  shares-by-rank i l = let a : ℕ = areaOf h i in own-share i ∙ ap (withSignOf (ufe h a)) (ranked (inArea h a isLoad) (demand h) (h .count) (natAbs (ufe h a)) i l)
+  shares-by-rank i l = let a : ℕ = areaOf h i in own-share i
+      ∙ ap (withSignOf (ufe h a)) (ranked (inArea h a isLoad) (demand h) (h .count) (natAbs (ufe h a)) i l)
 
   -- What a record has of area a's UFE: its own share, or nothing.
   pub share-in : (a i : ℕ) → cond (eqb (areaOf h i) a) (shareOf h i) (pos 0) ≡ withSignOf (ufe h a) (sizeIn a i)
@@ -75,7 +78,8 @@ module _ (h : Hour) where
   -- The sizes of an area's shares never add up to more than the size of its UFE.
   pub share-sizes-at-most : (a : ℕ) → sumBelow (λ i. cond (eqb (areaOf h i) a) (natAbs (shareOf h i)) 0) (h .count) ≤ natAbs (ufe h a)
   share-sizes-at-most a = le-trans
-      (le-of-eq (sum-ext _ (sizeIn a) (h .count) (λ i l. cond-abs (eqb (areaOf h i) a) (shareOf h i) ∙ ap natAbs (share-in a i) ∙ abs-with-sign (ufe h a) (sizeIn a i))))
+      (le-of-eq (sum-ext _ (sizeIn a) (h .count)
+      (λ i l. cond-abs (eqb (areaOf h i) a) (shareOf h i) ∙ ap natAbs (share-in a i) ∙ abs-with-sign (ufe h a) (sizeIn a i))))
       (sizes-at-most (inArea h a isLoad) (demand h) (h .count) (natAbs (ufe h a)))
 
   -- Each share is less than one unit from its exact fraction.
@@ -92,13 +96,15 @@ module _ (h : Hour) where
   unfolding demands allDemand
   none-to-share i l z =
       let a : ℕ = areaOf h i in
-      own-share i ∙ ap (withSignOf (ufe h a)) (nothing-without-demand (inArea h a isLoad) (demand h) (h .count) (natAbs (ufe h a)) i z) ∙ sign-of-zero (ufe h a)
+      own-share i ∙ ap (withSignOf (ufe h a)) (nothing-without-demand (inArea h a isLoad) (demand h) (h .count) (natAbs (ufe h a)) i z)
+      ∙ sign-of-zero (ufe h a)
 
 module _ (h : Hour) (ok : Sound h) where
   sizes-are-ufe : (a : ℕ) → a < areas h → sumBelow (sizeIn h a) (h .count) ≡ natAbs (ufe h a)
   unfolding demands allDemand
   sizes-are-ufe a l = ⊎-elim
-      (λ z. let u = ap natAbs (ok .no-demand-no-ufe a l z) in omega (arith, sizes-at-most (inArea h a isLoad) (demand h) (h .count) (natAbs (ufe h a))))
+      (λ z. let u = ap natAbs (ok .no-demand-no-ufe a l z) in
+      omega (arith, sizes-at-most (inArea h a isLoad) (demand h) (h .count) (natAbs (ufe h a))))
       (sizes-add-up (inArea h a isLoad) (demand h) (h .count) (natAbs (ufe h a)))
       (eq-zero-or-pos (demands h a))
 
@@ -137,7 +143,8 @@ deviations-by-record : (h : Hour) (a : ℕ) →
     +ℤ areaSum h a isImport importDeviation -ℤ areaSum h a isExport exportDeviation
     ≡ totalBelow (λ i. cond (eqb (areaOf h i) a) (entered h i) (pos 0)) (h .count)
 unfolding areaSum inArea entering deviation
-deviations-by-record h a = simp (← total-add, ← total-neg) (total-ext _ _ (h .count) (λ i l. enters-by-kind (eqb (areaOf h i) a) (entryOf h i .kind) (entryOf h i)))
+deviations-by-record h a = simp (← total-add, ← total-neg)
+    (total-ext _ _ (h .count) (λ i l. enters-by-kind (eqb (areaOf h i) a) (entryOf h i .kind) (entryOf h i)))
 
 module _ (h : Hour) (ok : Sound h) where
   amounts-by-record : totalBelow (amount h) (members h) ≡ totalBelow (grains h) (h .count)
@@ -149,14 +156,16 @@ module _ (h : Hour) (ok : Sound h) where
   area-by-record : (a : ℕ) → a < areas h →
       price h a *ℤ (totalBelow (λ i. cond (eqb (areaOf h i) a) (entered h i) (pos 0)) (h .count) +ℤ ufe h a)
       ≡ totalBelow (λ i. cond (eqb (areaOf h i) a) (price h a *ℤ (entered h i +ℤ shareOf h i)) (pos 0)) (h .count)
-  area-by-record a l = rw (← shares-add-up h ok a l) (simp (← total-add, ← total-mul) (total-ext _ _ (h .count) (λ i m. split (eqb (areaOf h i) a) (λ t. rw t) (λ f. rw f (*ℤ-zero (price h a))))))
+  area-by-record a l = rw (← shares-add-up h ok a l) (simp (← total-add, ← total-mul)
+      (total-ext _ _ (h .count) (λ i m. split (eqb (areaOf h i) a) (λ t. rw t) (λ f. rw f (*ℤ-zero (price h a))))))
 
   pool-by-record : poolTotal h ≡ totalBelow (grains h) (h .count)
   unfolding poolTotal grains
   pool-by-record =
       total-ext _ _ (areas h) (λ a l. ap (λ (d : ℤ). price h a *ℤ (d +ℤ ufe h a)) (deviations-by-record h a) ∙ area-by-record a l)
       ∙ total-swap (λ a i. cond (eqb (areaOf h i) a) (price h a *ℤ (entered h i +ℤ shareOf h i)) (pos 0)) (areas h) (h .count)
-      ∙ total-ext _ _ (h .count) (λ i l. total-pick (λ a. price h a *ℤ (entered h i +ℤ shareOf h i)) (areas h) (areaOf h i) (ok .area-there i l))
+      ∙ total-ext _ _ (h .count)
+      (λ i l. total-pick (λ a. price h a *ℤ (entered h i +ℤ shareOf h i)) (areas h) (areaOf h i) (ok .area-there i l))
 
   -- All charges together are within half a cent a member of the pool's total.
   pub pooled : natAbs (totalBelow (charge h) (members h) *ℤ pos 10000000 -ℤ poolTotal h) ≤ 5000000 * members h
@@ -166,19 +175,27 @@ module _ (h : Hour) (ok : Sound h) where
       each : Under (totalBelow (λ m. charge h m *ℤ pos 10000000 -ℤ amount h m) (members h)) (members h * 5000000)
       each = total-under _ 5000000 (members h) (λ m l. half-cent (amount h m))
 
-      difference : totalBelow (λ m. charge h m *ℤ pos 10000000 -ℤ amount h m) (members h) ≡ totalBelow (charge h) (members h) *ℤ pos 10000000 -ℤ poolTotal h
+      difference : totalBelow (λ m. charge h m *ℤ pos 10000000 -ℤ amount h m) (members h)
+          ≡ totalBelow (charge h) (members h) *ℤ pos 10000000 -ℤ poolTotal h
       difference =
           total-sub (λ m. charge h m *ℤ pos 10000000) (amount h) (members h)
           ∙ ap₂ (λ (x y : ℤ). x -ℤ y) (total-times (charge h) (pos 10000000) (members h)) (amounts-by-record ∙ sym pool-by-record)
 
 -- ---- charges against the tariff's unrounded amounts, both times all the T
 
--- a load's share times the other T, a record's grains, and a charge with its cents first, then its shares
+-- a load's share times the other T; a record's grains, in which the deviation is the same in both; a charge, its cents first, then its
+-- shares
 scaled : (s t w o : ℤ) → s *ℤ (o *ℤ t) -ℤ w *ℤ o ≡ (s *ℤ t -ℤ w) *ℤ o
 scaled = all4 _ (λ s t w o. simp zr (omega arith))
 
+spread : (p e s q : ℤ) → p *ℤ (e +ℤ s) *ℤ q ≡ p *ℤ (e *ℤ q) +ℤ p *ℤ (s *ℤ q)
+spread = all4 _ (λ p e s q. simp zr (omega arith))
+
+same-off : (p e s f : ℤ) → p *ℤ e +ℤ p *ℤ s -ℤ p *ℤ (e +ℤ f) ≡ p *ℤ (s -ℤ f)
+same-off = all4 _ (λ p e s f. simp zr (omega arith))
+
 priced : (p e s q f : ℤ) → p *ℤ (e +ℤ s) *ℤ q -ℤ p *ℤ (e *ℤ q +ℤ f) ≡ p *ℤ (s *ℤ q -ℤ f)
-priced = ring5 _ (λ ρ. simp rr (same _ _ _ tt))
+priced p e s q f = ap (λ (z : ℤ). z -ℤ p *ℤ (e *ℤ q +ℤ f)) (spread p e s q) ∙ same-off p (e *ℤ q) (s *ℤ q) f
 
 rounded : (c a u k q : ℤ) → c *ℤ (k *ℤ q) -ℤ u ≡ (c *ℤ k -ℤ a) *ℤ q +ℤ (a *ℤ q -ℤ u)
 rounded = all5 _ (λ c a u k q. simp zr (omega arith))
@@ -207,9 +224,11 @@ module _ (h : Hour) (ok : Sound h) where
       let a : ℕ = areaOf h i in
       let w : ℤ = pos (demand h i) *ℤ ufe h a in
       let u : Under (shareOf h i *ℤ pos (demands h a) -ℤ w) (demands h a) = record { under = le-of-lt (near h i l t some) } in
-      rw (all-and-other h a (ok .area-there i l) some, scaled (shareOf h i) (pos (demands h a)) w (pos (otherT h a))) (u-le (u u* u-lit (pos (otherT h a))) (omega arith))
+      rw (all-and-other h a (ok .area-there i l) some, scaled (shareOf h i) (pos (demands h a)) w (pos (otherT h a)))
+      (u-le (u u* u-lit (pos (otherT h a))) (omega arith))
 
-  share-off : (i : ℕ) → i < h .count → Under (shareOf h i *ℤ pos (allT h) -ℤ exactFraction h i) (cond (isLoad (entryOf h i .kind)) (allT h) 0)
+  share-off : (i : ℕ) → i < h .count →
+      Under (shareOf h i *ℤ pos (allT h) -ℤ exactFraction h i) (cond (isLoad (entryOf h i .kind)) (allT h) 0)
   unfolding exactFraction
   share-off i l = split (isLoad (entryOf h i .kind))
       (λ t. ⊎-elim
@@ -218,11 +237,13 @@ module _ (h : Hour) (ok : Sound h) where
       (eq-zero-or-pos (demands h (areaOf h i))))
       (λ f. rw (no-load-no-share h i f, f) (nothing-off (allT h) 0))
 
-  grains-off : (i : ℕ) → i < h .count → Under (grains h i *ℤ pos (allT h) -ℤ exactGrains h i) (cond (isLoad (entryOf h i .kind)) (natAbs (price h (areaOf h i))) 0 * allT h)
+  grains-off : (i : ℕ) → i < h .count →
+      Under (grains h i *ℤ pos (allT h) -ℤ exactGrains h i) (cond (isLoad (entryOf h i .kind)) (natAbs (price h (areaOf h i))) 0 * allT h)
   unfolding grains
   grains-off i l =
       let p : ℤ = price h (areaOf h i) in
-      rw (priced p (entered h i) (shareOf h i) (pos (allT h)) (exactFraction h i)) (u-le (u-lit p u* share-off i l) (cond-bound (isLoad (entryOf h i .kind)) (natAbs p) (allT h)))
+      rw (priced p (entered h i) (shareOf h i) (pos (allT h)) (exactFraction h i))
+      (u-le (u-lit p u* share-off i l) (cond-bound (isLoad (entryOf h i .kind)) (natAbs p) (allT h)))
 
   amount-off : (m : ℕ) → Under (amount h m *ℤ pos (allT h) -ℤ unrounded h m) (loadPrices h m * allT h)
   unfolding amount unrounded loadPrices
@@ -242,7 +263,8 @@ module _ (h : Hour) (ok : Sound h) where
       one i l = split (eqb (memberOf h i) m) (λ t. rw (t, and-true) (grains-off i l)) (λ f. rw f (nothing-off (allT h) _))
 
   -- Each charge is within half a cent, and one unit at the size of the zone's price for each load record, of the unrounded amount.
-  pub charged : (m : ℕ) → m < members h → natAbs (charge h m *ℤ pos (10000000 * allT h) -ℤ unrounded h m) ≤ (5000000 + loadPrices h m) * allT h
+  pub charged : (m : ℕ) → m < members h →
+      natAbs (charge h m *ℤ pos (10000000 * allT h) -ℤ unrounded h m) ≤ (5000000 + loadPrices h m) * allT h
   unfolding charge
   charged m l =
       rw (rounded (charge h m) (amount h m) (unrounded h m) (pos 10000000) (pos (allT h)))

@@ -32,7 +32,8 @@ broken-more p n m l e = step (firstBelow p n) refl e
 module _ (n held b : ℕ) where
   body-rule : (w : ℕ) → 7 ≤ w → blockRule hourly n held b w ≡ cond (eqb w 7) Any (pastRule hourly held b w)
   unfolding blockRule
-  body-rule w l = rw block-words (rw (ne-eqb w 0 (λ e. omega arith), ne-eqb w 1 (λ e. omega arith), ne-eqb w 2 (λ e. omega arith), le-ltb w 7 l))
+  body-rule w l =
+      rw block-words (rw (ne-eqb w 0 (λ e. omega arith), ne-eqb w 1 (λ e. omega arith), ne-eqb w 2 (λ e. omega arith), le-ltb w 7 l))
 
   body-any : (w v : ℕ) → b ≡ 0 → 7 ≤ w → not (keeps (blockRule hourly n held b w) v) ≡ false
   unfolding pastRule keeps
@@ -55,18 +56,23 @@ module _ (n held b : ℕ) where
     -- the body of the first block is for row 4
     pub first-block-whole : isBroken (brokenBelow 7) ≡ false → b ≡ 0 → isBroken (brokenBelow 128) ≡ false
     unfolding firstBroken
-    first-block-whole e z = ap isBroken (first-rest _ (λ w. false) 7 128 (unbroken _ e) (λ w l. refl) (λ w l m. body-any w (word w) z l) ∙ none-below _ 128 (λ w l. refl))
+    first-block-whole e z = ap isBroken
+        (first-rest _ (λ w. false) 7 128 (unbroken _ e) (λ w l. refl) (λ w l m. body-any w (word w) z l) ∙ none-below _ 128 (λ w l. refl))
 
     -- another block has zeros past its records
-    pub past-front : isBroken (brokenBelow 7) ≡ false → (b ≡ 0 → ⊥) → brokenBelow 128 ≡ firstBelow (λ w. leb (8 + 12 * held) w && not (eqb (word w) 0)) 128
+    pub past-front : isBroken (brokenBelow 7) ≡ false → (b ≡ 0 → ⊥) →
+        brokenBelow 128 ≡ firstBelow (λ w. leb (8 + 12 * held) w && not (eqb (word w) 0)) 128
     unfolding firstBroken
-    past-front e f = first-rest _ _ 7 128 (unbroken _ e) (λ w l. rw (lt-leb (8 + 12 * held) w (omega arith))) (λ w l m. past-records w (word w) f l)
+    past-front e f =
+        first-rest _ _ 7 128 (unbroken _ e) (λ w l. rw (lt-leb (8 + 12 * held) w (omega arith))) (λ w l m. past-records w (word w) f l)
 
 -- the layout of a block, read from its own 512 bytes
-pub block-part-broken : (s : List ℕ) (n b : ℕ) → isBroken (firstBroken (blockRule hourly n (word (take 512 (drop (512 * b) s)) 2) b) (word (take 512 (drop (512 * b) s))) 128)
+pub block-part-broken : (s : List ℕ) (n b : ℕ) →
+    isBroken (firstBroken (blockRule hourly n (word (take 512 (drop (512 * b) s)) 2) b) (word (take 512 (drop (512 * b) s))) 128)
     ≡ isBroken (firstBroken (blockRule hourly n (blockWord s b 2) b) (blockWord s b) 128)
 unfolding firstBroken
-block-part-broken s n b = ap isBroken (first-ext _ _ 128 (λ w l. ap₂ (λ (held v : ℕ). not (keeps (blockRule hourly n held b w) v)) (block-part-word s b 2 (omega arith)) (block-part-word s b w l)))
+block-part-broken s n b = ap isBroken (first-ext _ _ 128 (λ w l. ap₂
+    (λ (held v : ℕ). not (keeps (blockRule hourly n held b w) v)) (block-part-word s b 2 (omega arith)) (block-part-word s b w l)))
 
 -- ---- the head
 
@@ -79,7 +85,8 @@ module _ (zones areas : ℕ) where
   -- from word 48 on they must be zero
   pub head-zero : (w v : ℕ) → 48 ≤ w → not (keeps (headRule zones areas w) v) ≡ not (eqb v 0)
   unfolding headRule
-  head-zero w v l = rw (le-ltb w 9 (omega arith), le-ltb w 12 (omega arith), le-ltb w 16 (omega arith), le-ltb w 48 l) (ap not (zero-kept v))
+  head-zero w v l =
+      rw (le-ltb w 9 (omega arith), le-ltb w 12 (omega arith), le-ltb w 16 (omega arith), le-ltb w 48 l) (ap not (zero-kept v))
 
 -- ---- the first fault: the first bad record, and in it the first bad word
 

@@ -16,10 +16,12 @@ use Rattle.whole.proofs.Search.{first-none}
 use Rattle.rules.specs.declared.Kind.{Kind}
 use Rattle.rules.specs.declared.Kind.the-variants.{Generator, RealTimeLoad, ProfileLoad, Import, Export, Unknown}
 use Rattle.rules.specs.declared.Rule.{Rule}
-use Rattle.rules.specs.Record.{Hour, members, zones, areas, zonePrice, zoneOf, tieIn, tieOut, memberOf, areaOf, entry, entryOf, kindOf, signed}
+use Rattle.rules.specs.Record.{Hour, members, zones, areas, zonePrice, zoneOf, tieIn, tieOut, memberOf, areaOf, entry, entryOf}
+use Rattle.rules.specs.Record.{kindOf, signed}
 use Rattle.rules.specs.HourFile.{hourly, lengthBad, blocks, blockWord, recordCount, hourOf}
 use Rattle.rules.specs.Ranges.{firstBroken, mustBeZero, countRule, blockRule, areaRule, headRule, rowOf, recordRule}
-use Rattle.rules.specs.Refusals.{isBroken, badLength, badBlock, badHead, badWord, badRecord, layoutRows, wordRows, sumRows, fileRows, hourRows}
+use Rattle.rules.specs.Refusals.{isBroken, badLength, badBlock, badHead, badWord, badRecord, layoutRows, wordRows, sumRows, fileRows}
+use Rattle.rules.specs.Refusals.{hourRows}
 use Rattle.rules.specs.Promises.{AllWhole}
 use Rattle.rules.specs.Kept.{EntryKept, RecordKept, AreaKept, HourKept, FileKept}
 use Rattle.rules.proofs.Rows.{no-place, whole-parts}
@@ -83,7 +85,8 @@ module _ (h : Hour) (head-whole : badHead h ≡ none) (records-whole : badRecord
       let few : zones h ≤ 4 = counts-held .1 .1 in
       let w : ℕ = 12 + z in
       let from-12 : w - 12 ≡ z = omega arith in
-      rw (le-ltb w 9 (omega arith), le-ltb w 12 (omega arith), lt-ltb w 16 (omega arith), from-12, lt-ltb z (zones h) l) at (head-holds w (omega arith))
+      rw (le-ltb w 9 (omega arith), le-ltb w 12 (omega arith), lt-ltb w 16 (omega arith), from-12, lt-ltb z (zones h) l) at
+      (head-holds w (omega arith))
 
   -- word f of area a
   area-holds : (a f w : ℕ) → a < areas h → f < 4 → w ≡ 16 + 4 * a + f → Holds (areaRule (zones h) f) (h .head w)
@@ -92,7 +95,15 @@ module _ (h : Hour) (head-whole : badHead h ≡ none) (records-whole : badRecord
       let few : areas h ≤ 8 = counts-held .2 .1 in
       let area-is : (w - 16) / 4 ≡ a = omega arith in
       let word-is : (w - 16) % 4 ≡ f = omega arith in
-      rw (le-ltb w 9 (omega arith), le-ltb w 12 (omega arith), le-ltb w 16 (omega arith), lt-ltb w 48 (omega arith), area-is, word-is, lt-ltb a (areas h) l) at (head-holds w (omega arith))
+      rw (
+        le-ltb w 9 (omega arith),
+        le-ltb w 12 (omega arith),
+        le-ltb w 16 (omega arith),
+        lt-ltb w 48 (omega arith),
+        area-is,
+        word-is,
+        lt-ltb a (areas h) l,
+      ) at (head-holds w (omega arith))
 
   area-kept : (a : ℕ) → a < areas h → AreaKept h a
   unfolding areaRule zoneOf tieIn tieOut
@@ -104,7 +115,8 @@ module _ (h : Hour) (head-whole : badHead h ≡ none) (records-whole : badRecord
 
   word-holds : (i w : ℕ) → i < h .count → w < 12 → Holds (recordRule (members h) (areas h) (h .rec i 0) w) (h .rec i w)
   unfolding badRecord badWord
-  word-holds i w l m = all-hold (recordRule (members h) (areas h) (h .rec i 0)) (h .rec i) 12 (unbroken _ (first-none _ (h .count) records-whole i l)) w m
+  word-holds i w l m =
+      all-hold (recordRule (members h) (areas h) (h .rec i 0)) (h .rec i) 12 (unbroken _ (first-none _ (h .count) records-whole i l)) w m
 
   row-held : (i : ℕ) → i < h .count → RowHeld (rowOf (kindOf (h .rec i 0))) (h .rec i)
   unfolding recordRule
@@ -159,7 +171,8 @@ module _ (s : List ℕ) (length-whole : badLength hourly s ≡ none) (blocks-who
   unfolding badBlock blockRule countRule
   held-most b l m =
       let other : eqb b 0 ≡ false = ne-eqb b 0 (λ e. omega arith) in
-      let k = all-hold (blockRule hourly (blocks s) (blockWord s b 2) b) (blockWord s b) 128 (unbroken _ (first-none _ (blocks s) blocks-whole b m)) 2 (omega arith) in
+      let k = all-hold (blockRule hourly (blocks s) (blockWord s b 2) b) (blockWord s b) 128
+      (unbroken _ (first-none _ (blocks s) blocks-whole b m)) 2 (omega arith) in
       split (ltb (b + 1) (blocks s)) (λ e. (rw (other, e) at k) .1) (λ e. (rw (other, e) at k) .1)
 
   -- at most 26 blocks: 24 full ones between the first and the last
@@ -176,7 +189,10 @@ pub file-kept : (s : List ℕ) → AllWhole (fileRows s) → FileKept s
 unfolding fileRows layoutRows wordRows
 file-kept s e =
     let h = hourOf hourly s in
-    record { length-good = length-good s (e .0) (e .1 .1 .0); hour-kept = hour-kept h (e .1 .1 .1 .0) (e .1 .1 .1 .1 .0) (count-most s (e .0) (e .1 .1 .0)) }
+    record {
+      length-good = length-good s (e .0) (e .1 .1 .0);
+      hour-kept = hour-kept h (e .1 .1 .1 .0) (e .1 .1 .1 .1 .0) (count-most s (e .0) (e .1 .1 .0));
+    }
 
 -- so does a file that passes rows 1 to 7
 pub passed-kept : (s : List ℕ) → AllWhole (hourRows s) → FileKept s

@@ -1,5 +1,5 @@
--- What follows of a settling whose answer and buffers are what `settle` says, and of nothing else about it: no second result fits; refused,
--- nothing is changed; accepted, every figure is the tariff's, and the sums come out whole.
+-- What follows of a settling whose answer and buffers are what `settle` says, and of nothing else about it: refused, nothing is changed;
+-- accepted, every figure is the tariff's, and the sums come out whole.
 use mathlib.Core.Path.{_≡_, sym, _∙_, ap}
 use mathlib.Core.Bool.{cond}
 use mathlib.Core.List.{List}
@@ -21,16 +21,12 @@ use Rattle.rules.specs.Refusals.{verdictOf, fileRows, hourRows, sumRows}
 use Rattle.rules.specs.Settling.{Buffers, filled, ufeFigures, noFigures, bufferRows, settleRows}
 use Rattle.rules.specs.Kept.{HourKept}
 use Rattle.rules.specs.Promises.{Accepts, ByFormula, Fits}
-use Rattle.rules.proofs.Rows.{one-answer, one-result, whole-parts, settle-accepts, settle-fills, settle-changes-nothing}
+use Rattle.rules.proofs.Rows.{one-answer, whole-parts, settle-accepts, settle-fills, settle-changes-nothing}
 use Rattle.rules.proofs.Demands.{demand2, demand3}
 use Rattle.rules.proofs.Kept.{file-kept}
 use Rattle.rules.specs.Outcome.{FairOutcome}
 
 module _ (s : List ℕ) (b : Buffers) {r : Settled} {after : Buffers} (fits : Fits s b r after) where
-  -- a second call on the same file and buffers answers and leaves the same
-  pub no-second-result : {t : Settled} {other : Buffers} → Fits s b t other → (r ≡ t) × (after ≡ other)
-  no-second-result {t} {other} g = one-result s b r t after other fits g
-
   pub refused-unchanged : (r .answer ≡ Accepted → ⊥) → (after ≡ b) × (r .ufe ≡ noFigures)
   refused-unchanged refused =
       let same = settle-changes-nothing s b (λ e. refused (one-answer (r .answer) Accepted (fits .verdict-is ∙ e))) in
@@ -48,20 +44,24 @@ module _ (s : List ℕ) (b : Buffers) {r : Settled} {after : Buffers} (fits : Fi
 
     kept : HourKept h
     unfolding settleRows hourRows
-    kept = file-kept s (whole-parts (fileRows s) (sumRows h) .0 (whole-parts (hourRows s) (bufferRows h b) .0 (settle-accepts s b .0 hour-accepted) .0) .0) .hour-kept
+    kept = file-kept s (whole-parts (fileRows s) (sumRows h) .0
+        (whole-parts (hourRows s) (bufferRows h b) .0 (settle-accepts s b .0 hour-accepted) .0) .0) .hour-kept
 
     ufe-at : (a : ℕ) → a < areas h → getD (r .ufe) a (pos 0) ≡ ufe h a
     unfolding ufeFigures
     ufe-at a l = ap (λ (u : List ℤ). getD u a (pos 0)) (fits .ufe-is ∙ settle-fills s b hour-accepted .1)
-        ∙ getD-values (λ a. cond (ltb a (areas h)) (ufe h a) (pos 0)) 8 a (pos 0) (omega (arith, kept .areas-most)) ∙ rw (lt-ltb a (areas h) l)
+        ∙ getD-values (λ a. cond (ltb a (areas h)) (ufe h a) (pos 0)) 8 a (pos 0) (omega (arith, kept .areas-most))
+        ∙ rw (lt-ltb a (areas h) l)
 
     share-at : (i : ℕ) → i < h .count → getD (after .shares) i (pos 0) ≡ shareOf h i
     unfolding filled
-    share-at i l = ap (λ (x : Buffers). getD (x .shares) i (pos 0)) (fits .buffers-are ∙ settle-fills s b hour-accepted .0) ∙ getD-replacing (shareOf h) (h .count) (b .shares) i (pos 0) l
+    share-at i l = ap (λ (x : Buffers). getD (x .shares) i (pos 0)) (fits .buffers-are ∙ settle-fills s b hour-accepted .0)
+        ∙ getD-replacing (shareOf h) (h .count) (b .shares) i (pos 0) l
 
     charge-at : (m : ℕ) → m < members h → getD (after .charges) m (pos 0) ≡ charge h m
     unfolding filled
-    charge-at m l = ap (λ (x : Buffers). getD (x .charges) m (pos 0)) (fits .buffers-are ∙ settle-fills s b hour-accepted .0) ∙ getD-replacing (charge h) (members h) (b .charges) m (pos 0) l
+    charge-at m l = ap (λ (x : Buffers). getD (x .charges) m (pos 0)) (fits .buffers-are ∙ settle-fills s b hour-accepted .0)
+        ∙ getD-replacing (charge h) (members h) (b .charges) m (pos 0) l
 
     pub fair-outcome : FairOutcome h (r .ufe) after
     fair-outcome =

@@ -53,7 +53,8 @@ module _ (s : List ℕ) where
 
   -- ---- a record: behind the first block, ten to a block
 
-  pub record-part-word : (i w : ℕ) → i < recordCount hourly s → w < 12 → word (take 48 (drop (544 + 48 * i + 32 * (i / 10)) s)) w ≡ hourOf hourly s .rec i w
+  pub record-part-word : (i w : ℕ) → i < recordCount hourly s → w < 12 →
+      word (take 48 (drop (544 + 48 * i + 32 * (i / 10)) s)) w ≡ hourOf hourly s .rec i w
   unfolding recordWord blockWord
   record-part-word i w k l =
       part-word (544 + 48 * i + 32 * (i / 10)) 48 w (128 * (1 + i / 10) + (8 + 12 * (i % 10) + w)) (omega arith) (omega arith)

@@ -14,8 +14,11 @@ use lib.ListN.{length, take, drop, getD, replicate, take-append-drop}
 use lib.Seq.{drop-drop, getD-drop, length-take-le}
 use borrow.Author.Tests.{leb-true, eqb-true, le-leb, eq-eqb}
 use Rattle.whole.proofs.Tests.{split, never, never-some, all-three, if-some}
-use Rattle.rules.specs.Text.{digitByte, isDigit, signByte, decimal, Part, blankCount, digitCount, digitsValue, pastBlanks, signAt, dollarsAt, centsAt, withMinus, amountIn}
-use Rattle.rules.proofs.Digits.{first-byte, is-digit, all-counted, make-the-number, no-leading-zero, digits-are-written, digit-range, counted-stand, value-below-power, read-digits, decimal-digits, decimal-at-least-1, decimal-length-at-most}
+use Rattle.rules.specs.Text.{digitByte, isDigit, signByte, decimal, Part, blankCount, digitCount, digitsValue, pastBlanks, signAt}
+use Rattle.rules.specs.Text.{dollarsAt, centsAt, withMinus, amountIn}
+use Rattle.rules.proofs.Digits.{first-byte, is-digit, all-counted, make-the-number, no-leading-zero, digits-are-written, digit-range}
+use Rattle.rules.proofs.Digits.{counted-stand, value-below-power, read-digits, decimal-digits, decimal-at-least-1}
+use Rattle.rules.proofs.Digits.{decimal-length-at-most}
 
 -- ---- blanks
 
@@ -92,9 +95,11 @@ module _ (s : List ℕ) (at : ℕ) where
   sign-found p e =
       let c = getD s at 0 in
       let f = if-some (eqb c 43 || eqb c 45) (some (record { value = eqb c 45; next = at + 1 })) p e in
-      rw (← Option·some-injective _ p (f .1), ← drop-drop 1 at s, ← first-byte s at) (sign-of (drop at s) (rw (← first-byte s at) at (f .0)))
+      rw (← Option·some-injective _ p (f .1), ← drop-drop 1 at s, ← first-byte s at)
+      (sign-of (drop at s) (rw (← first-byte s at) at (f .0)))
 
-  pub sign-there : (z : ℤ) (t : List ℕ) → drop at s ≡ signByte z ∷ t → signAt s at ≡ some (record { value = eqb (signByte z) 45; next = at + 1 })
+  pub sign-there : (z : ℤ) (t : List ℕ) → drop at s ≡ signByte z ∷ t →
+      signAt s at ≡ some (record { value = eqb (signByte z) 45; next = at + 1 })
   unfolding signAt
   sign-there (pos n) t e = rw (← first-byte s at, e)
   sign-there (negsuc n) t e = rw (← first-byte s at, e)
@@ -111,13 +116,22 @@ module _ (s : List ℕ) (at : ℕ) where
       (dollars-of t n (leb-true 1 n (g .0)) (leb-true n 10 (g .1)) (le-refl n) (rw (← first-byte s at) at (g .2)))
 
   -- digits end at the point
-  pub dollars-there : (n : ℕ) (t : List ℕ) → n < 10 ^ 10 → drop at s ≡ decimal n ++ 46 ∷ t → dollarsAt s at ≡ some (record { value = n; next = at + length (decimal n) })
+  pub dollars-there : (n : ℕ) (t : List ℕ) → n < 10 ^ 10 → drop at s ≡ decimal n ++ 46 ∷ t →
+      dollarsAt s at ≡ some (record { value = n; next = at + length (decimal n) })
   unfolding dollarsAt digitCount
   dollars-there n t h e =
       let d = decimal-digits n (omega arith) in
       let len = length (decimal n) in
       let counted : digitCount (decimal n ++ 46 ∷ t) ≡ len = all-counted d (46 ∷ t) ∙ add-zero len in
-      rw (← first-byte s at, e, counted, le-leb 1 len (decimal-at-least-1 n), le-leb len 10 (decimal-length-at-most n 9 h), no-leading-zero d (46 ∷ t), make-the-number d (46 ∷ t))
+      rw (
+        ← first-byte s at,
+        e,
+        counted,
+        le-leb 1 len (decimal-at-least-1 n),
+        le-leb len 10 (decimal-length-at-most n 9 h),
+        no-leading-zero d (46 ∷ t),
+        make-the-number d (46 ∷ t),
+      )
 
   pub cents-found : (p : Part ℕ) → centsAt s at ≡ some p → (p .value < 100) × (drop at s ≡ centsText (p .value) ++ drop (p .next) s)
   unfolding centsAt
@@ -130,7 +144,15 @@ module _ (s : List ℕ) (at : ℕ) where
   pub cents-there : (w : ℕ) → w < 100 → drop at s ≡ centsText w → centsAt s at ≡ some (record { value = w; next = at + 3 })
   unfolding centsAt digitsValue
   cents-there w h e =
-      rw (← first-byte s at, ← getD-drop at s 1 0, ← getD-drop at s 2 0, ← drop-drop 1 at s, e, is-digit (w / 10) (omega arith), is-digit (w % 10) (omega arith))
+      rw (
+        ← first-byte s at,
+        ← getD-drop at s 1 0,
+        ← getD-drop at s 2 0,
+        ← drop-drop 1 at s,
+        e,
+        is-digit (w / 10) (omega arith),
+        is-digit (w % 10) (omega arith),
+      )
       (ap (λ (v : ℕ). some (record { value = v; next = at + 3 })) value)
     where
       value : 10 * (10 * 0 + (digitByte (w / 10) - 48)) + (digitByte (w % 10) - 48) ≡ w
@@ -170,7 +192,8 @@ read-by-parts s z = (to, from)
         let sign = bind-eq-some-iff (signAt s (pastBlanks s 0)) _ .0 e in
         let dollars = bind-eq-some-iff (dollarsAt s (sign .0 .next)) _ .0 (sign .2) in
         let cents = bind-eq-some-iff (centsAt s (dollars .0 .next)) _ .0 (dollars .2) in
-        let end = if-some (eqb (cents .0 .next) (length s)) (withMinus (sign .0 .value) (100 * dollars .0 .value + cents .0 .value)) z (cents .2) in
+        let end = if-some (eqb (cents .0 .next) (length s)) (withMinus (sign .0 .value) (100 * dollars .0 .value + cents .0 .value)) z
+        (cents .2) in
         record {
           sign = sign .0;
           dollars = dollars .0;

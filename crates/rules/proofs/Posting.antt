@@ -58,11 +58,13 @@ module _ (h : Hour) where
         ∙ ap (λ (x : ℕ). x + cond (inArea h a isLoad n) (demand h n) 0) (tally-demand n)
 
     -- After n records an area's energy is what its records among them are accounted for.
-    pub tally-energy : (n : ℕ) → getD (tallyAfter h n .energy) a (pos 0) ≡ totalBelow (λ i. cond (eqb (areaOf h i) a) (accounted (entryOf h i)) (pos 0)) n
+    pub tally-energy : (n : ℕ) →
+        getD (tallyAfter h n .energy) a (pos 0) ≡ totalBelow (λ i. cond (eqb (areaOf h i) a) (accounted (entryOf h i)) (pos 0)) n
     unfolding tallyAfter emptyTally tallied totalBelow
     tally-energy zero = getD-replicate 8 a (pos 0) (pos 0) area
     tally-energy (suc n) =
-        getD-changed (λ x. x +ℤ accounted (entryOf h n)) (tallyAfter h n .energy) (areaOf h n) a (pos 0) (let e = tally-energy-length n in omega arith)
+        getD-changed (λ x. x +ℤ accounted (entryOf h n)) (tallyAfter h n .energy) (areaOf h n) a (pos 0)
+        (let e = tally-energy-length n in omega arith)
         ∙ added-if (eqb (areaOf h n) a) (getD (tallyAfter h n .energy) a (pos 0)) (accounted (entryOf h n))
         ∙ ap (λ (x : ℤ). x +ℤ cond (eqb (areaOf h n) a) (accounted (entryOf h n)) (pos 0)) (tally-energy n)
 
@@ -82,7 +84,8 @@ unfolding linesWith
 one-line-touched ls m k g other = getD-set-other ls m k (lineWith (getD ls m emptyLine) g) emptyLine (λ e. other (sym e))
 
 -- a posting adds to its own member's line, and nothing to another's
-line-grows : (own : Bool) (l : Line) (g : ℤ) → cond own (lineWith l g) l ≡ record { amount = l .amount +ℤ cond own g (pos 0); records = l .records + oneIf own }
+line-grows : (own : Bool) (l : Line) (g : ℤ) →
+    cond own (lineWith l g) l ≡ record { amount = l .amount +ℤ cond own g (pos 0); records = l .records + oneIf own }
 unfolding lineWith
 line-grows true l g = refl
 line-grows false l g = λ i. record { amount = sym (+ℤ-idr (l .amount)) i; records = sym (add-zero (l .records)) i }
@@ -90,11 +93,15 @@ line-grows false l g = λ i. record { amount = sym (+ℤ-idr (l .amount)) i; rec
 module _ (h : Hour) where
   -- a member's line of the first n records
   abbrev pub lineAfter : (n m : ℕ) → Line
-  lineAfter n m = record { amount = totalBelow (λ i. cond (eqb (memberOf h i) m) (grains h i) (pos 0)) n; records = countBelow (λ i. eqb (memberOf h i) m) n }
+  lineAfter n m = record {
+    amount = totalBelow (λ i. cond (eqb (memberOf h i) m) (grains h i) (pos 0)) n;
+    records = countBelow (λ i. eqb (memberOf h i) m) n;
+  }
 
   module _ (old : List Line) where
     -- After n records each member's line is that of these records, and the lines past the members' hold what they held.
-    pub lines-after : (n : ℕ) → ((i : ℕ) → i < n → memberOf h i < members h) → linesAfter h old n ≡ replacingFirst (lineAfter n) (members h) old
+    pub lines-after : (n : ℕ) → ((i : ℕ) → i < n → memberOf h i < members h) →
+        linesAfter h old n ≡ replacingFirst (lineAfter n) (members h) old
     unfolding linesAfter linesWith emptyLine totalBelow countBelow
     lines-after zero there = refl
     lines-after (suc n) there =
@@ -103,6 +110,7 @@ module _ (h : Hour) where
         ∙ replacing-ext _ _ (members h) old (λ m l. line-grows (eqb (memberOf h n) m) (lineAfter n m) (grains h n)))
 
     -- Once all records are posted, each member's line holds its exact amount and its record count.
-    pub lines-are : ((i : ℕ) → i < h .count → memberOf h i < members h) → linesAfter h old (h .count) ≡ replacingFirst (lineOf h) (members h) old
+    pub lines-are : ((i : ℕ) → i < h .count → memberOf h i < members h) →
+        linesAfter h old (h .count) ≡ replacingFirst (lineOf h) (members h) old
     unfolding lineOf amount recordsOf
     lines-are there = lines-after (h .count) there

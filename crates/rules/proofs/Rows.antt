@@ -12,10 +12,13 @@ use lib.ListN.{length, getD}
 use borrow.Author.Tests.{eqb-true}
 use Rattle.whole.proofs.Tests.{split, never-some}
 use Rattle.rules.specs.declared.Answer.{Answer}
-use Rattle.rules.specs.declared.Answer.the-variants.{Accepted, BadLength, BadSum, BadBlock, BadHead, BadRecord, BadArea, BadAmount, OutOfRange, TooNarrow, NotAnAmount, TooShort}
+use Rattle.rules.specs.declared.Answer.the-variants.{Accepted, BadLength, BadSum, BadBlock, BadHead, BadRecord, BadArea, BadAmount}
+use Rattle.rules.specs.declared.Answer.the-variants.{OutOfRange, TooNarrow, NotAnAmount, TooShort}
 use Rattle.rules.specs.HourFile.{hourly, hourOf}
-use Rattle.rules.specs.Refusals.{Row, row, Verdict, accepted, refusedAt, verdictOf, verdict, placeZeroIf, layoutRows, wordRows, sumRows, fileRows, hourRows, writeRows}
-use Rattle.rules.specs.Settling.{Buffers, Settlement, isAccepted, bufferRows, settleRows, filled, ufeFigures, noFigures, settle, write}
+use Rattle.rules.specs.Refusals.{Row, row, Verdict, accepted, refusedAt, verdictOf, verdict, placeZeroIf, layoutRows, wordRows}
+use Rattle.rules.specs.Refusals.{sumRows, fileRows, hourRows, writeRows}
+use Rattle.rules.specs.Settling.{Buffers, Settlement, isAccepted, bufferRows, settleRows, filled, ufeFigures, noFigures, settle}
+use Rattle.rules.specs.Settling.{write}
 use Rattle.rules.specs.Promises.{Accepts, AllWhole, FirstBrokenRow, OneResult}
 
 -- ---- any table
@@ -73,7 +76,8 @@ answered-by (row k (some q) ∷ rows) n p e = record {
 
 -- a table refuses with a number and place exactly when that row is broken there and every row before it is whole
 pub refuses-at-first : (rows : List Row) (n p : ℕ) → (verdict rows ≡ refusedAt (suc n) p) ↔ FirstBrokenRow rows (suc n) p
-refuses-at-first rows n p = (answered-by rows n p, λ f. ap verdict (f .in-order) ∙ first-broken-answers (f .before) (f .after) (suc n) p (f .whole-before))
+refuses-at-first rows n p =
+    (answered-by rows n p, λ f. ap verdict (f .in-order) ∙ first-broken-answers (f .before) (f .after) (suc n) p (f .whole-before))
 
 -- what the first rows refuse, all refuse alike
 pub refused-first : (rows more : List Row) → (verdict rows ≡ accepted → ⊥) → verdict (rows ++ more) ≡ verdict rows
@@ -126,7 +130,8 @@ module _ (s : List ℕ) (b : Buffers) where
   unfolding settle
   settle-verdict = either-way (isAccepted (verdict (settleRows s b))) _ _ refl refl
     where
-      either-way : (c : Bool) (x y : Settlement) → x .verdict ≡ verdict (settleRows s b) → y .verdict ≡ verdict (settleRows s b) → (cond c x y) .verdict ≡ verdict (settleRows s b)
+      either-way : (c : Bool) (x y : Settlement) → x .verdict ≡ verdict (settleRows s b) → y .verdict ≡ verdict (settleRows s b) →
+          (cond c x y) .verdict ≡ verdict (settleRows s b)
       either-way true x y p q = p
       either-way false x y p q = q
 
@@ -153,10 +158,6 @@ module _ (s : List ℕ) (b : Buffers) where
 -- ---- writing
 
 module _ (f : List ℕ) (z : ℤ) where
-  pub write-verdict : write f z .verdict ≡ verdict (writeRows (length f) z)
-  unfolding write
-  write-verdict = refl
-
   pub write-accepts : (write f z .verdict ≡ accepted) ↔ AllWhole (writeRows (length f) z)
   unfolding write
   write-accepts = accepts-when-whole (writeRows (length f) z) (write-numbered (length f) z)
@@ -176,7 +177,9 @@ module _ (f : List ℕ) (z : ℤ) where
 -- the answer with this number and place
 abbrev answerOf : Verdict → Answer
 answerOf v = let p = v .place in
-    getD (Accepted ∷ BadLength ∷ BadSum p ∷ BadBlock p ∷ BadHead p ∷ BadRecord p ∷ BadArea p ∷ BadAmount p ∷ OutOfRange ∷ TooNarrow ∷ NotAnAmount ∷ TooShort ∷ []) (v .number) Accepted
+    getD (
+    Accepted ∷ BadLength ∷ BadSum p ∷ BadBlock p ∷ BadHead p ∷ BadRecord p ∷ BadArea p ∷ BadAmount p
+    ∷ OutOfRange ∷ TooNarrow ∷ NotAnAmount ∷ TooShort ∷ []) (v .number) Accepted
 
 told : (a : Answer) → answerOf (verdictOf a) ≡ a
 told Accepted = refl
@@ -199,6 +202,7 @@ one-answer a b e = sym (told a) ∙ ap answerOf e ∙ told b
 -- what settling answers and leaves in the buffers is determined by the file and by what the buffers held
 pub one-result : OneResult
 one-result s b r t x y f g = (
-  ap₂ (λ (a : Answer) (u : List ℤ). record { answer = a; ufe = u }) (one-answer (r .answer) (t .answer) (f .verdict-is ∙ sym (g .verdict-is))) (f .ufe-is ∙ sym (g .ufe-is)),
+  ap₂ (λ (a : Answer) (u : List ℤ). record { answer = a; ufe = u })
+      (one-answer (r .answer) (t .answer) (f .verdict-is ∙ sym (g .verdict-is))) (f .ufe-is ∙ sym (g .ufe-is)),
   f .buffers-are ∙ sym (g .buffers-are),
 )

@@ -45,7 +45,13 @@ module _ (mark place count past : Rule) where
   block-words = alike (λ w. getD blockTable w past) blockTests 8
       ((((((((tt, refl), refl), refl), refl), refl), refl), refl), refl)
       (λ w l. List·getD-eq-default blockTable past l
-      ∙ sym (rw (ne-eqb w 0 (λ e. omega arith), ne-eqb w 1 (λ e. omega arith), ne-eqb w 2 (λ e. omega arith), le-ltb w 7 (omega arith), ne-eqb w 7 (λ e. omega arith))))
+      ∙ sym (rw (
+        ne-eqb w 0 (λ e. omega arith),
+        ne-eqb w 1 (λ e. omega arith),
+        ne-eqb w 2 (λ e. omega arith),
+        le-ltb w 7 (omega arith),
+        ne-eqb w 7 (λ e. omega arith),
+      )))
 
 -- ---- words of the head
 
@@ -153,7 +159,8 @@ picked [] gs = []
 picked (r ∷ rs) [] = cond (keeps r 1) mustBeZero mustBeZero ∷ picked rs []
 picked (r ∷ rs) (g ∷ gs) = cond (keeps r 1) g mustBeZero ∷ picked rs gs
 
-at-picked : (rs gs : List Rule) (j : ℕ) → getD (picked rs gs) j mustBeZero ≡ cond (keeps (getD rs j mustBeZero) 1) (getD gs j mustBeZero) mustBeZero
+at-picked : (rs gs : List Rule) (j : ℕ) →
+    getD (picked rs gs) j mustBeZero ≡ cond (keeps (getD rs j mustBeZero) 1) (getD gs j mustBeZero) mustBeZero
 unfolding keeps
 at-picked [] gs j = refl
 at-picked (r ∷ rs) [] zero = refl

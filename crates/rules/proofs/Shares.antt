@@ -1,22 +1,21 @@
 -- A size shared in whole units: handing the units left over out one at a time gives them by rank, the shares add up to the size, and
 -- each is less than a unit from its exact fraction. Who takes no part may as well demand 0.
 use Prim.Native.Nat.{ℕ, zero, suc, _+_, _-_, _*_, _/_, _%_, _≤_, _<_, zero-le}
-use native.Mathlib.Nat.{not-suc-le-zero, le-refl, le-trans, div-add-mod', mod-lt, le-of-mul-le-mul-right, sub-add-cancel, eq-zero-or-pos, le-of-eq, mul-zero, zero-mul, zero-div, zero-mod, zero-sub}
+use native.Mathlib.Nat.{not-suc-le-zero, le-refl, le-trans, div-add-mod', mod-lt, le-of-mul-le-mul-right, sub-add-cancel, eq-zero-or-pos}
+use native.Mathlib.Nat.{le-of-eq, zero-mul, zero-div, zero-mod}
 use native.Mathlib.Omega.{arith}
 use mathlib.Core.Path.{_≡_, refl, sym, _∙_, ap, ap₂, subst}
 use mathlib.Core.Logic.{⊎-elim}
 use mathlib.Core.Bool.{Bool, true, false, not, cond, and-false, _&&_}
 use mathlib.Core.Option.{Option, none, some}
-use lib.IntN.{ℤ, pos, natAbs}
 use lib.Dec.{ltb, eqb}
 use borrow.Author.Tests.{ltb-true, ltb-false, eqb-false, not-true, not-false, lt-ltb, le-ltb, ne-eqb}
 use Rattle.whole.specs.Below.{oneIf, countBelow, sumBelow}
-use Rattle.whole.specs.Signed.{withSignOf}
 use Rattle.whole.proofs.Tests.{split, never, both, and-mono, cond-ext, last-or-below}
 use Rattle.whole.proofs.Sums.{count-ext, count-mono, sum-ext, sum-mono, sum-at, sum-add, sum-mul, sum-one-if, sum-zero}
 use Rattle.whole.proofs.Rank.{Order, by-key, why-ahead, count-served}
 use Rattle.whole.proofs.Handing.{Handing, handed}
-use Rattle.rules.specs.Share.{better, firstLargest, isAt, handedOut, allDemand, wholePart, remainder, unitsLeft, shareSize, share}
+use Rattle.rules.specs.Share.{better, firstLargest, isAt, handedOut, allDemand, wholePart, remainder, unitsLeft, shareSize}
 use Rattle.rules.specs.Promises.{ahead, rankedSize}
 
 -- ---- the first largest of those that wait
@@ -68,7 +67,8 @@ module _ (rem : ℕ → ℕ) (waits : ℕ → Bool) where
   chosen : (m : ℕ) → Chosen (firstLargest rem waits m) m
   unfolding firstLargest
   chosen zero = λ j l. absurd (not-suc-le-zero l)
-  chosen (suc m) = split (waits m) (λ t. rw t (compared (firstLargest rem waits m) m t (chosen m))) (λ f. rw f (passed (firstLargest rem waits m) m f (chosen m)))
+  chosen (suc m) = split (waits m) (λ t. rw t (compared (firstLargest rem waits m) m t (chosen m)))
+      (λ f. rw f (passed (firstLargest rem waits m) m f (chosen m)))
 
   none-waits : (m : ℕ) → firstLargest rem waits m ≡ none → (j : ℕ) → j < m → waits j ≡ false
   none-waits m e = subst (λ (o : Option ℕ). Chosen o m) e (chosen m)
@@ -107,7 +107,8 @@ larger rem j i l = rw (lt-ltb (rem i) (rem j) l)
 
 not-ahead : (rem : ℕ → ℕ) (j i : ℕ) → rem j ≤ rem i → (j < i → rem j < rem i) → ahead rem j i ≡ false
 unfolding ahead
-not-ahead rem j i l m = split (ahead rem j i) (λ t. why-ahead rem j i t (λ k. absurd (omega arith)) (λ e k. absurd (let s = m k in omega arith))) (λ f. f)
+not-ahead rem j i l m =
+    split (ahead rem j i) (λ t. why-ahead rem j i t (λ k. absurd (omega arith)) (λ e k. absurd (let s = m k in omega arith))) (λ f. f)
 
 same-ahead : (rem rem′ : ℕ → ℕ) (j i : ℕ) → rem j ≡ rem′ j → rem i ≡ rem′ i → ahead rem j i ≡ ahead rem′ j i
 unfolding ahead
@@ -148,11 +149,12 @@ pub handed-count : (rem : ℕ → ℕ) (takes : ℕ → Bool) (n k : ℕ) → k 
 handed-count rem takes n k h = count-ext _ _ n (handing-is-rank rem takes n k h) ∙ count-served (ahead rem) (in-order rem) takes n k h
 
 -- Who has one depends on the remainders below n alone.
-pub handed-ext : (rem rem′ : ℕ → ℕ) (takes : ℕ → Bool) (n k : ℕ) → k ≤ countBelow takes n → ((j : ℕ) → j < n → rem j ≡ rem′ j) → (i : ℕ) → i < n →
-    handedOut rem takes n k i ≡ handedOut rem′ takes n k i
+pub handed-ext : (rem rem′ : ℕ → ℕ) (takes : ℕ → Bool) (n k : ℕ) → k ≤ countBelow takes n → ((j : ℕ) → j < n → rem j ≡ rem′ j) →
+    (i : ℕ) → i < n → handedOut rem takes n k i ≡ handedOut rem′ takes n k i
 handed-ext rem rem′ takes n k h same i l =
     handing-is-rank rem takes n k h i l
-    ∙ ap (λ (r : ℕ). takes i && ltb r k) (count-ext _ _ n (λ j m. ap (λ (b : Bool). takes j && b) (same-ahead rem rem′ j i (same j m) (same i l))))
+    ∙ ap (λ (r : ℕ). takes i && ltb r k)
+    (count-ext _ _ n (λ j m. ap (λ (b : Bool). takes j && b) (same-ahead rem rem′ j i (same j m) (same i l))))
     ∙ sym (handing-is-rank rem′ takes n k h i l)
 
 -- ---- whole parts, remainders and units left over
@@ -229,7 +231,8 @@ module _ (takes : ℕ → Bool) (D : ℕ → ℕ) (n U : ℕ) where
     pub left-few : left ≤ countBelow (λ j. takes j && ltb 0 (R j)) n
     left-few = le-of-mul-le-mul-right {k = T} (le-trans (omega (arith, left-are-remainders)) (le-trans
         (sum-mono _ (λ j. oneIf (takes j && ltb 0 (R j)) * T) n (λ j l. cond-rest (takes j) (R j) T (below-T j)))
-        (le-of-eq (sum-mul (λ j. oneIf (takes j && ltb 0 (R j))) T n ∙ ap (λ (x : ℕ). x * T) (sum-one-if (λ j. takes j && ltb 0 (R j)) n))))) some-demand
+        (le-of-eq (sum-mul (λ j. oneIf (takes j && ltb 0 (R j))) T n
+        ∙ ap (λ (x : ℕ). x * T) (sum-one-if (λ j. takes j && ltb 0 (R j)) n))))) some-demand
 
     -- So no taker gets two.
     pub left-at-most-takers : left ≤ countBelow takes n
@@ -247,17 +250,21 @@ module _ (takes : ℕ → Bool) (D : ℕ → ℕ) (n U : ℕ) where
     sizes-add-up =
         sum-ext _ _ n size-is
         ∙ sum-add (ofTakers takes W) (λ i. oneIf (takes i && ltb (rank i) left)) n
-        ∙ ap (λ (x : ℕ). wholeParts + x) (sum-one-if (λ i. takes i && ltb (rank i) left) n ∙ count-served (ahead R) (in-order R) takes n left left-at-most-takers)
+        ∙ ap (λ (x : ℕ). wholeParts + x)
+        (sum-one-if (λ i. takes i && ltb (rank i) left) n ∙ count-served (ahead R) (in-order R) takes n left left-at-most-takers)
         ∙ omega (arith, whole-parts-and-left)
 
     -- without a remainder, all that have one stand ahead, and the units don't suffice
     no-unit : (i : ℕ) → R i ≡ 0 → ltb (rank i) left ≡ false
-    no-unit i z = le-ltb (rank i) left (le-trans left-few (count-mono _ _ n (λ j l. and-mono (takes j) _ _ (λ p. larger R j i (omega (arith, ltb-true 0 (R j) p))))))
+    no-unit i z = le-ltb (rank i) left
+        (le-trans left-few (count-mono _ _ n (λ j l. and-mono (takes j) _ _ (λ p. larger R j i (omega (arith, ltb-true 0 (R j) p))))))
 
     -- Each share is less than a unit from its exact fraction.
-    pub size-near : (i : ℕ) → i < n → takes i ≡ true → (shareSize takes D n U i * T < D i * U + T) × (D i * U < shareSize takes D n U i * T + T)
+    pub size-near : (i : ℕ) → i < n → takes i ≡ true →
+        (shareSize takes D n U i * T < D i * U + T) × (D i * U < shareSize takes D n U i * T + T)
     size-near i l t = split (ltb (rank i) left)
-        (λ e. ⊎-elim (λ z. never e (no-unit i z)) (λ (p : 0 < R i). rw (size-is i l, t, e) (omega (arith, parts i, below-T i))) (eq-zero-or-pos (R i)))
+        (λ e. ⊎-elim (λ z. never e (no-unit i z))
+        (λ (p : 0 < R i). rw (size-is i l, t, e) (omega (arith, parts i, below-T i))) (eq-zero-or-pos (R i)))
         (λ e. rw (size-is i l, t, e) (omega (arith, parts i, below-T i)))
 
 -- ---- for every demand
@@ -292,11 +299,6 @@ sizes-at-most takes D n U = ⊎-elim
 pub size-at-most : (takes : ℕ → Bool) (D : ℕ → ℕ) (n U i : ℕ) → i < n → shareSize takes D n U i ≤ U
 size-at-most takes D n U i l = le-trans (sum-at (shareSize takes D n U) n i l) (sizes-at-most takes D n U)
 
--- Nothing is shared out of 0.
-pub share-of-zero : (takes : ℕ → Bool) (D : ℕ → ℕ) (n i : ℕ) → share takes D n (pos 0) i ≡ pos 0
-unfolding share shareSize wholePart unitsLeft handedOut
-share-of-zero takes D n i = rw (mul-zero, zero-div, zero-sub) (split (takes i && not (eqb (allDemand takes D n) 0)) (λ t. rw t) (λ f. rw f))
-
 -- ---- who takes no part may as well demand 0
 
 abbrev all : ℕ → Bool
@@ -324,10 +326,12 @@ module _ (takes : ℕ → Bool) (D : ℕ → ℕ) (n U : ℕ) where
       (λ s. rw s (same-ahead _ _ j i (same-remainder j ∙ rw s) (same-remainder i ∙ rw t)))
       (λ f. rw f (behind j (same-remainder j ∙ rw f) (same-remainder i ∙ rw t))))
     where
-      behind : (j : ℕ) → remainder all E n U j ≡ 0 → remainder all E n U i ≡ remainder takes D n U i → ahead (remainder all E n U) j i ≡ false
+      behind : (j : ℕ) → remainder all E n U j ≡ 0 → remainder all E n U i ≡ remainder takes D n U i →
+          ahead (remainder all E n U) j i ≡ false
       behind j z e = not-ahead (remainder all E n U) j i (omega arith) (λ l. omega arith)
 
-  same-unit : 0 < allDemand takes D n → (i : ℕ) → ltb (rank all E n U i) (left all E n U) ≡ (takes i && ltb (rank takes D n U i) (left takes D n U))
+  same-unit : 0 < allDemand takes D n → (i : ℕ) →
+      ltb (rank all E n U i) (left all E n U) ≡ (takes i && ltb (rank takes D n U i) (left takes D n U))
   unfolding allDemand
   same-unit p i = split (takes i)
       (λ t. rw t (⊎-elim
@@ -337,7 +341,8 @@ module _ (takes : ℕ → Bool) (D : ℕ → ℕ) (n U : ℕ) where
       (λ f. rw f (no-unit all E n U p i (same-remainder i ∙ rw f)))
 
 -- An engine that sees a demand of 0 for those who take no part gives the same shares.
-pub zeros-for-others : (takes : ℕ → Bool) (D : ℕ → ℕ) (n U i : ℕ) → i < n → shareSize takes D n U i ≡ shareSize (λ j. true) (λ j. cond (takes j) (D j) 0) n U i
+pub zeros-for-others : (takes : ℕ → Bool) (D : ℕ → ℕ) (n U i : ℕ) → i < n →
+    shareSize takes D n U i ≡ shareSize (λ j. true) (λ j. cond (takes j) (D j) 0) n U i
 unfolding allDemand
 zeros-for-others takes D n U i l = ⊎-elim
     (λ z. nothing-without-demand takes D n U i z ∙ sym (nothing-without-demand all (ofTakers takes D) n U i z))
@@ -380,7 +385,3 @@ module _ (takes takes′ : ℕ → Bool) (D D′ : ℕ → ℕ) (n : ℕ) (same 
       ∙ ranked all (ofTakers takes D) n U i l
       ∙ equal-ranked (ofTakers takes D) (ofTakers takes′ D′) n U same i l
       ∙ sym (zeros-for-others takes′ D′ n U i l ∙ ranked all (ofTakers takes′ D′) n U i l)
-
-  pub share-ext : (U : ℤ) (i : ℕ) → i < n → share takes D n U i ≡ share takes′ D′ n U i
-  unfolding share
-  share-ext U i l = ap (withSignOf U) (size-ext (natAbs U) i l)

@@ -5,6 +5,7 @@ use mathlib.Core.List.{List, [], _∷_, _++_}
 use Prim.Native.Nat.{ℕ, zero, suc, _*_, _^_, _≤_, _<_}
 use native.Mathlib.Omega.{arith}
 use lib.Dec.{leb}
+use lib.IntN.{ℤ}
 use lib.ListN.{length, take, getD, replicate, length-append}
 use lib.Seq.{take-all, length-take-le}
 use borrow.Author.Tests.{leb-true, leb-false, lt-ltb, le-ltb, eqb-true, eqb-false, ne-eqb}
@@ -14,7 +15,7 @@ use Rattle.rules.specs.Charge.{charge}
 use Rattle.rules.specs.HourFile.{hourly, lengthBad, hourOf, word, blockWord}
 use Rattle.rules.specs.Refusals.{Verdict, accepted, refusedAt, row, verdict, badLength, tooShort, layoutRows, fileRows, hourRows}
 use Rattle.rules.specs.Settling.{isAccepted}
-use Rattle.rules.specs.Statement.{firstLine, memberLine, memberLines, refusedLine, statement}
+use Rattle.rules.specs.Statement.{firstLine, memberLine, memberLines, acceptedLines, refusedLine, statement}
 use Rattle.rules.specs.Kept.{HourKept, FileKept}
 use Rattle.rules.proofs.Rows.{accepts-when-whole, hour-numbered, zero-accepts, refused-first, passed-on}
 use Rattle.rules.proofs.Kept.{passed-kept}
@@ -36,11 +37,16 @@ room-for-all s c l n d pc pl pn pd = split (isAccepted (verdict (hourRows s)))
     let k = accepted-kept s a .hour-kept in
     let h = hourOf hourly s in
     passed-on (hourRows s) _ (accepts-when-whole (hourRows s) (hour-numbered s) .0 a)
-    ∙ rw (le-ltb c (members h) (omega (arith, k .members-most)), le-ltb l (members h) (omega (arith, k .members-most)), le-ltb n (h .count) (omega (arith, k .count-most)), le-ltb d (h .count) (omega (arith, k .count-most))) (sym a))
+    ∙ rw (
+      le-ltb c (members h) (omega (arith, k .members-most)),
+      le-ltb l (members h) (omega (arith, k .members-most)),
+      le-ltb n (h .count) (omega (arith, k .count-most)),
+      le-ltb d (h .count) (omega (arith, k .count-most)),
+    ) (sym a))
     (λ t. refused-first (hourRows s) _ (λ a. eqb-false _ _ t (ap (λ (v : Verdict). v .number) a)))
 
 module _ (s : List ℕ) where
-  pub statement-accepted : verdict (hourRows s) ≡ accepted → statement s ≡ firstLine (hourOf hourly s) ++ memberLines (hourOf hourly s) (members (hourOf hourly s))
+  pub statement-accepted : verdict (hourRows s) ≡ accepted → statement s ≡ acceptedLines (hourOf hourly s)
   unfolding statement
   statement-accepted e = rw e
 
@@ -50,18 +56,19 @@ module _ (s : List ℕ) where
 
 -- ---- how long it is
 
-module _ (h : Hour) where
-  pub member-line-length : (m : ℕ) → length (memberLine h m) ≡ 18
-  unfolding memberLine
-  member-line-length m = rw length-append (omega (arith, field-has-width (replicate 14 32) (charge h m)))
+pub member-line-length : (m : ℕ) (z : ℤ) → length (memberLine m z) ≡ 18
+unfolding memberLine
+member-line-length m z = rw length-append (omega (arith, field-has-width (replicate 14 32) z))
 
+module _ (h : Hour) where
   pub member-lines-length : (m : ℕ) → length (memberLines h m) ≡ 18 * m
   unfolding memberLines
   member-lines-length zero = refl
-  member-lines-length (suc m) = length-append (memberLines h m) (memberLine h m) ∙ omega (arith, member-lines-length m, member-line-length m)
+  member-lines-length (suc m) =
+      length-append (memberLines h m) (memberLine m (charge h m)) ∙ omega (arith, member-lines-length m, member-line-length m (charge h m))
 
   -- an hour number of 32 bits has at most ten digits, members have two, records three
-  pub first-line-most : HourKept h → hourNumber h < 2 ^ 32 → length (firstLine h) ≤ 39
+  pub first-line-most : HourKept h → hourNumber h < 2 ^ 32 → length (firstLine (hourNumber h) (members h) (h .count)) ≤ 39
   unfolding firstLine
   first-line-most kept n = simp length-append (omega (
     arith,
@@ -69,6 +76,11 @@ module _ (h : Hour) where
     decimal-length-at-most (members h) 1 (omega (arith, kept .members-most)),
     decimal-length-at-most (h .count) 2 (omega (arith, kept .count-most)),
   ))
+
+  pub accepted-lines-most : HourKept h → hourNumber h < 2 ^ 32 → length (acceptedLines h) ≤ 615
+  unfolding acceptedLines
+  accepted-lines-most kept n = rw length-append
+      (omega (arith, first-line-most kept n, member-lines-length (members h), kept .members-most))
 
 pub refused-line-most : (v : Verdict) → length (refusedLine v) ≤ 53
 unfolding refusedLine
@@ -83,10 +95,7 @@ hour-number-most s b = omega (arith, b 32, b 33, b 34, b 35)
 pub statement-fits : (s : List ℕ) → ((i : ℕ) → getD s i 0 < 256) → length (statement s) ≤ 615
 statement-fits s b = split (isAccepted (verdict (hourRows s)))
     (λ t. let a = zero-accepts (hourRows s) (hour-numbered s) (eqb-true _ _ t) in
-    let h = hourOf hourly s in
-    let kept = accepted-kept s a .hour-kept in
-    rw (statement-accepted s a, length-append (firstLine h) (memberLines h (members h)), member-lines-length h (members h))
-    (omega (arith, first-line-most h kept (hour-number-most s b), kept .members-most)))
+    rw (statement-accepted s a) (accepted-lines-most (hourOf hourly s) (accepted-kept s a .hour-kept) (hour-number-most s b)))
     (λ t. rw (statement-refused s (eqb-false _ _ t)) (omega (arith, refused-line-most (verdict (hourRows s)))))
 
 -- ---- of a cut input

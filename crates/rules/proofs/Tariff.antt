@@ -12,8 +12,10 @@ use Rattle.whole.proofs.Linear.{zr, all3, all4, all5, all6}
 use Rattle.whole.proofs.Totals.{total-ext, total-add, total-neg, total-mul, total-swap, total-pick}
 use Rattle.rules.specs.declared.Kind.{Kind}
 use Rattle.rules.specs.declared.Kind.the-variants.{Generator, RealTimeLoad, ProfileLoad, Import, Export, Unknown}
-use Rattle.rules.specs.Record.{Hour, Entry, kindNumber, zones, zonePrice, zoneOf, tieIn, tieOut, price, memberOf, areaOf, entryOf, isGenerator, isRealTime, isProfile, isLoad, isImport, isExport}
-use Rattle.rules.specs.Deviation.{unitsPerKWh, generatorUnavailable, generatorDeviation, loadUnavailable, loadDeviation, importDeviation, exportDeviation, deviation, deviationAs}
+use Rattle.rules.specs.Record.{Hour, Entry, kindNumber, zones, zonePrice, zoneOf, tieIn, tieOut, price, memberOf, areaOf, entryOf}
+use Rattle.rules.specs.Record.{isGenerator, isRealTime, isProfile, isLoad, isImport, isExport}
+use Rattle.rules.specs.Deviation.{unitsPerKWh, generatorUnavailable, generatorDeviation, loadUnavailable, loadDeviation}
+use Rattle.rules.specs.Deviation.{importDeviation, exportDeviation, deviation, deviationAs}
 use Rattle.rules.specs.Ufe.{inArea, areaSum, losses, ufe}
 use Rattle.rules.specs.Charge.{enteringAs, entering, shareOf, grains, amount}
 use Rattle.rules.specs.Posting.{accountedAs, accounted}
@@ -27,7 +29,8 @@ pub generator-renders : (r : Entry) → generatorDeviation r ≡ genDev r
 unfolding generatorDeviation generatorUnavailable genDev
 generator-renders r = refl
 
-load-units : (s a n u : ℤ) → unitsPerKWh *ℤ (s -ℤ (a +ℤ n) -ℤ u) ≡ unitsPerKWh *ℤ s -ℤ (unitsPerKWh *ℤ a +ℤ unitsPerKWh *ℤ n) -ℤ unitsPerKWh *ℤ u
+load-units : (s a n u : ℤ) →
+    unitsPerKWh *ℤ (s -ℤ (a +ℤ n) -ℤ u) ≡ unitsPerKWh *ℤ s -ℤ (unitsPerKWh *ℤ a +ℤ unitsPerKWh *ℤ n) -ℤ unitsPerKWh *ℤ u
 load-units = all4 _ (λ s a n u. simp zr (omega arith))
 
 pub load-renders : (r : Entry) → loadDeviation r ≡ loadDev r
@@ -61,7 +64,8 @@ deviation-renders r = renders-as (r .kind) r
 -- ---- UFE
 
 -- a record is of one kind, so a test for two is passed by one of them at most
-either-kind : (b p q : Bool) (z : ℤ) → (p ≡ true → q ≡ false) → cond (b && (p || q)) z (pos 0) ≡ cond (b && p) z (pos 0) +ℤ cond (b && q) z (pos 0)
+either-kind : (b p q : Bool) (z : ℤ) → (p ≡ true → q ≡ false) →
+    cond (b && (p || q)) z (pos 0) ≡ cond (b && p) z (pos 0) +ℤ cond (b && q) z (pos 0)
 either-kind false p q z e = refl
 either-kind true true q z e = rw (e refl) (sym (+ℤ-idr z))
 either-kind true false q z e = sym (+ℤ-idl _)
@@ -72,7 +76,8 @@ module _ (h : Hour) (a : ℕ) where
       areaSum h a (λ k. p k || q k) figure ≡ areaSum h a p figure +ℤ areaSum h a q figure
   unfolding areaSum inArea
   kinds-apart p q figure e =
-      total-ext _ _ (h .count) (λ i l. either-kind (eqb (areaOf h i) a) (p (entryOf h i .kind)) (q (entryOf h i .kind)) (figure (entryOf h i)) (e (entryOf h i .kind)))
+      total-ext _ _ (h .count) (λ i l. either-kind (eqb (areaOf h i) a) (p (entryOf h i .kind)) (q (entryOf h i .kind))
+      (figure (entryOf h i)) (e (entryOf h i .kind)))
       ∙ total-add _ _ (h .count)
 
   loads-apart : areaSum h a isLoad (λ r. r .A) ≡ areaSum h a isRealTime (λ r. r .A) +ℤ areaSum h a isProfile (λ r. r .A)
@@ -85,7 +90,8 @@ module _ (h : Hour) (a : ℕ) where
   -- An area's UFE is that of 003 for its territory, which adds up the two kinds of load apart, and the losses of generators and imports.
   pub ufe-renders : ufe h a ≡ ufeOfTerritory h a
   unfolding ufe ufeOfTerritory
-  ufe-renders = ap₂ (λ (load lost : ℤ). unitsPerKWh *ℤ (tieIn h a -ℤ tieOut h a +ℤ areaSum h a isGenerator (λ r. r .A) -ℤ load) -ℤ lost) loads-apart losses-apart
+  ufe-renders = ap₂ (λ (load lost : ℤ). unitsPerKWh *ℤ
+      (tieIn h a -ℤ tieOut h a +ℤ areaSum h a isGenerator (λ r. r .A) -ℤ load) -ℤ lost) loads-apart losses-apart
 
 -- ---- UFE as a sum over records
 
@@ -103,7 +109,8 @@ accounted-parts true Import A H = simp +ℤ-idl
 accounted-parts true Export A H = refl
 accounted-parts true Unknown A H = refl
 
-ties-apart : (x y g l t : ℤ) → unitsPerKWh *ℤ (x -ℤ y +ℤ g -ℤ l) -ℤ t ≡ unitsPerKWh *ℤ (x -ℤ y) +ℤ (unitsPerKWh *ℤ g -ℤ unitsPerKWh *ℤ l -ℤ t)
+ties-apart : (x y g l t : ℤ) →
+    unitsPerKWh *ℤ (x -ℤ y +ℤ g -ℤ l) -ℤ t ≡ unitsPerKWh *ℤ (x -ℤ y) +ℤ (unitsPerKWh *ℤ g -ℤ unitsPerKWh *ℤ l -ℤ t)
 ties-apart = all5 _ (λ x y g l t. simp zr (omega arith))
 
 module _ (h : Hour) (a : ℕ) where
@@ -115,7 +122,8 @@ module _ (h : Hour) (a : ℕ) where
       ∙ simp (total-add, total-neg, total-mul)
 
   -- An area's UFE is what its ties bring, and what each of its records is accounted for: so postings can add it up.
-  pub ufe-by-record : ufe h a ≡ unitsPerKWh *ℤ (tieIn h a -ℤ tieOut h a) +ℤ totalBelow (λ i. cond (eqb (areaOf h i) a) (accounted (entryOf h i)) (pos 0)) (h .count)
+  pub ufe-by-record : ufe h a
+      ≡ unitsPerKWh *ℤ (tieIn h a -ℤ tieOut h a) +ℤ totalBelow (λ i. cond (eqb (areaOf h i) a) (accounted (entryOf h i)) (pos 0)) (h .count)
   unfolding ufe
   ufe-by-record =
       ties-apart (tieIn h a) (tieOut h a) (areaSum h a isGenerator (λ r. r .A)) (areaSum h a isLoad (λ r. r .A)) (losses h a)
@@ -160,13 +168,17 @@ module _ (h : Hour) (allocated : ℕ → ℤ) (j : ℕ) where
   enters i = cond (eqb (memberOf h i) j) (entering (entryOf h i) +ℤ cond (isLoad (entryOf h i .kind)) (allocated i) (pos 0)) (pos 0)
 
   -- IEC is a sum over records too
-  iec-by-record : (x : ℕ) → IEC h allocated j x ≡ totalBelow (λ i. cond (eqb (zoneOf h (areaOf h i)) x) (zonePrice h x *ℤ enters i) (pos 0)) (h .count)
+  iec-by-record : (x : ℕ) →
+      IEC h allocated j x ≡ totalBelow (λ i. cond (eqb (zoneOf h (areaOf h i)) x) (zonePrice h x *ℤ enters i) (pos 0)) (h .count)
   unfolding IEC UFEC coordinatorSum entering
   iec-by-record x =
-      price-first (over isGenerator (at genDev)) (over isLoad (at loadDev)) (over isImport (at impDev)) (over isExport (at expDev)) (over isLoad allocated) P
+      price-first (over isGenerator (at genDev)) (over isLoad (at loadDev)) (over isImport (at impDev)) (over isExport (at expDev))
+      (over isLoad allocated) P
       -- the five sums as one
-      ∙ simp (← total-add, ← total-neg, ← total-mul) (total-ext _ _ (h .count) (λ i l. let r = entryOf h i in let z = eqb (zoneOf h (areaOf h i)) x in
-      ap (λ (y : ℤ). P *ℤ y) (entering-parts r (r .kind) (deviation r) (allocated i) (eqb (memberOf h i) j) z (deviation-renders r)) ∙ times-cond P z (enters i)))
+      ∙ simp (← total-add, ← total-neg, ← total-mul)
+      (total-ext _ _ (h .count) (λ i l. let r = entryOf h i in let z = eqb (zoneOf h (areaOf h i)) x in
+      ap (λ (y : ℤ). P *ℤ y) (entering-parts r (r .kind) (deviation r) (allocated i) (eqb (memberOf h i) j) z (deviation-renders r))
+      ∙ times-cond P z (enters i)))
     where
       P : ℤ
       P = zonePrice h x
@@ -189,4 +201,5 @@ module _ (h : Hour) (m : ℕ) where
   amount-is-IEC there = sym (
       total-ext _ _ (zones h) (λ x l. iec-by-record h (shareOf h) m x)
       ∙ total-swap (λ x i. cond (eqb (zoneOf h (areaOf h i)) x) (zonePrice h x *ℤ enters h (shareOf h) m i) (pos 0)) (zones h) (h .count)
-      ∙ total-ext _ _ (h .count) (λ i l. total-pick (λ x. zonePrice h x *ℤ enters h (shareOf h) m i) (zones h) (zoneOf h (areaOf h i)) (there i l) ∙ in-own-zone i))
+      ∙ total-ext _ _ (h .count) (λ i l. total-pick
+      (λ x. zonePrice h x *ℤ enters h (shareOf h) m i) (zones h) (zoneOf h (areaOf h i)) (there i l) ∙ in-own-zone i))

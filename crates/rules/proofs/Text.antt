@@ -18,7 +18,8 @@ use Rattle.rules.specs.Refusals.{Verdict, accepted, refusedAt, verdict, 
 use Rattle.rules.specs.Settling.{Written, ReadAmount, orRefused, write, read}
 use Rattle.rules.specs.Promises.{IsTextOf}
 use Rattle.rules.proofs.Digits.{decimal-length-at-most}
-use Rattle.rules.proofs.Parts.{blanks-found, blanks-there, centsText, sign-found, sign-there, dollars-found, dollars-there, cents-found, cents-there, minus-found, minus-there, WasRead, read-by-parts}
+use Rattle.rules.proofs.Parts.{blanks-found, blanks-there, centsText, sign-found, sign-there, dollars-found, dollars-there}
+use Rattle.rules.proofs.Parts.{cents-found, cents-there, minus-found, minus-there, WasRead, read-by-parts}
 
 -- ---- the text
 
@@ -110,7 +111,8 @@ module _ (s : List ℕ) (z : ℤ) (t : IsTextOf z s) where
   blanks-and-parts = t .spelled ∙ rw (text-by-parts z inDollars restInCents (omega arith) (omega arith))
 
   sign-stands : drop (t .blanks) s ≡ signByte z ∷ afterSign
-  sign-stands = rw blanks-and-parts (drop-at (replicate (t .blanks) 32) (signByte z ∷ afterSign) (t .blanks) (length-replicate (t .blanks) 32))
+  sign-stands =
+      rw blanks-and-parts (drop-at (replicate (t .blanks) 32) (signByte z ∷ afterSign) (t .blanks) (length-replicate (t .blanks) 32))
 
   dollars-stand : drop pastSign s ≡ afterSign
   dollars-stand = drop-past s (signByte z ∷ []) afterSign (t .blanks) sign-stands
@@ -177,11 +179,13 @@ module _ (f : List ℕ) (z : ℤ) where
   unfolding write writeRows verdict outOfRange
   write-out-of-range h = rw (lt-ltb 999999999999 (natAbs z) h)
 
-  pub write-too-narrow : natAbs z ≤ 999999999999 → length f < length (amountText z) → write f z ≡ record { verdict = refusedAt 9 0; field = f }
+  pub write-too-narrow : natAbs z ≤ 999999999999 → length f < length (amountText z) →
+      write f z ≡ record { verdict = refusedAt 9 0; field = f }
   unfolding write writeRows verdict outOfRange tooNarrow
   write-too-narrow h l = rw (le-ltb 999999999999 (natAbs z) h, lt-ltb (length f) (length (amountText z)) l)
 
-  pub write-accepted-at : natAbs z ≤ 999999999999 → length (amountText z) ≤ length f → write f z ≡ record { verdict = accepted; field = amountField (length f) z }
+  pub write-accepted-at : natAbs z ≤ 999999999999 → length (amountText z) ≤ length f →
+      write f z ≡ record { verdict = accepted; field = amountField (length f) z }
   unfolding write writeRows verdict outOfRange tooNarrow
   write-accepted-at h l = rw (le-ltb 999999999999 (natAbs z) h, le-ltb (length f) (length (amountText z)) l)
 
@@ -216,7 +220,8 @@ written-in-14 f z l h =
 -- ---- what is written is read, and what is read is written
 
 -- written, then read
-pub written-read : (f : List ℕ) (z : ℤ) → write f z .verdict ≡ accepted → read (write f z .field) ≡ record { verdict = accepted; amount = z }
+pub written-read : (f : List ℕ) (z : ℤ) → write f z .verdict ≡ accepted →
+    read (write f z .field) ≡ record { verdict = accepted; amount = z }
 unfolding amountField
 written-read f z e =
     let a = accepted-in-range f z e in
@@ -224,7 +229,8 @@ written-read f z e =
     (read-accepts (amountField (length f) z) z .1 (record { in-range = a .0; blanks = length f - length (amountText z); spelled = refl }))
 
 -- read, then written at the same width
-pub read-written : (s f : List ℕ) (z : ℤ) → read s ≡ record { verdict = accepted; amount = z } → length f ≡ length s → write f z ≡ record { verdict = accepted; field = s }
+pub read-written : (s f : List ℕ) (z : ℤ) → read s ≡ record { verdict = accepted; amount = z } → length f ≡ length s →
+    write f z ≡ record { verdict = accepted; field = s }
 read-written s f z e l =
     let t = read-accepts s z .0 e in
     let w = length-with-blanks s z t in

@@ -34,20 +34,6 @@ holds (Between least most) v e = let b = both (leb least v) (leb v most) e in (l
 holds (LessThan n) v e = ltb-true v n e
 holds (AtMostInSize n) v e = record { under = leb-true (natAbs (signed v)) n e }
 
-pub keeps-holds : (r : Rule) (v : ℕ) → Holds r v → keeps r v ≡ true
-unfolding keeps
-keeps-holds Any v h = refl
-keeps-holds (Between least most) v h = rw (le-leb least v (h .0), le-leb v most (h .1))
-keeps-holds (LessThan n) v h = lt-ltb v n h
-keeps-holds (AtMostInSize n) v h = le-leb (natAbs (signed v)) n (h .under)
-
--- ---- words
-
--- four bytes make a number of 32 bits
-pub word-small : (s : List ℕ) → ((i : ℕ) → getD s i 0 < 256) → (k : ℕ) → word s k < 0x1_0000_0000
-unfolding word
-word-small s bytes k = omega (arith, bytes (4 * k), bytes (4 * k + 1), bytes (4 * k + 2), bytes (4 * k + 3))
-
 -- ---- the length
 
 -- a length that row 1 lets pass: whole blocks, at least one and at most so many

@@ -13,7 +13,7 @@ use Rattle.rules.specs.Deviation.{generatorDeviation, loadDeviation, imp
 use Rattle.rules.specs.Ufe.{inArea, areaSum, ufe, demand}
 use Rattle.rules.specs.Share.{share}
 
--- the deviation as it enters an amount: added for generators and imports, taken off for loads and exports
+-- "A member's exact amount": the deviation as it enters, added for generators and imports, taken off for loads and exports
 abbrev pub enteringAs : Kind → ℤ → ℤ
 enteringAs Generator d = d
 enteringAs RealTimeLoad d = negℤ d
@@ -25,7 +25,7 @@ enteringAs Unknown d = pos 0
 unfoldable pub entering : Entry → ℤ
 entering r = enteringAs (r .kind) (deviation r)
 
--- grains to the nearest cent, halves away from zero
+-- "Charge in cents": grains to the nearest cent, halves away from zero
 unfoldable pub nearestCent : ℕ → ℕ
 nearestCent g = (g + 5000000) / 10000000
 
@@ -33,7 +33,7 @@ unfoldable pub cents : ℤ → ℤ
 cents g = withSignOf g (nearestCent (natAbs g))
 
 module _ (h : Hour) where
-  -- shares go to load records only: an area's UFE over its loads
+  -- "Shares go to load records only": an area's UFE over its loads
   unfoldable pub shareOf : ℕ → ℤ
   shareOf i = cond (isLoad (entryOf h i .kind)) (share (inArea h (areaOf h i) isLoad) (demand h) (h .count) (ufe h (areaOf h i)) i) (pos 0)
 
@@ -41,7 +41,7 @@ module _ (h : Hour) where
   unfoldable pub grains : ℕ → ℤ
   grains i = price h (areaOf h i) *ℤ (entering (entryOf h i) +ℤ shareOf i)
 
-  -- a member's exact amount; positive means that the member pays
+  -- "A member's exact amount in grains"; positive means that the member pays
   unfoldable pub amount : ℕ → ℤ
   amount m = totalBelow (λ i. cond (eqb (memberOf h i) m) (grains i) (pos 0)) (h .count)
 
@@ -51,7 +51,7 @@ module _ (h : Hour) where
   unfoldable pub charge : ℕ → ℤ
   charge m = cents (amount m)
 
-  -- over the areas, the zone price times (generator, minus load, plus import, minus export deviations, plus UFE)
+  -- "The pool's total": over the areas, the zone price times (generator, minus load, plus import, minus export deviations, plus UFE)
   unfoldable pub poolTotal : ℤ
   poolTotal = totalBelow (λ a. price h a *ℤ (
       areaSum h a isGenerator generatorDeviation -ℤ areaSum h a isLoad loadDeviation

@@ -1,4 +1,5 @@
--- Demand 3 of what a settling answered and wrote: its figures are those answered and those in the caller's buffers. Minutes, demand 3.
+-- Demand 3 of what a settling answered and wrote: `Fair` of Promises, with the figures answered and those in the caller's buffers in place
+-- of the definitions'. Minutes, demand 3.
 use Prim.Native.Nat.{ℕ, _+_, _*_, _≤_, _<_}
 use mathlib.Core.Path.{_≡_}
 use mathlib.Core.Bool.{true, cond}
@@ -31,6 +32,7 @@ module _ (h : Hour) (ufes : List ℤ) (after : Buffers) where
         natAbs (share i *ℤ pos (demands h (areaOf h i)) -ℤ pos (demand h i) *ℤ ufe (areaOf h i)) < demands h (areaOf h i)
     pub none-to-share : (i : ℕ) → i < h .count → demands h (areaOf h i) ≡ 0 → share i ≡ pos 0
     -- half a cent, and one unit at the size of the zone's price for each load record
-    pub charged : (m : ℕ) → m < members h → natAbs (charge m *ℤ pos (10000000 * allT h) -ℤ unrounded h m) ≤ (5000000 + loadPrices h m) * allT h
+    pub charged : (m : ℕ) → m < members h →
+        natAbs (charge m *ℤ pos (10000000 * allT h) -ℤ unrounded h m) ≤ (5000000 + loadPrices h m) * allT h
     -- half a cent a member
     pub pooled : natAbs (totalBelow charge (members h) *ℤ pos 10000000 -ℤ poolTotal h) ≤ 5000000 * members h

@@ -44,7 +44,9 @@ printedSettlement = record {
     charges = pos 500 ∷ negℤ (pos 500) ∷ pos 9 ∷ [];
     shares = pos 0 ∷ pos 300000 ∷ pos 8 ∷ [];
     deviations = pos 1000000 ∷ pos 1300000 ∷ pos 7 ∷ [];
-    lines = record { amount = pos 5000000000; records = 1 } ∷ record { amount = negℤ (pos 5000000000); records = 1 } ∷ record { amount = pos 6; records = 5 } ∷ [];
+    lines = record { amount = pos 5000000000; records = 1 }
+        ∷ record { amount = negℤ (pos 5000000000); records = 1 }
+        ∷ record { amount = pos 6; records = 5 } ∷ [];
   };
 }
 

@@ -26,7 +26,8 @@ use Rattle.rules.specs.Tariff.{devAs, ufeOfTerritory, IEC}
 abbrev pub Accepts : List ℕ → Buffers → Type 0
 Accepts s b = settle s b .verdict ≡ accepted
 
--- ---- DEMAND 1: refused exactly when the table says, with its number and place, and nothing changed
+-- ---- DEMAND 1: refused exactly when the table says, with its number and place, and nothing changed.
+-- Document 01, "Refusal numbers and their order"; what is read is "Text amounts"
 
 -- every row is whole
 abbrev pub AllWhole : List Row → Type 0
@@ -48,17 +49,19 @@ pub record IsTextOf (z : ℤ) (s : List ℕ) : Type 0 where
 
 pub record Demand1 : Type 0 where
   pub settle-accepts : (s : List ℕ) (b : Buffers) → Accepts s b ↔ AllWhole (settleRows s b)
-  pub settle-refuses : (s : List ℕ) (b : Buffers) (n p : ℕ) → (settle s b .verdict ≡ refusedAt (suc n) p) ↔ FirstBrokenRow (settleRows s b) (suc n) p
+  pub settle-refuses : (s : List ℕ) (b : Buffers) (n p : ℕ) →
+      (settle s b .verdict ≡ refusedAt (suc n) p) ↔ FirstBrokenRow (settleRows s b) (suc n) p
   pub settle-changes-nothing : (s : List ℕ) (b : Buffers) → (Accepts s b → ⊥) → (settle s b .buffers ≡ b) × (settle s b .ufe ≡ noFigures)
   pub write-accepts : (f : List ℕ) (z : ℤ) → (write f z .verdict ≡ accepted) ↔ AllWhole (writeRows (length f) z)
-  pub write-refuses : (f : List ℕ) (z : ℤ) (n p : ℕ) → (write f z .verdict ≡ refusedAt (suc n) p) ↔ FirstBrokenRow (writeRows (length f) z) (suc n) p
+  pub write-refuses : (f : List ℕ) (z : ℤ) (n p : ℕ) →
+      (write f z .verdict ≡ refusedAt (suc n) p) ↔ FirstBrokenRow (writeRows (length f) z) (suc n) p
   pub write-changes-nothing : (f : List ℕ) (z : ℤ) → (write f z .verdict ≡ accepted → ⊥) → write f z .field ≡ f
   pub read-accepts : (s : List ℕ) (z : ℤ) → (read s ≡ record { verdict = accepted; amount = z }) ↔ IsTextOf z s
   pub read-refuses : (s : List ℕ) → (read s ≡ record { verdict = refusedAt 10 0; amount = pos 0 }) ↔ ((z : ℤ) → IsTextOf z s → ⊥)
 
--- ---- DEMAND 2: every figure by the formulas of 003, every text with its sign
+-- ---- DEMAND 2: every figure by the formulas of 003 (`Tariff`), every text with its sign (document 01, "Text amounts")
 
--- j stands ahead of i among an area's loads: a larger remainder, or an equal one and earlier
+-- document 01's leftover units a second way, by rank: j stands ahead of i, with a larger remainder, or an equal one and earlier
 unfoldable pub ahead : (ℕ → ℕ) → ℕ → ℕ → Bool
 ahead rem j i = ltb (rem i) (rem j) || (eqb (rem j) (rem i) && ltb j i)
 
@@ -83,7 +86,8 @@ pub record ByFormula (h : Hour) (before : Buffers) (ufes : List ℤ) (after : Bu
   pub charge-is : (m : ℕ) → m < members h → getD (after .charges) m (pos 0) ≡ cents (allZones h m)
   pub line-is : (m : ℕ) → m < members h → getD (after .lines) m emptyLine ≡ record { amount = allZones h m; records = recordsOf h m }
   -- a member without records pays nothing
-  pub no-records : (m : ℕ) → m < members h → recordsOf h m ≡ 0 → (getD (after .charges) m (pos 0) ≡ pos 0) × (getD (after .lines) m emptyLine ≡ emptyLine)
+  pub no-records : (m : ℕ) → m < members h → recordsOf h m ≡ 0 →
+      (getD (after .charges) m (pos 0) ≡ pos 0) × (getD (after .lines) m emptyLine ≡ emptyLine)
   pub past-charges : drop (members h) (after .charges) ≡ drop (members h) (before .charges)
   pub past-lines : drop (members h) (after .lines) ≡ drop (members h) (before .lines)
   pub past-shares : drop (h .count) (after .shares) ≡ drop (h .count) (before .shares)
@@ -94,13 +98,16 @@ pub record ByFormula (h : Hour) (before : Buffers) (ufes : List ℤ) (after : Bu
 pub record Demand2 : Type 0 where
   pub settled : (s : List ℕ) (b : Buffers) → Accepts s b → ByFormula (hourOf hourly s) b (settle s b .ufe) (settle s b .buffers)
   -- written, then read; read, then written at the same width
-  pub written-read : (f : List ℕ) (z : ℤ) → write f z .verdict ≡ accepted → read (write f z .field) ≡ record { verdict = accepted; amount = z }
-  pub read-written : (s f : List ℕ) (z : ℤ) → read s ≡ record { verdict = accepted; amount = z } → length f ≡ length s → write f z ≡ record { verdict = accepted; field = s }
+  pub written-read : (f : List ℕ) (z : ℤ) → write f z .verdict ≡ accepted →
+      read (write f z .field) ≡ record { verdict = accepted; amount = z }
+  pub read-written : (s f : List ℕ) (z : ℤ) → read s ≡ record { verdict = accepted; amount = z } → length f ≡ length s →
+      write f z ≡ record { verdict = accepted; field = s }
   -- the statement shows every charge whole
   pub printed : (s : List ℕ) → verdict (hourRows s) ≡ accepted → let h = hourOf hourly s in (m : ℕ) → m < members h →
-      (length (amountText (charge h m)) ≤ 14) × (memberLine h m ≡ digitByte (m / 10) ∷ digitByte (m % 10) ∷ bytes " " ++ amountField 14 (charge h m) ++ bytes "\n")
+      (length (amountText (charge h m)) ≤ 14)
+      × (memberLine m (charge h m) ≡ digitByte (m / 10) ∷ digitByte (m % 10) ∷ bytes " " ++ amountField 14 (charge h m) ++ bytes "\n")
 
--- ---- DEMAND 3: the sums come out whole, without fractions
+-- ---- DEMAND 3: the sums come out whole, without fractions. Document 01, "The sums": the exact fraction, and how both are compared
 
 module _ (h : Hour) where
   -- an area's T where it isn't 0

@@ -9,7 +9,7 @@ use lib.Dec.{ltb, eqb}
 use Rattle.rules.specs.declared.Kind.{Kind}
 use Rattle.rules.specs.declared.Kind.the-variants.{Generator, RealTimeLoad, ProfileLoad, Import, Export, Unknown}
 
--- word w of the head, the number of records, word w of record i; places as in the tables
+-- word w of the head, the number of records, word w of record i; places as in the tables of "The hour file"
 pub record Hour : Type 0 where
   pub head : ℕ → ℕ
   pub count : ℕ
@@ -19,7 +19,7 @@ pub record Hour : Type 0 where
 unfoldable pub signed : ℕ → ℤ
 signed w = cond (ltb w 0x8000_0000) (pos w) (pos w -ℤ pos 0x1_0000_0000)
 
--- ---- the first body
+-- ---- the first body: "First body" of "The hour file"
 
 module _ (h : Hour) where
   abbrev pub hourNumber : ℕ
@@ -34,11 +34,11 @@ module _ (h : Hour) where
   abbrev pub areas : ℕ
   areas = h .head 11
 
-  -- cents per MWh
+  -- words 12 to 15, in cents per MWh ("Units and ranges")
   unfoldable pub zonePrice : ℕ → ℤ
   zonePrice z = signed (h .head (12 + z))
 
-  -- four words an area: zone, tie in, tie out, zero
+  -- words 16 to 47, four an area: zone, tie in, tie out, zero
   unfoldable pub zoneOf : ℕ → ℕ
   zoneOf a = h .head (16 + 4 * a)
 
@@ -52,7 +52,7 @@ module _ (h : Hour) where
   unfoldable pub price : ℕ → ℤ
   price a = zonePrice (zoneOf a)
 
--- ---- records
+-- ---- records: "Record words" and "Kinds" of "The hour file"
 
 -- word 0: the five kinds, by their numbers
 abbrev pub kindNumber : Kind → ℕ
@@ -86,7 +86,8 @@ isExport k = eqb (kindNumber k) 5
 abbrev pub isLoad : Kind → Bool
 isLoad k = isRealTime k || isProfile k
 
--- S scheduled, A actual, J adjustment, N ancillary, O obligation, M maximum, F and H the scheduled and the hour-ahead multiplier
+-- "The sums": S scheduled, A actual, J adjustment, N ancillary, O obligation, M maximum, F and H the scheduled and the hour-ahead
+-- multiplier
 pub record Entry : Type 0 where
   pub kind : Kind
   pub S : ℤ
@@ -98,7 +99,7 @@ pub record Entry : Type 0 where
   pub F : ℤ
   pub H : ℤ
 
--- twelve words as an entry
+-- twelve words as an entry: words 3 to 10 under their letters
 unfoldable pub entry : (ℕ → ℕ) → Entry
 entry w = record {
   kind = kindOf (w 0);

@@ -2,6 +2,7 @@
 use Prim.Native.Nat.{ℕ, zero, suc, _/_, _%_}
 use mathlib.Core.Bool.{cond}
 use mathlib.Core.List.{List, [], _∷_, _++_}
+use lib.IntN.{ℤ}
 use lib.ListN.{replicate}
 use Rattle.rules.specs.Record.{Hour, hourNumber, members}
 use Rattle.rules.specs.Charge.{charge}
@@ -10,23 +11,27 @@ use Rattle.rules.specs.HourFile.{hourly, hourOf}
 use Rattle.rules.specs.Refusals.{Verdict, verdict, hourRows}
 use Rattle.rules.specs.Settling.{isAccepted, write}
 
--- hour, its number, members, their count, records, their count
-unfoldable pub firstLine : Hour → List ℕ
-firstLine h = bytes "hour " ++ decimal (hourNumber h) ++ bytes " members " ++ decimal (members h) ++ bytes " records " ++ decimal (h .count) ++ bytes "\n"
+-- line 1: hour, its number, members, their count, records, their count
+unfoldable pub firstLine : (hour memberCount recordCount : ℕ) → List ℕ
+firstLine hour memberCount recordCount =
+    bytes "hour " ++ decimal hour ++ bytes " members " ++ decimal memberCount ++ bytes " records " ++ decimal recordCount ++ bytes "\n"
 
--- two digits, a blank, the charge in 14 columns
-unfoldable pub memberLine : Hour → ℕ → List ℕ
-memberLine h m = digitByte (m / 10) ∷ digitByte (m % 10) ∷ bytes " " ++ write (replicate 14 32) (charge h m) .field ++ bytes "\n"
+-- a member's number in two digits, a blank, the charge in 14 columns
+unfoldable pub memberLine : (member : ℕ) (cents : ℤ) → List ℕ
+memberLine m z = digitByte (m / 10) ∷ digitByte (m % 10) ∷ bytes " " ++ write (replicate 14 32) z .field ++ bytes "\n"
 
--- a line a member in order
+-- a line a member in order: those of the first members
 unfoldable pub memberLines : Hour → ℕ → List ℕ
 memberLines h zero = []
-memberLines h (suc m) = memberLines h m ++ memberLine h m
+memberLines h (suc m) = memberLines h m ++ memberLine m (charge h m)
 
--- refused, number, at, place
+-- of an hour that is accepted: line 1, then a line a member
+unfoldable pub acceptedLines : Hour → List ℕ
+acceptedLines h = firstLine (hourNumber h) (members h) (h .count) ++ memberLines h (members h)
+
+-- a refusal prints only this: refused, number, at, place
 unfoldable pub refusedLine : Verdict → List ℕ
 refusedLine v = bytes "refused " ++ decimal (v .number) ++ bytes " at " ++ decimal (v .place) ++ bytes "\n"
 
 unfoldable pub statement : List ℕ → List ℕ
-statement s = let h = hourOf hourly s in let v = verdict (hourRows s) in
-    cond (isAccepted v) (firstLine h ++ memberLines h (members h)) (refusedLine v)
+statement s = let v = verdict (hourRows s) in cond (isAccepted v) (acceptedLines (hourOf hourly s)) (refusedLine v)

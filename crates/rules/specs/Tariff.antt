@@ -9,7 +9,8 @@ use Rattle.whole.specs.Below.{totalBelow}
 use Rattle.whole.specs.Signed.{minℤ, maxℤ}
 use Rattle.rules.specs.declared.Kind.{Kind}
 use Rattle.rules.specs.declared.Kind.the-variants.{Generator, RealTimeLoad, ProfileLoad, Import, Export, Unknown}
-use Rattle.rules.specs.Record.{Hour, Entry, zonePrice, zoneOf, tieIn, tieOut, memberOf, areaOf, entryOf, isGenerator, isRealTime, isProfile, isLoad, isImport, isExport}
+use Rattle.rules.specs.Record.{Hour, Entry, zonePrice, zoneOf, tieIn, tieOut, memberOf, areaOf, entryOf, isGenerator, isRealTime}
+use Rattle.rules.specs.Record.{isProfile, isLoad, isImport, isExport}
 use Rattle.rules.specs.Ufe.{areaSum}
 
 abbrev pub inUnits : ℤ → ℤ

@@ -1,4 +1,5 @@
-// The types that several crates share. The definitions of document 01 stand in specs/, the theorems about them in proofs/; nothing here runs.
+// The types that several crates share. The definitions of document 01 stand in specs/, the theorems about them in proofs/; nothing here
+// runs.
 ghost use mathlib.Core.Path.{_≡_};
 
 // What a record is about (document 01, "The hour file", record words). A number that names none of the five is Unknown; row 5 refuses it.

@@ -33,9 +33,14 @@ module _ {demands : List ℕ} {size t : ℕ} {rests out : List ℕ} (d : Dividin
 
   -- the whole parts of the first demands, and of all
   pub handed-within : (i : ℕ) → i ≤ length demands → sumBelow (wholeOf demands size) i ≤ size
-  handed-within i h = omega (arith, sum-prefix (wholeOf demands size) i (length demands) h, whole-parts-and-left everyone (at demands) (length demands) size some-demand)
+  handed-within i h = omega (
+    arith,
+    sum-prefix (wholeOf demands size) i (length demands) h,
+    whole-parts-and-left everyone (at demands) (length demands) size some-demand,
+  )
 
-  pub handed-more : (i handed : ℕ) → handed ≡ sumBelow (wholeOf demands size) i → handed + at demands i * size / t ≡ sumBelow (wholeOf demands size) (i + 1)
+  pub handed-more : (i handed : ℕ) → handed ≡ sumBelow (wholeOf demands size) i →
+      handed + at demands i * size / t ≡ sumBelow (wholeOf demands size) (i + 1)
   handed-more i handed e = ap₂ (λ (a b : ℕ). a + b) e (whole-is i) ∙ sym (sum-add-one (wholeOf demands size) i)
 
   pub handed-all : (i handed : ℕ) → i ≡ length demands → handed ≡ sumBelow (wholeOf demands size) i → size - handed ≡ leftOf demands size

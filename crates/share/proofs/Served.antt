@@ -52,7 +52,8 @@ module _ (rem : ℕ → ℕ) (n k : ℕ) (more : k < countBelow (λ i. ltb 0 (re
           there = top .there;
           waiting = rw unserved;
           largest = λ j l w. omega (arith, waiting j l (not-true (got j) w), top .largest j l refl);
-          first = λ j l w. let m : j < n = omega (arith, top .there) in omega (arith, waiting j m (not-true (got j) w), top .first j l refl);
+          first =
+              λ j l w. let m : j < n = omega (arith, top .there) in omega (arith, waiting j m (not-true (got j) w), top .first j l refl);
         })
 
     one-more : (i : ℕ) → handedOut rem everyone n (k + 1) i ≡ (got i || eqb i b)
@@ -102,11 +103,15 @@ module _ {rests₀ : List ℕ} {units : ℕ} {out₀ : List ℕ} (h : Handing re
 
         -- it alone is served now
         itself : (i : ℕ) → eqb b i ≡ true → (has rests₀ k i ≡ false) × (has rests₀ (k + 1) i ≡ true)
-        itself i t = let e : b ≡ i = eqb-true b i t in
-            (rw (← e) unserved-best, one-more (at rests₀) n k some-left (at rests) held b among i ∙ rw (eq-eqb i b (sym e)) (or-true (has rests₀ k i)))
+        itself i t = let e : b ≡ i = eqb-true b i t in (
+          rw (← e) unserved-best,
+          one-more (at rests₀) n k some-left (at rests) held b among i
+              ∙ rw (eq-eqb i b (sym e)) (or-true (has rests₀ k i)),
+        )
 
         others : (i : ℕ) → eqb b i ≡ false → has rests₀ (k + 1) i ≡ has rests₀ k i
-        others i f = one-more (at rests₀) n k some-left (at rests) held b among i ∙ rw (ne-eqb i b (λ e. eqb-false b i f (sym e))) (or-false (has rests₀ k i))
+        others i f = one-more (at rests₀) n k some-left (at rests) held b among i
+            ∙ rw (ne-eqb i b (λ e. eqb-false b i f (sym e))) (or-false (has rests₀ k i))
 
         pub grows : at out b + 1 < 18446744073709551616
         grows =

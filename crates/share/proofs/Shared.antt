@@ -21,7 +21,8 @@ use Rattle.share.proofs.Parts.{some-demand, whole-small}
 module _ {demands : List ℕ} {size : ℕ} {out : List ℕ} (s : Shareable demands size out) (t : ℕ) (e : t ≡ demanded demands) where
   -- nobody demands anything
   pub nothing-shared : t ≡ 0 → replacingFirst (λ i. 0) (length demands) out ≡ sharesIn demands size out
-  nothing-shared z = replacing-ext _ _ (length demands) out (λ i l. sym (nothing-without-demand everyone (at demands) (length demands) size i (sym e ∙ z)))
+  nothing-shared z =
+      replacing-ext _ _ (length demands) out (λ i l. sym (nothing-without-demand everyone (at demands) (length demands) size i (sym e ∙ z)))
 
   -- somebody does
   pub can-divide : (t ≡ 0 → ⊥) → (rests : List ℕ) → length rests ≡ length demands → Dividing demands size t rests out
@@ -62,7 +63,12 @@ module _ {demands : List ℕ} {size t : ℕ} {rests₀ out₀ : List ℕ} (d : D
     unfolding shareSize
     size-is i l =
         let most : units ≤ countBelow everyone n = rw (p .left-over) (left-at-most-takers everyone (at demands) n size (some-demand d)) in
-        rw (whole-at i l, handed-ext (at rests) (restOf demands size) everyone n units most rest-at i l, p .left-over, ne-eqb (demanded demands) 0 (λ e. omega (arith, some-demand d)))
+        rw (
+          whole-at i l,
+          handed-ext (at rests) (restOf demands size) everyone n units most rest-at i l,
+          p .left-over,
+          ne-eqb (demanded demands) 0 (λ e. omega (arith, some-demand d)),
+        )
 
     pub shared-out : {rests₁ out₁ : List ℕ} → Handed rests units out rests₁ out₁ → out₁ ≡ sharesIn demands size out₀
     shared-out {rests₁} {out₁} h =

@@ -7,8 +7,9 @@ use native.Mathlib.Nat.{not-suc-le-zero}
 use native.Mathlib.Numerals.{add-one}
 use native.Mathlib.Omega.{arith}
 use lib.Dec.{ltb, eqb}
-use lib.ListN.{length, take, drop, getD, set, length-append, length-drop, length-set, List·getD-append}
-use lib.Seq.{drop-length, drop-cons, drop-at, take-at, set-at, getD-at, getD-drop, append-snoc, set-append-left, getD-set-same, getD-set-other, ext-getD}
+use lib.ListN.{length, drop, getD, set, length-append, length-drop, length-set, List·getD-append}
+use lib.Seq.{drop-length, drop-cons, drop-at, set-at, getD-at, getD-drop, append-snoc, set-append-left, getD-set-same, getD-set-other}
+use lib.Seq.{ext-getD}
 use borrow.Author.Tests.{ltb-true, ltb-false, eqb-true, eqb-false}
 use Rattle.whole.specs.Below.{valuesBelow, replacingFirst}
 use Rattle.whole.proofs.Tests.{split, last-or-below}
@@ -22,12 +23,6 @@ module _ {ℓ} {A : Type ℓ} where
   pub replacing-ext : (f g : ℕ → A) (n : ℕ) (old : List A) → ((i : ℕ) → i < n → f i ≡ g i) → replacingFirst f n old ≡ replacingFirst g n old
   unfolding replacingFirst
   replacing-ext f g n old e = ap (λ (l : List A). l ++ drop n old) (values-ext f g n e)
-
-  -- a loop that writes f i at i: the places below i + 1 hold f's values if those below i do
-  pub set-more : (l : List A) (i : ℕ) (v d : A) (f : ℕ → A) → i < length l → ((k : ℕ) → k < i → getD l k d ≡ f k) → v ≡ f i → (k : ℕ) → k < i + 1 → getD (set l i v) k d ≡ f k
-  set-more l i v d f h below e k m = last-or-below k i (omega arith)
-      (λ q. rw q (getD-set-same l i v d h ∙ e))
-      (λ j. getD-set-other l i k v d (λ q. omega arith) ∙ below k j)
 
 module _ {ℓ} {A : Type ℓ} (f : ℕ → A) where
   pub length-values : (n : ℕ) → length (valuesBelow f n) ≡ n
@@ -59,12 +54,8 @@ module _ {ℓ} {A : Type ℓ} (f : ℕ → A) where
 
   pub length-replacing : (n : ℕ) (old : List A) → n ≤ length old → length (replacingFirst f n old) ≡ length old
   unfolding replacingFirst
-  length-replacing n old l = length-append (valuesBelow f n) (drop n old) ∙ let e = length-values n in let d = length-drop n old in omega arith
-
-  -- its first n places are the values, and the others are as they were
-  pub take-replacing : (n : ℕ) (old : List A) → take n (replacingFirst f n old) ≡ valuesBelow f n
-  unfolding replacingFirst
-  take-replacing n old = take-at (valuesBelow f n) (drop n old) n (length-values n)
+  length-replacing n old l =
+      length-append (valuesBelow f n) (drop n old) ∙ let e = length-values n in let d = length-drop n old in omega arith
 
   pub drop-replacing : (n : ℕ) (old : List A) → drop n (replacingFirst f n old) ≡ drop n old
   unfolding replacingFirst
@@ -78,10 +69,12 @@ module _ {ℓ} {A : Type ℓ} (f : ℕ → A) where
   pub getD-kept : (n : ℕ) (old : List A) (i : ℕ) (d : A) → n ≤ i → getD (replacingFirst f n old) i d ≡ getD old i d
   getD-kept n old i d l =
       let k : n + (i - n) ≡ i = omega arith in
-      rw (← k) (sym (getD-drop n (replacingFirst f n old) (i - n) d) ∙ ap (λ (t : List A). getD t (i - n) d) (drop-replacing n old) ∙ getD-drop n old (i - n) d)
+      rw (← k) (sym (getD-drop n (replacingFirst f n old) (i - n) d) ∙ ap (λ (t : List A). getD t (i - n) d) (drop-replacing n old)
+      ∙ getD-drop n old (i - n) d)
 
   -- nothing changes where each is replaced by what it holds
-  pub replacing-same : (n : ℕ) (old : List A) (d : A) → n ≤ length old → ((i : ℕ) → i < n → f i ≡ getD old i d) → replacingFirst f n old ≡ old
+  pub replacing-same : (n : ℕ) (old : List A) (d : A) → n ≤ length old → ((i : ℕ) → i < n → f i ≡ getD old i d) →
+      replacingFirst f n old ≡ old
   replacing-same n old d h same = ext-getD d _ _ (length-replacing n old h) (λ i l. split (ltb i n)
       (λ t. let m = ltb-true i n t in getD-replacing n old i d m ∙ same i m)
       (λ t. getD-kept n old i d (ltb-false i n t)))
@@ -93,12 +86,14 @@ module _ {ℓ} {A : Type ℓ} (f : ℕ → A) where
 
 -- ---- one place changed to g of what it held: what the places then hold
 module _ {ℓ} {A : Type ℓ} where
-  pub getD-changed : (g : A → A) (l : List A) (m i : ℕ) (d : A) → i < length l → getD (set l m (g (getD l m d))) i d ≡ cond (eqb m i) (g (getD l i d)) (getD l i d)
+  pub getD-changed : (g : A → A) (l : List A) (m i : ℕ) (d : A) → i < length l →
+      getD (set l m (g (getD l m d))) i d ≡ cond (eqb m i) (g (getD l i d)) (getD l i d)
   getD-changed g l m i d h = split (eqb m i)
       (λ t. let e : m ≡ i = eqb-true m i t in rw (t, e) (getD-set-same l i (g (getD l i d)) d h))
       (λ f. rw f (getD-set-other l m i (g (getD l m d)) d (λ e. eqb-false m i f (sym e))))
 
-  values-changed : (g : A → A) (f : ℕ → A) (n m : ℕ) (d : A) → set (valuesBelow f n) m (g (getD (valuesBelow f n) m d)) ≡ valuesBelow (λ i. cond (eqb m i) (g (f i)) (f i)) n
+  values-changed : (g : A → A) (f : ℕ → A) (n m : ℕ) (d : A) →
+      set (valuesBelow f n) m (g (getD (valuesBelow f n) m d)) ≡ valuesBelow (λ i. cond (eqb m i) (g (f i)) (f i)) n
   values-changed g f n m d = ext-getD d _ _ (length-set (valuesBelow f n) m _ ∙ length-values f n ∙ sym (length-values _ n)) (λ i l.
       let k : i < length (valuesBelow f n) = rw length-set at l in
       let j : i < n = omega (arith, length-values f n) in

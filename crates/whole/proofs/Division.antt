@@ -1,45 +1,23 @@
 -- Division of naturals, and a signed number to the nearest multiple of 2 h, halves away from zero.
-use mathlib.Core.Path.{_≡_, refl, _∙_, ap}
-use Prim.Native.Nat.{ℕ, zero, suc, _+_, _*_, _-_, _/_, _%_, _<_, _≤_}
+use mathlib.Core.Path.{_≡_, refl, ap}
+use Prim.Native.Nat.{ℕ, zero, suc, _+_, _*_, _/_, _%_, _<_, _≤_}
 use native.Mathlib.Nat.{div-add-mod', mod-lt, le-div-iff-mul-le, div-mul-le-self, le-trans, le-of-lt, not-suc-le-zero}
 use native.Mathlib.Omega.{arith}
-use lib.Arith.{digits-div}
 use lib.IntN.{ℤ, pos, negsuc, negℤ, natAbs, _+ℤ_, _-ℤ_, _*ℤ_}
 use lib.Signed.{_≤ℤ_, _<ℤ_, quotZ, remZ}
-use Rattle.whole.specs.Below.{sumBelow}
 use Rattle.whole.specs.Signed.{Under, withSignOf}
 use Rattle.whole.proofs.Linear.{zr, all3, le↓, lt↓}
 use Rattle.whole.proofs.Ranges.{u-neg, u-le, u-with-sign}
 
--- x / t, with t > 0: the only q with q * t ≤ x < (q + 1) * t
+-- x / t is q with q * t ≤ x < (q + 1) * t, where t > 0
 pub div-low : (x t : ℕ) → x / t * t ≤ x
 div-low x t = omega (arith, div-add-mod' x t)
 
 pub div-high : (x t : ℕ) → 0 < t → x < (x / t + 1) * t
 div-high x t h = omega (arith, div-add-mod' x t, mod-lt x h)
 
-pub div-unique : (x t q : ℕ) → q * t ≤ x → x < (q + 1) * t → x / t ≡ q
-div-unique x t q l h = ap (λ (y : ℕ). y / t) rest ∙ digits-div q under
-  where
-    rest : x ≡ q * t + (x - q * t)
-    rest = omega arith
-
-    under : x - q * t < t
-    under = omega arith
-
 pub div-mono : {x y t : ℕ} → 0 < t → x ≤ y → x / t ≤ y / t
 div-mono {x} {y} {t} p h = le-div-iff-mul-le p .1 (le-trans (div-mul-le-self x t) h)
-
--- a sum, and the sum of its terms' quotients: at most one t a term is lost
-pub quotients-low : (f : ℕ → ℕ) (t n : ℕ) → sumBelow (λ i. f i / t) n * t ≤ sumBelow f n
-unfolding sumBelow
-quotients-low f t zero = omega arith
-quotients-low f t (suc n) = let h = quotients-low f t n in omega (arith, div-low (f n) t)
-
-pub quotients-high : (f : ℕ → ℕ) (t n : ℕ) → 0 < t → sumBelow f n ≤ (sumBelow (λ i. f i / t) n + n) * t
-unfolding sumBelow
-quotients-high f t zero p = omega arith
-quotients-high f t (suc n) p = let h = quotients-high f t n p in omega (arith, div-high (f n) t p)
 
 -- ---- toward zero, by a natural; the remainder has the dividend's sign
 pub quot-under : (z : ℤ) (k : ℕ) {d : ℕ} → 0 < d → Under z k → Under (quotZ z (pos d)) (k / d)

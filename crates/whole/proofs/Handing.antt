@@ -26,7 +26,8 @@ module _ (ahead : ℕ → ℕ → Bool) (o : Order ahead) (part : ℕ → Bool) 
 
   -- then exactly k are ahead of it
   pub next : (k b : ℕ) → k ≤ countBelow part n → Best k b → r b ≡ k
-  next k b h best = count-ext (λ j. part j && ahead j b) (λ j. part j && ltb (r j) k) n (λ j l. and-ext (part j) _ _ (λ p. split (ltb (r j) k)
+  next k b h best =
+      count-ext (λ j. part j && ahead j b) (λ j. part j && ltb (r j) k) n (λ j l. and-ext (part j) _ _ (λ p. split (ltb (r j) k)
       (λ t. let m : r j < k = ltb-true _ _ t in let s = best .none-yet in either ahead o j b
       (λ e. absurd (let q : r j ≡ r b = ap r e in omega arith))
       (λ a. a ∙ sym t)
@@ -34,7 +35,8 @@ module _ (ahead : ℕ → ℕ → Bool) (o : Order ahead) (part : ℕ → Bool) 
       (λ f. best .first-of j l p (ltb-false (r j) k f) ∙ sym f))) ∙ count-served ahead o part n k h
 
   -- and round k serves it alone
-  pub round : (k b : ℕ) → k ≤ countBelow part n → Best k b → (i : ℕ) → i < n → (part i && ltb (r i) (suc k)) ≡ (part i && ltb (r i) k || eqb i b)
+  pub round : (k b : ℕ) → k ≤ countBelow part n → Best k b → (i : ℕ) → i < n →
+      (part i && ltb (r i) (suc k)) ≡ (part i && ltb (r i) k || eqb i b)
   round k b h best i l =
       let q : r b ≡ k = next k b h best in
       split (part i)
@@ -42,7 +44,8 @@ module _ (ahead : ℕ → ℕ → Bool) (o : Order ahead) (part : ℕ → Bool) 
       (λ e. rw (eq-eqb i b e, or-true) (lt-ltb (r i) (suc k) (let s : r i ≡ r b = ap r e in omega arith)))
       (λ a. let s = rank-less ahead o part n i b l p a in rw (lt-ltb (r i) k (omega arith)) (lt-ltb (r i) (suc k) (omega arith)))
       (λ a. let s = rank-less ahead o part n b i (best .there) (best .taker) a in
-      rw (ne-eqb i b (λ e. let t : r i ≡ r b = ap r e in omega arith), or-false, le-ltb (r i) k (omega arith)) (le-ltb (r i) (suc k) (omega arith)))))
+      rw (ne-eqb i b (λ e. let t : r i ≡ r b = ap r e in omega arith), or-false, le-ltb (r i) k (omega arith))
+      (le-ltb (r i) (suc k) (omega arith)))))
       (λ f. rw f (sym (ne-eqb i b (λ e. never (ap part e ∙ best .taker) f))))
 
 -- has k i: i has a unit after k rounds; pick k: who gets the next one
@@ -55,14 +58,16 @@ pub record Handing (ahead : ℕ → ℕ → Bool) (part : ℕ → Bool) (n : ℕ
   pub has-none : (k b : ℕ) → pick k ≡ some b → has k b ≡ false
   pub first-of : (k b : ℕ) → pick k ≡ some b → (j : ℕ) → j < n → part j ≡ true → has k j ≡ false → ahead j b ≡ false
 
-module _ {ahead : ℕ → ℕ → Bool} {part : ℕ → Bool} {n : ℕ} {has : ℕ → ℕ → Bool} {pick : ℕ → Option ℕ} (o : Order ahead) (h : Handing ahead part n has pick) where
+module _ {ahead : ℕ → ℕ → Bool} {part : ℕ → Bool} {n : ℕ} {has : ℕ → ℕ → Bool} {pick : ℕ → Option ℕ} (o : Order ahead)
+    (h : Handing ahead part n has pick) where
   abbrev rank : ℕ → ℕ
   rank i = r ahead o part n i
 
   after : (k : ℕ) → suc k ≤ countBelow part n → ((j : ℕ) → j < n → has k j ≡ (part j && ltb (rank j) k)) → (p : Option ℕ) → pick k ≡ p →
       (i : ℕ) → i < n → has (suc k) i ≡ (part i && ltb (rank i) (suc k))
   after k m ih none e i l = absurd (
-      let all = count-ext part (λ j. part j && ltb (rank j) k) n (λ j q. split (part j) (λ p. p ∙ sym (h .none-left k e j q p) ∙ ih j q) (λ f. rw f)) in
+      let all = count-ext part (λ j. part j && ltb (rank j) k) n
+      (λ j q. split (part j) (λ p. p ∙ sym (h .none-left k e j q p) ∙ ih j q) (λ f. rw f)) in
       let c = count-served ahead o part n k (omega arith) in omega arith
       )
   after k m ih (some b) e i l = h .gives k b e i l ∙ rw (ih i l) (sym (round ahead o part n k b (omega arith) best i l))

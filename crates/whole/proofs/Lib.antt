@@ -11,5 +11,4 @@ pub mod Stores
 pub mod Division
 pub mod Rank
 pub mod Handing
-pub mod Ring
 pub mod Machine

@@ -4,20 +4,19 @@
 --     ev x           the number that a pair x stands for, shut: `simp zr` computes with it
 -- A statement about three numbers, of +ℤ -ℤ negℤ *ℤ pos negsuc natAbs maxℤ minℤ, by ≡ ≤ℤ <ℤ Under Upto SFits, is one line:
 --     all3 _ (λ a b c. simp zr (omega arith))
--- Where the numbers are no variables, `omega (arith, zo, sub↓ a b)` proves it in place.
+-- Where the numbers are no variables, `omega (arith, zo)` proves an order or a range in place.
 use mathlib.Core.Path.{_≡_, refl, ap, subst}
-use mathlib.Core.Logic.{_↔_, _⊎_, inl, inr, ⊎-elim}
+use mathlib.Core.Logic.{_↔_}
 use mathlib.Core.Bool.{not}
 use Prim.Native.Nat.{ℕ, zero, suc, _+_, _*_, _-_, _<_, _≤_, min, max}
 use native.Mathlib.Omega.{arith}
-use lib.Dec.{T, ltb, leb, ltb→lt, nltb→le, nleb→lt, leb→le, le→leb, lt→ltb}
-use lib.IntN.{ℤ, pos, negsuc, negℤ, natAbs, subℕ, _+ℤ_, _-ℤ_, _*ℤ_}
+use lib.Dec.{T, ltb, ltb→lt, nltb→le, nleb→lt, leb→le, le→leb, lt→ltb}
+use lib.IntN.{ℤ, pos, negsuc, negℤ, natAbs, subℕ, _+ℤ_, _*ℤ_}
 use lib.Signed.{_≤ℤ_, _<ℤ_, leZ, ltZ}
 use mir.Syntax.{w64}
 use mir.Val.{SFits}
-use borrow.Author.Tests.{leb-true, leb-false}
 use Rattle.whole.specs.Signed.{Under, Upto, maxℤ, minℤ}
-use Rattle.whole.proofs.Tests.{split, cond-ind}
+use Rattle.whole.proofs.Tests.{cond-ind}
 
 abbrev pub up : ℤ → ℕ
 up (pos n) = n
@@ -261,12 +260,14 @@ nle-parts (negsuc x) (negsuc y) t = omega (arith, nleb→lt y x t)
 is-max : {a b : ℤ} {m n p q : ℕ} → Is a m n → Is b p q → Is (maxℤ a b) (max (m + q) (p + n)) (n + q)
 unfolding maxℤ
 is-max {a} {b} {m} {n} {p} {q} h k =
-    cond-ind (leZ a b) b a (λ z. Is z (max (m + q) (p + n)) (n + q)) (λ t. let l = le-parts a b t in omega arith) (λ t. let l = nle-parts a b t in omega arith)
+    cond-ind (leZ a b) b a (λ z. Is z (max (m + q) (p + n)) (n + q)) (λ t. let l = le-parts a b t in omega arith)
+    (λ t. let l = nle-parts a b t in omega arith)
 
 is-min : {a b : ℤ} {m n p q : ℕ} → Is a m n → Is b p q → Is (minℤ a b) (min (m + q) (p + n)) (n + q)
 unfolding minℤ
 is-min {a} {b} {m} {n} {p} {q} h k =
-    cond-ind (leZ a b) a b (λ z. Is z (min (m + q) (p + n)) (n + q)) (λ t. let l = le-parts a b t in omega arith) (λ t. let l = nle-parts a b t in omega arith)
+    cond-ind (leZ a b) a b (λ z. Is z (min (m + q) (p + n)) (n + q)) (λ t. let l = le-parts a b t in omega arith)
+    (λ t. let l = nle-parts a b t in omega arith)
 
 abbrev pub larger : E → E → E
 larger x y = record { p = max (x .p + y .n) (y .p + x .n); n = x .n + y .n }
@@ -280,7 +281,8 @@ ev-max x y = by-ev (is-max (is-ev x) (is-ev y)) (is-ev (larger x y)) refl refl
 pub ev-min : (x y : E) → minℤ (ev x) (ev y) ≡ ev (smaller x y)
 ev-min x y = by-ev (is-min (is-ev x) (is-ev y)) (is-ev (smaller x y)) refl refl
 
-pub ruleset zr = (ev-max, ev-min, ev-add, ev-neg, ev-mul, ev-minus, ev-pos, ev-negsuc, ev-eq, ev-le, ev-lt, ev-abs, ev-fits, ev-under, ev-upto)
+pub ruleset zr =
+    (ev-max, ev-min, ev-add, ev-neg, ev-mul, ev-minus, ev-pos, ev-negsuc, ev-eq, ev-le, ev-lt, ev-abs, ev-fits, ev-under, ev-upto)
 
 -- every number is such a difference, so what holds of all differences holds of all numbers
 onto : (z : ℤ) → ev (record { p = up z; n = dn z }) ≡ z
@@ -301,33 +303,11 @@ all4 P f a b c d = all1 (λ z. P z b c d) (λ x. all3 (λ y z u. P (ev x) y z u)
 pub all5 {ℓ} : (P : ℤ → ℤ → ℤ → ℤ → ℤ → Type ℓ) → ((x y z u v : E) → P (ev x) (ev y) (ev z) (ev u) (ev v)) → (a b c d e : ℤ) → P a b c d e
 all5 P f a b c d e = all1 (λ z. P z b c d e) (λ x. all4 (λ y z u v. P (ev x) y z u v) (f x) b c d e) a
 
-pub all6 {ℓ} : (P : ℤ → ℤ → ℤ → ℤ → ℤ → ℤ → Type ℓ) → ((x y z u v w : E) → P (ev x) (ev y) (ev z) (ev u) (ev v) (ev w)) → (a b c d e g : ℤ) → P a b c d e g
+pub all6 {ℓ} : (P : ℤ → ℤ → ℤ → ℤ → ℤ → ℤ → Type ℓ) → ((x y z u v w : E) → P (ev x) (ev y) (ev z) (ev u) (ev v) (ev w)) →
+    (a b c d e g : ℤ) → P a b c d e g
 all6 P f a b c d e g = all1 (λ z. P z b c d e g) (λ x. all5 (λ y z u v w. P (ev x) y z u v w) (f x) b c d e g) a
 
-pub all7 {ℓ} : (P : ℤ → ℤ → ℤ → ℤ → ℤ → ℤ → ℤ → Type ℓ) → ((x y z u v w r : E) → P (ev x) (ev y) (ev z) (ev u) (ev v) (ev w) (ev r)) → (a b c d e g h : ℤ) → P a b c d e g h
-all7 P f a b c d e g h = all1 (λ z. P z b c d e g h) (λ x. all6 (λ y z u v w r. P (ev x) y z u v w r) (f x) b c d e g h) a
-
-pub all8 {ℓ} : (P : ℤ → ℤ → ℤ → ℤ → ℤ → ℤ → ℤ → ℤ → Type ℓ) → ((x y z u v w r s : E) → P (ev x) (ev y) (ev z) (ev u) (ev v) (ev w) (ev r) (ev s)) → (a b c d e g h k : ℤ) → P a b c d e g h k
-all8 P f a b c d e g h k = all1 (λ z. P z b c d e g h k) (λ x. all7 (λ y z u v w r s. P (ev x) y z u v w r s) (f x) b c d e g h k) a
-
--- ---- linear facts in place, where the numbers are no variables: `omega (arith, zo, sub↓ a b)` reads and proves orders of ℤ.
--- Each number is an unknown `up z − dn z`. A sum, a difference or a multiple is tied to its parts by one listed fact each
-pub add↓ : (a b : ℤ) → up (a +ℤ b) + (dn a + dn b) ≡ dn (a +ℤ b) + (up a + up b)
-add↓ a b = is-add (is-at a) (is-at b) .is
-
-pub neg↓ : (a : ℤ) → up (negℤ a) + up a ≡ dn (negℤ a) + dn a
-neg↓ a = is-neg (is-at a) .is
-
-pub sub↓ : (a b : ℤ) → up (a -ℤ b) + (dn a + up b) ≡ dn (a -ℤ b) + (up a + dn b)
-sub↓ a b = is-add (is-at a) (is-neg (is-at b)) .is
-
-pub mul↓ : (a b : ℤ) → up (a *ℤ b) + (up a * dn b + dn a * up b) ≡ dn (a *ℤ b) + (up a * up b + dn a * dn b)
-mul↓ a b = is-mul (is-at a) (is-at b) .is
-
-pub abs↓ : (a : ℤ) → natAbs a ≡ up a + dn a
-abs↓ (pos n) = omega arith
-abs↓ (negsuc n) = omega arith
-
+-- ---- linear facts in place, where the numbers are no variables: `omega (arith, zo)` reads and proves orders and ranges of ℤ
 pub under-hi : {z : ℤ} {k : ℕ} → Under z k → up z ≤ dn z + k
 under-hi {z} h = under-is (is-at z) h .0
 
@@ -337,54 +317,7 @@ under-lo {z} h = under-is (is-at z) h .1
 pub eq↑ : {a b : ℤ} → up a + dn b ≡ up b + dn a → a ≡ b
 eq↑ {a} {b} e = is-eq (is-at a) (is-at b) e
 
-pub fits↑ : {z : ℤ} → (up z < dn z + 9223372036854775808) × (dn z ≤ up z + 9223372036854775808) → SFits w64 z
-fits↑ {z} f = is-fits (is-at z) f
-
 pub ruleset zo = (le↓, lt↓, eq↓, le↑, lt↑, eq↑, under-hi, under-lo)
-
--- ---- orders, and what products do to them
--- a test that failed, beside the kit's `leZ-yes`, `ltZ-yes` and `ltZ-no`
-pub leZ-no : {a b : ℤ} → T (not (leZ a b)) → b <ℤ a
-leZ-no {a} {b} t = lt↑ (nle-parts a b t)
-
-pub ≤ℤ-or-< : (a b : ℤ) → (a ≤ℤ b) ⊎ (b <ℤ a)
-≤ℤ-or-< a b = split (leb (up a + dn b) (up b + dn a)) (λ e. inl (le↑ (leb-true _ _ e))) (λ e. inr (lt↑ (leb-false _ _ e)))
-
-pub ≤ℤ-of-< : {a b : ℤ} → a <ℤ b → a ≤ℤ b
-≤ℤ-of-< h = omega (arith, zo)
-
-pub ≤ℤ-trans : {a b c : ℤ} → a ≤ℤ b → b ≤ℤ c → a ≤ℤ c
-≤ℤ-trans h k = omega (arith, zo)
-
-pub ≤ℤ-antisym : {a b : ℤ} → a ≤ℤ b → b ≤ℤ a → a ≡ b
-≤ℤ-antisym h k = omega (arith, zo)
-
-products-from-0 : (a b : ℤ) → pos 0 ≤ℤ a → pos 0 ≤ℤ b → pos 0 ≤ℤ (a *ℤ b)
-products-from-0 (pos x) (pos y) h k = le↑ (omega arith)
-products-from-0 (pos x) (negsuc y) h k = absurd (omega (arith, le↓ k))
-products-from-0 (negsuc x) b h k = absurd (omega (arith, le↓ h))
-
-pub mul-nonneg : {a b : ℤ} → pos 0 ≤ℤ a → pos 0 ≤ℤ b → pos 0 ≤ℤ (a *ℤ b)
-mul-nonneg {a} {b} = products-from-0 a b
-
-apart-of : (a b : ℤ) → a ≤ℤ b → pos 0 ≤ℤ (b -ℤ a)
-apart-of = all2 _ (λ a b. simp zr (omega arith))
-
-spread : (a b p : ℤ) → pos 0 ≤ℤ ((b -ℤ a) *ℤ p) → (a *ℤ p) ≤ℤ (b *ℤ p)
-spread = all3 _ (λ a b p. simp zr (omega arith))
-
-pub mul-mono : {a b : ℤ} (p : ℤ) → pos 0 ≤ℤ p → a ≤ℤ b → (a *ℤ p) ≤ℤ (b *ℤ p)
-mul-mono {a} {b} p h k = spread a b p (mul-nonneg {a = b -ℤ a} (apart-of a b k) h)
-
-step-of : (a b : ℤ) → b <ℤ a → (b +ℤ pos 1) ≤ℤ a
-step-of = all2 _ (λ a b. simp zr (omega arith))
-
-clash : (a b p : ℤ) → ((b +ℤ pos 1) *ℤ p) ≤ℤ (a *ℤ p) → (a *ℤ p) ≤ℤ (b *ℤ p) → pos 0 <ℤ p → ⊥
-clash = all3 _ (λ a b p. simp zr (omega arith))
-
--- a factor above 0 cancels
-pub mul-cancel : (a b p : ℤ) → pos 0 <ℤ p → (a *ℤ p) ≤ℤ (b *ℤ p) → a ≤ℤ b
-mul-cancel a b p h k = ⊎-elim (λ l. l) (λ l. absurd (clash a b p (mul-mono {a = b +ℤ pos 1} p (≤ℤ-of-< h) (step-of a b l)) k h)) (≤ℤ-or-< a b)
 
 -- ---- sizes
 pub abs-minus : (k : ℕ) → natAbs (negℤ (pos k)) ≡ k

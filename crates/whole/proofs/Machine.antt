@@ -6,12 +6,12 @@
 --     fits, stored   of a `Num`: the need of the operation that makes it, and that what is stored is the number meant
 --     OneLess        what is computed of the size of any number below zero, also of the least, which no `Num` is
 use mathlib.Core.Path.{_≡_, refl, sym, _∙_, ap, ap₂, subst}
-use Prim.Native.Nat.{ℕ, suc, _+_, _-_, _*_, _<_, _≤_}
+use Prim.Native.Nat.{ℕ, suc, _+_, _-_, _*_, _<_}
 use mathlib.Core.Bool.{Bool, true, false, not, _&&_}
 use native.Mathlib.Numerals.{add-one}
 use native.Mathlib.Omega.{arith}
 use lib.Dec.{T, leb, ltb, ltb→lt}
-use lib.Signed.{_≤ℤ_, _<ℤ_, ltZ, leZ, ltZ-yes, ltZ-no, leZ-yes, quotZ, remZ, nonNeg, yes-nonNeg}
+use lib.Signed.{_≤ℤ_, _<ℤ_, ltZ, leZ, ltZ-yes, ltZ-no, quotZ, remZ, nonNeg}
 use lib.IntN.{ℤ, pos, negsuc, natAbs, _+ℤ_, _-ℤ_, _*ℤ_}
 use mir.Syntax.{w64}
 use mir.Val.{Fits, SFits, toZ, ofZ}
@@ -20,7 +20,6 @@ use mir.Facts.{and-yes}
 use Rattle.whole.specs.Signed.{Under, Upto}
 use borrow.Author.Tests.{ltb-true, le-ltb}
 use Rattle.whole.proofs.Tests.{never}
-use Rattle.whole.proofs.Linear.{leZ-no}
 use Rattle.whole.proofs.Ranges.{_u+_, _u-_, _u*_, u-lit, u-upto, u-fits, u-more}
 use Rattle.whole.proofs.Division.{quot-under, rem-under}
 
@@ -145,18 +144,6 @@ pub lt-no : (x y : Num) → T (good x) → T (good y) → ltZ (x .rd) (y .rd) �
 lt-no x y s t e =
     ltZ-no (subst (λ (b : Bool). T (not b)) (sym (ap₂ ltZ (sym (stored x s)) (sym (stored y t)) ∙ e)) tt)
 
-pub le-yes : (x y : Num) → T (good x) → T (good y) → leZ (x .rd) (y .rd) ≡ true → x .z ≤ℤ y .z
-le-yes x y s t e =
-    leZ-yes (subst T (sym (ap₂ leZ (sym (stored x s)) (sym (stored y t)) ∙ e)) tt)
-
-pub le-no : (x y : Num) → T (good x) → T (good y) → leZ (x .rd) (y .rd) ≡ false → y .z <ℤ x .z
-le-no x y s t e =
-    leZ-no (subst (λ (b : Bool). T (not b)) (sym (ap₂ leZ (sym (stored x s)) (sym (stored y t)) ∙ e)) tt)
-
--- `==` tests the bits: hand it over as `ap (toZ w64) (c .if1 .taken)`
-pub eq-yes : (x y : Num) → T (good x) → T (good y) → x .rd ≡ y .rd → x .z ≡ y .z
-eq-yes x y s t e = sym (stored x s) ∙ e ∙ stored y t
-
 -- of numbers that may be any i64: a test of two, and against 0
 pub le-same : {a b : ℤ} → SFits w64 a → SFits w64 b → leZ a b ≡ leZ (back a) (back b)
 le-same {a} {b} f g = sym (ap₂ leZ (toZ-ofZ w64 a f) (toZ-ofZ w64 b g))
@@ -185,17 +172,6 @@ sum-stored {a} {b} f g h = rw (toZ-ofZ w64 a f, toZ-ofZ w64 b g) (toZ-ofZ w64 (a
 -- what a callee asks of an argument: its range
 pub gives : (n : ℕ) (x : Num) → T (good x) → T (leb (x .k) n) → Under (x .rd) n
 gives n x t l = told (λ y. Under y n) x t (u-more n (read x t .range) l)
-
--- ---- casts between i64 and u64
--- the need of `x as u64`, and its result
-pub to-u64 : (x : Num) → T (good x) → pos 0 ≤ℤ x .z → T (nonNeg (x .rd)) × Fits w64 (natAbs (x .rd))
-to-u64 x t h = told (λ y. T (nonNeg y) × Fits w64 (natAbs y)) x t (yes-nonNeg h, record { fits = size (read x t .range .under) (ltb→lt (x .k) 9223372036854775808 (and-yes (x .ok) (small (x .k)) t .1)) })
-  where
-    size : {a b : ℕ} → a ≤ b → b < 9223372036854775808 → a < 18446744073709551616
-    size l m = omega arith
-
-pub u64-is : (x : Num) → T (good x) → natAbs (x .rd) ≡ natAbs (x .z)
-u64-is x t = ap natAbs (stored x t)
 
 -- what `n as i64` reads back as
 pub i64-is : {n : ℕ} → n < 9223372036854775808 → toZ w64 n ≡ pos n

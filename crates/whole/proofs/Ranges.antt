@@ -1,7 +1,7 @@
 -- Ranges of signed numbers, built as the numbers are: `(ha u* hb) u- (hc u* hd)` bounds `a *ℤ b -ℤ c *ℤ d`.
 use mathlib.Core.Path.{_≡_, refl}
 use mathlib.Core.Bool.{Bool, true, false, cond}
-use Prim.Native.Nat.{ℕ, _+_, _*_, _<_, _≤_, max, zero-le}
+use Prim.Native.Nat.{ℕ, _+_, _*_, _<_, _≤_, zero-le}
 use native.Mathlib.Nat.{le-refl, le-trans, le-of-eq, mul-le-mul}
 use native.Mathlib.Omega.{arith}
 use lib.Dec.{T, ltb, leb, ltb→lt, leb→le}
@@ -10,7 +10,7 @@ use lib.Signed.{_≤ℤ_, _<ℤ_}
 use mir.Syntax.{w64}
 use mir.Val.{SFits}
 use Rattle.whole.specs.Signed.{Under, Upto, maxℤ, minℤ, withSignOf}
-use Rattle.whole.proofs.Linear.{zr, all1, all2, all3, le↓, lt↓, le↑, mul-nonneg, abs-minus, abs-mul}
+use Rattle.whole.proofs.Linear.{zr, all1, all2, le↓, lt↓, le↑, abs-minus, abs-mul}
 
 -- ---- −k ≤ z ≤ k
 infixl 6 _u+_ _u-_
@@ -53,13 +53,6 @@ fitting = all1 _ (λ z. simp zr (omega arith))
 pub u-fits : {z : ℤ} {k : ℕ} → Under z k → T (ltb k 9223372036854775808) → SFits w64 z
 u-fits {z} {k} h t = fitting z k h (ltb→lt k 9223372036854775808 t)
 
-between : (lo hi z : ℤ) → lo ≤ℤ z → z ≤ℤ hi → Under z (max (natAbs lo) (natAbs hi))
-between = all3 _ (λ lo hi z. simp zr (omega arith))
-
--- a range given by its two ends
-pub u-between : {lo hi z : ℤ} → lo ≤ℤ z → z ≤ℤ hi → Under z (max (natAbs lo) (natAbs hi))
-u-between {lo} {hi} {z} h k = between lo hi z h k
-
 min-under : (a b : ℤ) (k : ℕ) → Under a k → Under b k → Under (minℤ a b) k
 min-under = all2 _ (λ a b. simp zr (omega arith))
 
@@ -95,30 +88,8 @@ size-under = all1 _ (λ z. simp zr (omega arith))
 pub u-upto : {z : ℤ} {k : ℕ} → Upto z k → Under z k
 u-upto {z} {k} h = size-under z k h
 
-from-0 : (z : ℤ) (k : ℕ) → pos 0 ≤ℤ z → Under z k → Upto z k
-from-0 = all1 _ (λ a. simp zr (omega arith))
-
-pub upto-under : {z : ℤ} {k : ℕ} → pos 0 ≤ℤ z → Under z k → Upto z k
-upto-under {z} {k} l h = from-0 z k l h
-
 pub upto-pos : (n k : ℕ) → n ≤ k → Upto (pos n) k
 upto-pos n k h = record { low = le↑ (omega arith); high = le↑ (omega arith) }
-
-natural : (z : ℤ) (k : ℕ) → Upto z k → (z ≡ pos (natAbs z)) × (natAbs z ≤ k)
-natural = all1 _ (λ z. simp zr (omega arith))
-
--- such a number is a natural
-pub upto-nat : {z : ℤ} {k : ℕ} → Upto z k → (z ≡ pos (natAbs z)) × (natAbs z ≤ k)
-upto-nat {z} {k} h = natural z k h
-
-sum-upto : (a b : ℤ) (m n : ℕ) → Upto a m → Upto b n → Upto (a +ℤ b) (m + n)
-sum-upto = all2 _ (λ a b. simp zr (omega arith))
-
-pub u0+ : {a b : ℤ} {m n : ℕ} → Upto a m → Upto b n → Upto (a +ℤ b) (m + n)
-u0+ {a} {b} {m} {n} h k = sum-upto a b m n h k
-
-pub u0* : {a b : ℤ} {m n : ℕ} → Upto a m → Upto b n → Upto (a *ℤ b) (m * n)
-u0* {a} {b} h k = upto-under (mul-nonneg {a = a} {b = b} (h .low) (k .low)) (u-upto h u* u-upto k)
 
 apart-upto : (a b : ℤ) (k : ℕ) → Upto a k → Upto b k → Under (a -ℤ b) k
 apart-upto = all2 _ (λ a b. simp zr (omega arith))

@@ -15,7 +15,8 @@ use Rattle.whole.proofs.Tests.{split, never-some, no-else, last-or-belo
 pub first-ext : (p q : ℕ → Bool) (n : ℕ) → ((i : ℕ) → i < n → p i ≡ q i) → firstBelow p n ≡ firstBelow q n
 unfolding firstBelow orElse
 first-ext p q zero e = refl
-first-ext p q (suc n) e = ap₂ (λ (o : Option ℕ) (b : Bool). orElse o (cond b (some n) none)) (first-ext p q n (λ i l. e i (omega arith))) (e n (omega arith))
+first-ext p q (suc n) e =
+    ap₂ (λ (o : Option ℕ) (b : Bool). orElse o (cond b (some n) none)) (first-ext p q n (λ i l. e i (omega arith))) (e n (omega arith))
 
 -- ---- a loop that goes on, at n + 1 and at the code's n + 1, or stops
 pub first-on : (p : ℕ → Bool) (i : ℕ) → firstBelow p i ≡ none → p i ≡ false → firstBelow p (suc i) ≡ none
@@ -47,9 +48,6 @@ unfolding firstBelow orElse
 none-below p zero h = refl
 none-below p (suc n) h = first-on p n (none-below p n (λ i l. h i (omega arith))) (h n (omega arith))
 
-pub first-nothing : (p : ℕ → Bool) (n : ℕ) → (firstBelow p n ≡ none) ↔ ((i : ℕ) → i < n → p i ≡ false)
-first-nothing p n = (first-none p n, none-below p n)
-
 -- i passes, and nothing before it does
 abbrev FirstAt : (ℕ → Bool) → ℕ → ℕ → Type 0
 FirstAt p n i = (i < n) × (p i ≡ true) × ((j : ℕ) → j < i → p j ≡ false)
@@ -59,7 +57,8 @@ unfolding firstBelow orElse
 found p zero i e = never-some (sym e)
 found p (suc n) i e = step (firstBelow p n) refl (found p n i) e
   where
-    step : (o : Option ℕ) → firstBelow p n ≡ o → (firstBelow p n ≡ some i → FirstAt p n i) → orElse o (cond (p n) (some n) none) ≡ some i → FirstAt p (suc n) i
+    step : (o : Option ℕ) → firstBelow p n ≡ o → (firstBelow p n ≡ some i → FirstAt p n i) → orElse o (cond (p n) (some n) none) ≡ some i →
+        FirstAt p (suc n) i
     step (some k) q ih e = let f = ih (q ∙ e) in (omega (arith, f .0), f .1, f .2)
     step none q ih e = split (p n)
         (λ t. let k : n ≡ i = Option·some-injective n i (rw t at e) in rw (← k) (omega arith, t, first-none p n q))
@@ -77,7 +76,8 @@ pub first-more : (p : ℕ → Bool) (n m i : ℕ) → firstBelow p n ≡ some i 
 first-more p n m i e l = let f = first-some p n i .0 e in first-some p m i .1 (omega (arith, f .0), f .1, f .2)
 
 -- nothing below m: from there on another test may answer, if it too passes nothing below m
-pub first-rest : (p q : ℕ → Bool) (m n : ℕ) → firstBelow p m ≡ none → ((i : ℕ) → i < m → q i ≡ false) → ((i : ℕ) → m ≤ i → i < n → p i ≡ q i) → firstBelow p n ≡ firstBelow q n
+pub first-rest : (p q : ℕ → Bool) (m n : ℕ) → firstBelow p m ≡ none → ((i : ℕ) → i < m → q i ≡ false) →
+    ((i : ℕ) → m ≤ i → i < n → p i ≡ q i) → firstBelow p n ≡ firstBelow q n
 first-rest p q m n e f g = first-ext p q n (λ i l. split (ltb i m)
     (λ t. let k : i < m = ltb-true i m t in first-none p m e i k ∙ sym (f i k))
     (λ t. g i (ltb-false i m t) l))

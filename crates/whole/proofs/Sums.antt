@@ -42,7 +42,8 @@ count-mono p q zero h = zero-le
 count-mono p q (suc n) h = add-le-add (count-mono p q n (λ i l. h i (omega arith))) (one-if-mono (p n) (q n) (h n (omega arith)))
 
 -- x passes the second test alone
-pub count-less : (p q : ℕ → Bool) (n : ℕ) → ((i : ℕ) → i < n → p i ≡ true → q i ≡ true) → (x : ℕ) → x < n → p x ≡ false → q x ≡ true → countBelow p n < countBelow q n
+pub count-less : (p q : ℕ → Bool) (n : ℕ) → ((i : ℕ) → i < n → p i ≡ true → q i ≡ true) → (x : ℕ) → x < n → p x ≡ false → q x ≡ true →
+    countBelow p n < countBelow q n
 unfolding countBelow
 count-less p q zero h x l px qx = absurd (not-suc-le-zero l)
 count-less p q (suc n) h x l px qx =
@@ -136,22 +137,11 @@ sum-pick f (suc n) x h = split (eqb x n)
     (λ e. let d : x ≡ n = eqb-true x n e in rw (e, sum-past f n x (omega arith), d) (omega arith))
     (λ e. rw (e, sum-pick f n x (omega (arith, eqb-false x n e))) (omega arith))
 
-pub count-prefix : (p : ℕ → Bool) (n m : ℕ) → n ≤ m → countBelow p n ≤ countBelow p m
-count-prefix p n m l = omega (arith, sum-prefix (λ i. oneIf (p i)) n m l, sum-one-if p n, sum-one-if p m)
-
 -- a running sum that is kept modulo m, as wrapping adds keep it
 pub wraps-on : (m : ℕ) (f : ℕ → ℕ) (w acc x r : ℕ) → acc ≡ sumBelow f w % m → x ≡ f w → r ≡ (acc + x) % m → r ≡ sumBelow f (w + 1) % m
 wraps-on m f w acc x r a b e = rw sum-add-one (e ∙ ap₂ (λ (p q : ℕ). (p + q) % m) a b ∙ mod-add-mod (sumBelow f w) m (f w))
 
 -- ---- products
-
-pub product-none : (f : ℕ → ℕ) → productBelow f 0 ≡ 1
-unfolding productBelow
-product-none f = refl
-
-pub product-add-one : (f : ℕ → ℕ) (n : ℕ) → productBelow f (n + 1) ≡ productBelow f n * f n
-unfolding productBelow
-product-add-one f n = ap (productBelow f) (add-one n)
 
 pub product-ext : (f g : ℕ → ℕ) (n : ℕ) → ((i : ℕ) → i < n → f i ≡ g i) → productBelow f n ≡ productBelow g n
 unfolding productBelow

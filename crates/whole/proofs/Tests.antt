@@ -1,4 +1,5 @@
--- What tests say: a Bool taken apart with its equation, a conjunction that holds, a disjunction that fails, an option that is none, one that was found.
+-- What tests say: a Bool taken apart with its equation, a conjunction that holds, a disjunction that fails, an option that is none, one
+-- that was found.
 use mathlib.Core.Path.{_≡_, refl, sym, _∙_}
 use mathlib.Core.Bool.{Bool, true, false, not, cond, _&&_, _||_, true≢false}
 use mathlib.Core.Option.{Option, none, some, orElse, Option·some-ne-none}

@@ -7,7 +7,6 @@ use native.Mathlib.Numerals.{add-one}
 use native.Mathlib.Omega.{arith}
 use lib.Dec.{eqb}
 use lib.IntN.{ℤ, pos, negsuc, negℤ, natAbs, +ℤ-idl, +ℤ-idr, *ℤ-zero, *ℤ-comm, negℤ-+ℤ, _+ℤ_, _-ℤ_, _*ℤ_}
-use lib.Signed.{_≤ℤ_, ≤ℤ-refl}
 use borrow.Author.Tests.{eqb-true, eqb-false, ne-eqb}
 use Rattle.whole.specs.Below.{sumBelow, totalBelow}
 use Rattle.whole.specs.Signed.{Under, withSignOf}
@@ -73,7 +72,8 @@ total-zero (suc n) = rw (total-zero n)
 pub total-swap : (f : ℕ → ℕ → ℤ) (n m : ℕ) → totalBelow (λ i. totalBelow (f i) m) n ≡ totalBelow (λ a. totalBelow (λ i. f i a) n) m
 unfolding totalBelow
 total-swap f zero m = sym (total-zero m)
-total-swap f (suc n) m = ap (λ (x : ℤ). x +ℤ totalBelow (f n) m) (total-swap f n m) ∙ sym (total-add (λ a. totalBelow (λ i. f i a) n) (f n) m)
+total-swap f (suc n) m =
+    ap (λ (x : ℤ). x +ℤ totalBelow (f n) m) (total-swap f n m) ∙ sym (total-add (λ a. totalBelow (λ i. f i a) n) (f n) m)
 
 -- of the terms of which only that at x counts, none below n, or it alone
 pub total-past : (f : ℕ → ℤ) (n x : ℕ) → n ≤ x → totalBelow (λ a. cond (eqb x a) (f a) (pos 0)) n ≡ pos 0
@@ -88,27 +88,17 @@ total-pick f (suc n) x h = split (eqb x n)
 
 -- ---- bounded
 
-le-add : (a b c d : ℤ) → a ≤ℤ b → c ≤ℤ d → (a +ℤ c) ≤ℤ (b +ℤ d)
-le-add = all4 _ (λ a b c d. simp zr (omega arith))
-
-pub total-le : (f g : ℕ → ℤ) (n : ℕ) → ((i : ℕ) → i < n → f i ≤ℤ g i) → totalBelow f n ≤ℤ totalBelow g n
-unfolding totalBelow
-total-le f g zero h = ≤ℤ-refl (pos 0)
-total-le f g (suc n) h = le-add (totalBelow f n) (totalBelow g n) (f n) (g n) (total-le f g n (λ i l. h i (omega arith))) (h n (omega arith))
-
 -- each term within a bound of its own, or all within one
 pub total-within : (f : ℕ → ℤ) (g : ℕ → ℕ) (n : ℕ) → ((i : ℕ) → i < n → Under (f i) (g i)) → Under (totalBelow f n) (sumBelow g n)
 unfolding totalBelow sumBelow
 total-within f g zero h = record { under = zero-le }
 total-within f g (suc n) h = total-within f g n (λ i l. h i (omega arith)) u+ h n (omega arith)
 
-pub total-abs : (f : ℕ → ℤ) (g : ℕ → ℕ) (n : ℕ) → ((i : ℕ) → i < n → natAbs (f i) ≤ g i) → natAbs (totalBelow f n) ≤ sumBelow g n
-total-abs f g n h = total-within f g n (λ i l. record { under = h i l }) .under
-
 pub total-under : (f : ℕ → ℤ) (k n : ℕ) → ((i : ℕ) → i < n → Under (f i) k) → Under (totalBelow f n) (n * k)
 unfolding totalBelow
 total-under f k zero h = record { under = zero-le }
-total-under f k (suc n) h = subst (Under (totalBelow f n +ℤ f n)) (omega arith) (total-under f k n (λ i l. h i (omega arith)) u+ h n (omega arith))
+total-under f k (suc n) h =
+    subst (Under (totalBelow f n +ℤ f n)) (omega arith) (total-under f k n (λ i l. h i (omega arith)) u+ h n (omega arith))
 
 -- ---- of naturals, and of sizes with one sign
 

@@ -1,6 +1,6 @@
-// What each word of an hour file may be, as code: whether a word keeps a rule, the rule of every word of a block and of the head, and whether
-// a word of a record keeps its rule. Each equals its definition for every input. A rule is chosen by tests and not from a stored table: the
-// compiler then folds it into the search that asks for it, where an array of rules would be laid down on the stack at each word.
+// What each word of an hour file may be, as code: whether a word keeps a rule, the rule of every word of a block and of the head, and
+// whether a word of a record keeps its rule. Each equals its definition for every input. A rule is chosen by tests and not from a stored
+// table: the compiler then folds it into the search that asks for it, where an array of rules would be laid down on the stack at each word.
 ghost use mathlib.Core.Path.{_≡_};
 ghost use mathlib.Core.Bool.{cond};
 ghost use Prim.Native.Nat.{_-_};
@@ -228,7 +228,8 @@ fn import_uses(w: usize) -> bool
 }
 
 // Whether word `w` of a record of this kind keeps its rule, in a file of so many members and areas. A word in use has the same rule in all
-// kinds, any other is zero. The test and not the rule is handed back: chosen first and tested after, a rule costs a sixth more instructions.
+// kinds, any other is zero. The test and not the rule is handed back: chosen first and tested after, a rule costs a sixth more
+// instructions.
 pub fn record_keeps(members: u32, areas: u32, kind: u32, w: usize, v: u32) -> bool
     ensures { λ r. ⌜ r ≡ Ranges.keeps (Ranges.recordRule members areas kind w) v ⌝ }
 {

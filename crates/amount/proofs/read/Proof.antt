@@ -25,15 +25,18 @@ use Rattle.amount.proofs.read.Tie as tie
 
 -- ---- the answers of the parts, as the parts of `amountIn`
 
-sign-found : {r : Sign} {o : Option (Part Bool)} {m : Bool} {k : Cursor} → signPart r ≡ o → r ≡ sign.Found m k → o ≡ some (record { value = m; next = k .at })
+sign-found : {r : Sign} {o : Option (Part Bool)} {m : Bool} {k : Cursor} → signPart r ≡ o → r ≡ sign.Found m k →
+    o ≡ some (record { value = m; next = k .at })
 sign-found e f = sym e ∙ ap signPart f
 
-number-found : {r : Number} {o : Option (Part ℕ)} {n : ℕ} {k : Cursor} → numberPart r ≡ o → r ≡ number.Found n k → o ≡ some (record { value = n; next = k .at })
+number-found : {r : Number} {o : Option (Part ℕ)} {n : ℕ} {k : Cursor} → numberPart r ≡ o → r ≡ number.Found n k →
+    o ≡ some (record { value = n; next = k .at })
 number-found e f = sym e ∙ ap numberPart f
 
 module _ (s : List ℕ) where
   -- a reading is what its parts make of it
-  answered : (r : Reading) (o : Option ℤ) → readAmount r ≡ orRefused o → amountIn s ≡ o → (verdictOf (r .answer) ≡ read s .verdict) × (r .amount ≡ read s .amount)
+  answered : (r : Reading) (o : Option ℤ) → readAmount r ≡ orRefused o → amountIn s ≡ o →
+      (verdictOf (r .answer) ≡ read s .verdict) × (r .amount ≡ read s .amount)
   unfolding read
   answered r o e q = let w = e ∙ ap orRefused (sym q) in (ap (λ (a : ReadAmount). a .verdict) w, ap (λ (a : ReadAmount). a .amount) w)
 
@@ -65,7 +68,8 @@ module _ (s : List ℕ) where
 
 -- ---- the parts that the code found
 
-past-blanks : (c : tie.After-sign) → let s = c .before .before .before .before .args .field .now in signPart (c .sign .result) ≡ signAt s (pastBlanks s 0)
+past-blanks : (c : tie.After-sign) → let s = c .before .before .before .before .args .field .now in
+    signPart (c .sign .result) ≡ signAt s (pastBlanks s 0)
 past-blanks c = c .sign .ensures ∙ rw (c .before .blanks .ensures, c .before .before .start .ensures)
 
 abbrev theSign : tie.After-known-told → Part Bool
@@ -86,15 +90,18 @@ abbrev theCents : tie.After-known-told3 → Part ℕ
 theCents c = let g = c .before .cents2 .given .0 in record { value = g .0; next = g .1 .0 .at }
 
 cents-are : (c : tie.After-known-told3) → let t = c .before .before .before .before in
-    centsAt (t .before .before .before .before .before .before .before .before .before .before .before .args .field .now) (theDollars t .next) ≡ some (theCents c)
+    centsAt (t .before .before .before .before .before .before .before .before .before .before .before .args .field .now)
+    (theDollars t .next) ≡ some (theCents c)
 cents-are c = number-found (c .before .before .before .cents .ensures) (c .before .cents2 .given .1)
 
-range : (c : tie.Else1) → 100 * theDollars (c .before .before .before .before .before .before) .value + theCents (c .before .before) .value ≤ 999999999999
+range : (c : tie.Else1) →
+    100 * theDollars (c .before .before .before .before .before .before) .value + theCents (c .before .before) .value ≤ 999999999999
 range c =
     let k = c .before .before in
     let d = k .before .before .before .before in
     let t = d .before .before .before .before in
-    in-range (t .before .before .before .before .before .before .before .args .field .now) (theSign t) (sign-is t) (theDollars d) (dollars-are d) (theCents k) (cents-are k)
+    in-range (t .before .before .before .before .before .before .before .args .field .now) (theSign t) (sign-is t) (theDollars d)
+    (dollars-are d) (theCents k) (cents-are k)
 
 start-requires : tie.Need-start-requires
 start-requires c κs = search needs
@@ -117,7 +124,8 @@ refused-requires c κs = search needs
 returns : tie.Need-returns
 returns c = let p = c .before .before .before in
     let s = p .before .before .before .before .args .field .now in
-    answered s (c .refused .result) none (c .refused .ensures) (no-sign s (sym (past-blanks p) ∙ ap signPart (c .before .enum-told .given .1)))
+    answered s (c .refused .result) none (c .refused .ensures)
+    (no-sign s (sym (past-blanks p) ∙ ap signPart (c .before .enum-told .given .1)))
 
 dollars-requires : tie.Need-dollars-requires
 dollars-requires c κs = search needs
@@ -135,7 +143,8 @@ returns-2 : tie.Need-returns-2
 returns-2 c = let p = c .before .before .before in
     let t = p .before in
     let s = t .before .before .before .before .before .before .before .args .field .now in
-    answered s (c .refused2 .result) none (c .refused2 .ensures) (no-dollars s (theSign t) (sign-is t) (sym (p .dollars .ensures) ∙ ap numberPart (c .before .enum-told2 .given .1)))
+    answered s (c .refused2 .result) none (c .refused2 .ensures)
+    (no-dollars s (theSign t) (sign-is t) (sym (p .dollars .ensures) ∙ ap numberPart (c .before .enum-told2 .given .1)))
 
 cents-requires : tie.Need-cents-requires
 cents-requires c κs = search needs
@@ -154,7 +163,8 @@ returns-3 c = let p = c .before .before .before in
     let d = p .before in
     let t = d .before .before .before .before in
     let s = t .before .before .before .before .before .before .before .args .field .now in
-    answered s (c .refused3 .result) none (c .refused3 .ensures) (no-cents s (theSign t) (sign-is t) (theDollars d) (dollars-are d) (sym (p .cents .ensures) ∙ ap numberPart (c .before .enum-told3 .given .1)))
+    answered s (c .refused3 .result) none (c .refused3 .ensures) (no-cents s (theSign t) (sign-is t) (theDollars d) (dollars-are d)
+    (sym (p .cents .ensures) ∙ ap numberPart (c .before .enum-told3 .given .1)))
 
 refused-requires-4 : tie.Need-refused-requires-4
 refused-requires-4 c κs = search needs

@@ -31,7 +31,8 @@ text-length-requires c κs = search needs
 returns-2 : tie.Need-returns-2
 returns-2 c =
     let s = c .before .before .before .before .before in
-    rw (write-too-narrow (s .args .field .now) (s .args .cents) (omega (arith, sized (c .before .before .before))) (omega (arith, measured (c .before)))) (refl, refl)
+    rw (write-too-narrow (s .args .field .now) (s .args .cents) (omega (arith, sized (c .before .before .before)))
+    (omega (arith, measured (c .before)))) (refl, refl)
 
 sub-put : tie.Need-sub-put
 sub-put c = search needs

@@ -1,11 +1,37 @@
--- `report::put_accepted` meets its contract: the members' lines after line 1.
+-- `report::put_accepted` meets its contract: line 1 with the file's own numbers, and the members' lines after it.
+use mathlib.Core.List.{List}
+use Prim.Native.Nat.{ℕ}
 use native.Mathlib.Omega.{arith}
 use borrow.Author.Needs.{needs}
-use Rattle.hour.specs.Hour.{hourIn}
+use Rattle.rules.specs.Record.{Hour, hourNumber, members}
+use Rattle.rules.specs.Statement.{firstLine, acceptedLines}
 use Rattle.rules.proofs.Stated.{hour-number-most, first-line-most}
-use Rattle.report.proofs.Putting.{put-on}
+use Rattle.hour.specs.Hour.{hourIn}
+use Rattle.printing.specs.Put.{Put}
+use Rattle.printing.proofs.Putting.{put-on}
 use Rattle.report.proofs.put_accepted.Statement.{statement}
 use Rattle.report.proofs.put_accepted.Tie as tie
+
+-- the numbers that were read are the hour's
+line-1 : (c : tie.After-put-first-line) → let s = c .before .before .before .before .before .before .before .args in
+    let h = hourIn (s .file .now) in
+    Put (s .out .now) 0 (firstLine (hourNumber h) (members h) (h .count)) (c .put-first-line .result) (c .put-first-line .last .0)
+line-1 c =
+    let known = c .before .before in
+    rw (← known .before .before .head-word .ensures, ← known .before .members .ensures, ← known .records .ensures)
+    (c .put-first-line .ensures)
+
+head-word-requires : tie.Need-head-word-requires
+head-word-requires c κs = search needs
+
+cast-hour : tie.Need-cast-hour
+cast-hour c = search needs
+
+members-requires : tie.Need-members-requires
+members-requires c κs = search needs
+
+records-requires : tie.Need-records-requires
+records-requires c κs = search needs
 
 put-first-line-requires : tie.Need-put-first-line-requires
 put-first-line-requires c κs = search needs
@@ -13,18 +39,29 @@ put-first-line-requires c κs = search needs
 put-members-requires : tie.Need-put-members-requires
 put-members-requires c κs =
     let p = c .before .before .before in
-    let s = p .before .before .before .before in
+    let known = p .before .before .before .before .before .before in
+    let s = known .before in
     let h = hourIn (s .args .file .now) in
     let kept = s .pre .0 .kept .hour-kept in
-    let line = first-line-most h kept (hour-number-most (s .args .file .now) (λ i. p .before .before .before .shared-slice-known .given i .fits)) in
-    (s .pre .0, omega (arith, p .put-first-line .ensures .next-is, p .put-first-line .kept .1 .0, line, kept .members-most, s .pre .1))
+    let line = first-line-most h kept (hour-number-most (s .args .file .now) (λ i. known .shared-slice-known .given i .fits)) in
+    (s .pre .0, omega (arith, line-1 p .next-is, p .put-first-line .kept .0, line, kept .members-most, s .pre .1))
 
 same-length : tie.Need-same-length
 same-length c = search needs
 
 returns : tie.Need-returns
-returns c = put-on (c .before .before .before .before .before .before .put-first-line .ensures) (c .before .before .put-members .ensures)
+unfolding acceptedLines
+returns c = let m = c .before .before in put-on (line-1 (m .before .before .before .before)) (m .put-members .ensures)
 
 pub put-accepted-spec : {M : Type 1} → statement M
 put-accepted-spec =
-    tie.close (tie.spec put-first-line-requires put-members-requires same-length returns)
+    tie.close
+    (tie.spec
+    head-word-requires
+    cast-hour
+    members-requires
+    records-requires
+    put-first-line-requires
+    put-members-requires
+    same-length
+    returns)

@@ -1,5 +1,5 @@
 -- `share::divide` meets its contract: after i demands, the first i places of both buffers and the sum of the whole parts are the
--- definitions'. Assumes nothing.
+-- definitions'.
 use mathlib.Core.Path.{_≡_, sym, _∙_, ap}
 use Prim.Native.Nat.{_+_, _-_, _≤_}
 use native.Mathlib.Omega.{arith}
@@ -14,14 +14,16 @@ use Rattle.share.proofs.divide.Tie as tie
 
 abbrev Inv-loop : tie.InvT-loop
 Inv-loop demands size t rests₀ out₀ handed₀ i₀ rests out handed i =
-    (i ≤ length demands) × (handed ≡ sumBelow (wholeOf demands size) i) × (rests ≡ replacingFirst (restOf demands size) i rests₀) × (out ≡ replacingFirst (wholeOf demands size) i out₀)
+    (i ≤ length demands) × (handed ≡ sumBelow (wholeOf demands size) i) × (rests ≡ replacingFirst (restOf demands size) i rests₀) ×
+    (out ≡ replacingFirst (wholeOf demands size) i out₀)
 
 abbrev μ-loop : tie.MeasureT-loop
 μ-loop demands size t rests₀ out₀ handed₀ i₀ rests out handed i = length demands - i
 
 module _ (c : tie.At-loop Inv-loop μ-loop) where
   rests-kept : length (c .loop .rests) ≡ length (c .before .args .rests .now)
-  rests-kept = ap length (c .loop .inv .2) ∙ length-replacing _ (c .loop .i) (c .before .args .rests .now) (omega (arith, c .before .pre .places))
+  rests-kept =
+      ap length (c .loop .inv .2) ∙ length-replacing _ (c .loop .i) (c .before .args .rests .now) (omega (arith, c .before .pre .places))
 
   out-kept : length (c .loop .out) ≡ length (c .before .args .out .now)
   out-kept = ap length (c .loop .inv .3) ∙ length-replacing _ (c .loop .i) (c .before .args .out .now) (omega (arith, c .before .pre .room))
@@ -60,7 +62,12 @@ add-handed : tie.Need-add-handed Inv-loop μ-loop
 add-handed c =
     let start = c .before .before .before in
     let a = c .before .before .loop in
-    omega (arith, handed-more (start .pre) (a .i) (a .handed) (a .inv .1), handed-within (start .pre) (a .i + 1) (omega arith), start .fits .size)
+    omega (
+      arith,
+      handed-more (start .pre) (a .i) (a .handed) (a .inv .1),
+      handed-within (start .pre) (a .i + 1) (omega arith),
+      start .fits .size,
+    )
 
 add-i : tie.Need-add-i Inv-loop μ-loop
 add-i c = omega arith

@@ -1,4 +1,4 @@
--- `share::hand_out` meets its contract: after k rounds, k units are handed out. Assumes nothing.
+-- `share::hand_out` meets its contract: after k rounds, k units are handed out.
 use mathlib.Core.Path.{_≡_}
 use Prim.Native.Nat.{_-_, _≤_, _<_}
 use native.Mathlib.Omega.{arith}
@@ -18,10 +18,12 @@ abbrev μ-loop : tie.MeasureT-loop
 module _ (c : tie.After-largest Inv-loop μ-loop) where
   best-in : c .largest .result < length (c .before .before .before .before .before .before .args .rests .now)
   best-in =
-      best-there (c .before .before .before .before .before .before .pre) (c .before .before .before .loop .inv .1) (c .largest .result) (c .largest .ensures)
+      best-there (c .before .before .before .before .before .before .pre) (c .before .before .before .loop .inv .1) (c .largest .result)
+      (c .largest .ensures)
 
   in-rests : c .largest .result < length (c .before .before .before .loop .rests)
-  in-rests = omega (arith, best-in, rests-length (c .before .before .before .before .before .before .pre) (c .before .before .before .loop .inv .1))
+  in-rests =
+      omega (arith, best-in, rests-length (c .before .before .before .before .before .before .pre) (c .before .before .before .loop .inv .1))
 
   in-out : c .largest .result < length (c .before .before .before .loop .out)
   in-out =
@@ -49,7 +51,11 @@ slice-read-out c = in-out (c .before)
 add-out : tie.Need-add-out Inv-loop μ-loop
 add-out c =
     let start = c .before .before .before .before .before .before .before in
-    omega (arith, grows (start .pre) (c .before .before .before .before .loop .inv .1) (c .before .largest .result) (c .before .largest .ensures) (omega arith))
+    omega (
+      arith,
+      grows (start .pre) (c .before .before .before .before .loop .inv .1) (c .before .largest .result)
+          (c .before .largest .ensures) (omega arith),
+    )
 
 slice-write-out : tie.Need-slice-write-out Inv-loop μ-loop
 slice-write-out c = in-out (c .before)
@@ -62,8 +68,11 @@ loop-less c = omega arith
 
 loop-again : tie.Need-loop-again Inv-loop μ-loop
 loop-again c =
-    let start = c .before .before .before .before .before .before .before in
-    (omega arith, handed-one (start .pre) (c .before .before .before .before .loop .inv .1) (c .before .largest .result) (c .before .largest .ensures) (omega arith))
+    let start = c .before .before .before .before .before .before .before in (
+      omega arith,
+      handed-one (start .pre) (c .before .before .before .before .loop .inv .1) (c .before .largest .result)
+          (c .before .largest .ensures) (omega arith),
+    )
 
 same-length : tie.Need-same-length Inv-loop μ-loop
 same-length c = rests-length (c .before .before .before .before .pre) (c .before .loop .inv .1)

@@ -1,4 +1,4 @@
--- `share::largest` meets its contract: of the places passed, the one kept has the first largest number. Assumes nothing.
+-- `share::largest` meets its contract: of the places passed, the one kept has the first largest number.
 use mathlib.Core.Path.{_≡_}
 use native.Mathlib.Omega.{arith}
 use lib.ListN.{length}

@@ -1,4 +1,4 @@
--- `share::share_out` meets its contract. Assumes nothing.
+-- `share::share_out` meets its contract: the whole parts are put down, and the units left over handed out.
 use borrow.Author.Needs.{needs}
 use Rattle.share.proofs.Shared.{can-hand-out, shared-out}
 use Rattle.share.proofs.share_out.Statement.{statement}
@@ -9,8 +9,8 @@ divide-requires c κs = search needs
 
 hand-out-requires : tie.Need-hand-out-requires
 hand-out-requires c κs =
-    can-hand-out (c .before .before .before .before .before .before .before .before .before .before .before .before .pre)
-    (c .before .before .before .before .before .before .divide .ensures)
+    let d = c .before .before .before .before .before .before in
+    can-hand-out (d .before .before .before .before .before .before .pre) (d .divide .ensures)
 
 same-length : tie.Need-same-length
 same-length c = search needs
@@ -20,9 +20,9 @@ same-length-2 c = search needs
 
 returns : tie.Need-returns
 returns c =
-    shared-out (c .before .before .before .before .before .before .before .before .before .before .before .before .before .before .before .before .before .pre)
-    (c .before .before .before .before .before .before .before .before .before .before .before .divide .ensures)
-    (c .before .before .before .before .hand-out .ensures)
+    let h = c .before .before .before .before in
+    let d = h .before .before .before .before .before .before .before in
+    shared-out (d .before .before .before .before .before .before .pre) (d .divide .ensures) (h .hand-out .ensures)
 
 pub share-out-spec : {M : Type 1} → statement M
 share-out-spec = tie.close (tie.spec divide-requires hand-out-requires same-length same-length-2 returns)

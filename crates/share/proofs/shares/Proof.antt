@@ -1,4 +1,4 @@
--- `share::shares` meets its contract. Assumes nothing.
+-- `share::shares` meets its contract: nothing where nobody demands anything, else shared out in room of its own.
 use mathlib.Core.Path.{sym, _∙_}
 use native.Mathlib.Omega.{arith}
 use lib.ListN.{length}
@@ -21,7 +21,8 @@ returns : tie.Need-returns
 returns c =
     let start = c .before .before .before .before .before .before .before .before in
     let added = c .before .before .before .before .before .total in
-    c .before .before .clear .ensures ∙ nothing-shared (start .pre) (added .result) (added .ensures) (c .before .before .before .before .if1 .taken)
+    c .before .before .clear .ensures
+    ∙ nothing-shared (start .pre) (added .result) (added .ensures) (c .before .before .before .before .if1 .taken)
 
 array-borrow-prefix-rests : tie.Need-array-borrow-prefix-rests
 array-borrow-prefix-rests c = omega (arith, c .before .before .before .before .pre .few)
@@ -35,7 +36,8 @@ share-out-requires : tie.Need-share-out-requires
 share-out-requires c κs =
     let start = c .before .before .before .before .before .before in
     let added = c .before .before .before .total in
-    can-divide (start .pre) (added .result) (added .ensures) (c .before .before .if1 .left) _ (length-take-le (length (start .args .demands .now)) _ (start .pre .few))
+    can-divide (start .pre) (added .result) (added .ensures) (c .before .before .if1 .left) _
+    (length-take-le (length (start .args .demands .now)) _ (start .pre .few))
 
 same-length-2 : tie.Need-same-length-2
 same-length-2 c = search needs

@@ -1,4 +1,4 @@
--- `sign::with_sign_of` meets its contract. Assumes nothing.
+-- `sign::with_sign_of` meets its contract: a size below 2^63 has a negative.
 use mathlib.Core.Path.{sym, _∙_}
 use native.Mathlib.Omega.{arith}
 use lib.IntN.{pos, +ℤ-idl}

@@ -30,7 +30,12 @@ returns-3 c = c .count-rule .ensures ∙ rw (c .before .if3 .taken)
 
 returns-4 : tie.Need-returns-4
 unfolding blockRule
-returns-4 c = rw block-words (simp (ne-eqb _ _ (c .before .before .before .if1 .left), ne-eqb _ _ (c .before .before .if2 .left), ne-eqb _ _ (c .before .if3 .left), lt-ltb _ _ (c .if4 .taken)))
+returns-4 c = rw block-words (simp (
+  ne-eqb _ _ (c .before .before .before .if1 .left),
+  ne-eqb _ _ (c .before .before .if2 .left),
+  ne-eqb _ _ (c .before .if3 .left),
+  lt-ltb _ _ (c .if4 .taken),
+))
 
 returns-5 : tie.Need-returns-5
 unfolding blockRule
@@ -44,7 +49,14 @@ unfolding blockRule
 returns-6 c =
     let at = c .before in
     c .past-rule .ensures
-    ∙ rw block-words (simp (ne-eqb _ _ (at .before .before .before .before .if1 .left), ne-eqb _ _ (at .before .before .before .if2 .left), ne-eqb _ _ (at .before .before .if3 .left), le-ltb _ _ (at .before .if4 .left), ne-eqb _ _ (at .if5 .left)))
+    ∙ rw block-words
+    (simp (
+      ne-eqb _ _ (at .before .before .before .before .if1 .left),
+      ne-eqb _ _ (at .before .before .before .if2 .left),
+      ne-eqb _ _ (at .before .before .if3 .left),
+      le-ltb _ _ (at .before .if4 .left),
+      ne-eqb _ _ (at .if5 .left),
+    ))
 
 pub block-rule-spec : {M : Type 1} → statement M
 block-rule-spec =

@@ -11,10 +11,12 @@ returns-2 : tie.Need-returns-2
 returns-2 c = rw count-words (simp (lt-leb _ _ (c .before .if1 .left), eq-eqb _ _ (c .if2 .taken)))
 
 returns-3 : tie.Need-returns-3
-returns-3 c = rw count-words (simp (lt-leb _ _ (c .before .before .if1 .left), ne-eqb _ _ (c .before .if2 .left), eq-eqb _ _ (c .if3 .taken)))
+returns-3 c =
+    rw count-words (simp (lt-leb _ _ (c .before .before .if1 .left), ne-eqb _ _ (c .before .if2 .left), eq-eqb _ _ (c .if3 .taken)))
 
 returns-4 : tie.Need-returns-4
-returns-4 c = rw count-words (simp (lt-leb _ _ (c .before .before .if1 .left), ne-eqb _ _ (c .before .if2 .left), ne-eqb _ _ (c .if3 .left)))
+returns-4 c =
+    rw count-words (simp (lt-leb _ _ (c .before .before .if1 .left), ne-eqb _ _ (c .before .if2 .left), ne-eqb _ _ (c .if3 .left)))
 
 pub counts-rule-spec : {M : Type 1} → statement M
 counts-rule-spec = tie.close (tie.spec returns returns-2 returns-3 returns-4)

@@ -19,11 +19,21 @@ returns-2 c = c .counts-rule .ensures ∙ simp (le-ltb _ _ (c .before .before .i
 
 returns-3 : tie.Need-returns-3
 unfolding headRule
-returns-3 c = simp (le-ltb _ _ (c .before .before .before .if1 .left), le-ltb _ _ (c .before .before .if2 .left), lt-ltb _ _ (c .before .if3 .taken), lt-ltb _ _ (c .if4 .taken))
+returns-3 c = simp (
+  le-ltb _ _ (c .before .before .before .if1 .left),
+  le-ltb _ _ (c .before .before .if2 .left),
+  lt-ltb _ _ (c .before .if3 .taken),
+  lt-ltb _ _ (c .if4 .taken),
+)
 
 returns-4 : tie.Need-returns-4
 unfolding headRule
-returns-4 c = simp (le-ltb _ _ (c .before .before .before .if1 .left), le-ltb _ _ (c .before .before .if2 .left), lt-ltb _ _ (c .before .if3 .taken), le-ltb _ _ (c .if4 .left))
+returns-4 c = simp (
+  le-ltb _ _ (c .before .before .before .if1 .left),
+  le-ltb _ _ (c .before .before .if2 .left),
+  lt-ltb _ _ (c .before .if3 .taken),
+  le-ltb _ _ (c .if4 .left),
+)
 
 area-rule-requires : tie.Need-area-rule-requires
 area-rule-requires c κs = search needs
@@ -33,17 +43,34 @@ unfolding headRule
 returns-5 c =
     let at = c .before .before in
     c .area-rule .ensures
-    ∙ simp (le-ltb _ _ (at .before .before .before .if1 .left), le-ltb _ _ (at .before .before .if2 .left), le-ltb _ _ (at .before .if3 .left), lt-ltb _ _ (at .if5 .taken), lt-ltb _ _ (c .before .if6 .taken))
+    ∙ simp (
+      le-ltb _ _ (at .before .before .before .if1 .left),
+      le-ltb _ _ (at .before .before .if2 .left),
+      le-ltb _ _ (at .before .if3 .left),
+      lt-ltb _ _ (at .if5 .taken),
+      lt-ltb _ _ (c .before .if6 .taken),
+    )
 
 returns-6 : tie.Need-returns-6
 unfolding headRule
 returns-6 c =
     let at = c .before in
-    simp (le-ltb _ _ (at .before .before .before .if1 .left), le-ltb _ _ (at .before .before .if2 .left), le-ltb _ _ (at .before .if3 .left), lt-ltb _ _ (at .if5 .taken), le-ltb _ _ (c .if6 .left))
+    simp (
+      le-ltb _ _ (at .before .before .before .if1 .left),
+      le-ltb _ _ (at .before .before .if2 .left),
+      le-ltb _ _ (at .before .if3 .left),
+      lt-ltb _ _ (at .if5 .taken),
+      le-ltb _ _ (c .if6 .left),
+    )
 
 returns-7 : tie.Need-returns-7
 unfolding headRule
-returns-7 c = simp (le-ltb _ _ (c .before .before .before .if1 .left), le-ltb _ _ (c .before .before .if2 .left), le-ltb _ _ (c .before .if3 .left), le-ltb _ _ (c .if5 .left))
+returns-7 c = simp (
+  le-ltb _ _ (c .before .before .before .if1 .left),
+  le-ltb _ _ (c .before .before .if2 .left),
+  le-ltb _ _ (c .before .if3 .left),
+  le-ltb _ _ (c .if5 .left),
+)
 
 pub head-rule-spec : {M : Type 1} → statement M
 head-rule-spec =

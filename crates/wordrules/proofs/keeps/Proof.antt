@@ -29,7 +29,8 @@ unfolding keeps
 returns c = rw (c .enum-told .given .1)
 
 returns-2 : tie.Need-returns-2
-returns-2 c = c .within .ensures ∙ ap (λ (r : Rule). keeps r (c .before .before .before .before .args .v)) (sym (c .before .before .rule .given .1))
+returns-2 c =
+    c .within .ensures ∙ ap (λ (r : Rule). keeps r (c .before .before .before .before .args .v)) (sym (c .before .before .rule .given .1))
 
 returns-3 : tie.Need-returns-3
 unfolding keeps

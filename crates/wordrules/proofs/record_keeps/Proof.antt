@@ -1,4 +1,5 @@
--- `wordrules::record_keeps` meets its contract: words 0 to 2, then the row of the kind, in which a word in use has the generator's rule and any other is zero.
+-- `wordrules::record_keeps` meets its contract: words 0 to 2, then the row of the kind, in which a word in use has the generator's rule and
+-- any other is zero.
 use mathlib.Core.Path.{_≡_, sym, _∙_, ap}
 use mathlib.Core.Bool.{Bool, cond}
 use Prim.Native.Nat.{_-_}
@@ -17,7 +18,8 @@ module _ (c : tie.After-uses) where
   rule = let at = c .before .before .before .before .args in recordRule (at .members) (at .areas) (at .kind) (at .w)
 
   as-used : rule ≡ cond (c .uses .result) (getD (rowOf Generator) (c .before .before .before .before .args .w - 3) mustBeZero) mustBeZero
-  as-used = record-words _ _ _ _ (omega arith) ∙ used-or-zero _ _ ∙ ap (λ (used : Bool). cond used (getD (rowOf Generator) (c .before .before .before .before .args .w - 3) mustBeZero) mustBeZero) (sym (c .uses .ensures))
+  as-used = record-words _ _ _ _ (omega arith) ∙ used-or-zero _ _ ∙ ap (λ (used : Bool). cond used
+      (getD (rowOf Generator) (c .before .before .before .before .args .w - 3) mustBeZero) mustBeZero) (sym (c .uses .ensures))
 
 within-requires : tie.Need-within-requires
 within-requires c κs = tt
@@ -47,7 +49,8 @@ returns-4 : tie.Need-returns-4
 returns-4 c =
     let at = c .before .before .before in
     c .keeps .ensures
-    ∙ ap (λ (r : Rule). keeps r (at .before .before .before .before .args .v)) (c .before .generator-rule .ensures ∙ sym (as-used at ∙ rw (c .before .before .if4 .taken)))
+    ∙ ap (λ (r : Rule). keeps r (at .before .before .before .before .args .v))
+    (c .before .generator-rule .ensures ∙ sym (as-used at ∙ rw (c .before .before .if4 .taken)))
 
 returns-5 : tie.Need-returns-5
 returns-5 c =

@@ -36,7 +36,11 @@ digits-add-result t c = omega (arith, c .digits .ensures, decimal-at-most-20 (c 
 digits-returns-2 :
     (t : ℕ) → digits-lts.Need-returns-2 (digits-below t, digits.Post) (digits-at t) digits.Post
 digits-returns-2 t c =
-    omega (arith, c .digits .ensures, decimal-length-more (c .before .before .args .left) (omega (arith, c .before .before .fits .left .fits)) (c .before .if1 .left))
+    omega (
+      arith,
+      c .digits .ensures,
+      decimal-length-more (c .before .before .args .left) (omega (arith, c .before .before .fits .left .fits)) (c .before .if1 .left),
+    )
 
 pub +digits-spec : {M : Type 1} → statement M
 +digits-spec =

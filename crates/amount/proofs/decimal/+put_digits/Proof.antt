@@ -62,7 +62,8 @@ put-digits-slice-write-field : (t : ℕ) → put-digits-lts.Need-slice-write-fie
   put-digits-below t,
   put-digits.Post,
 ) (put-digits-at t) put-digits.Post
-put-digits-slice-write-field t c = omega (arith, decimal-at-least-1 (c .before .before .args .left), c .before .before .pre .1 .0, c .before .before .pre .1 .1)
+put-digits-slice-write-field t c =
+    omega (arith, decimal-at-least-1 (c .before .before .args .left), c .before .before .pre .1 .0, c .before .before .pre .1 .1)
 
 put-digits-same-length : (t : ℕ) → put-digits-lts.Need-same-length (
   digit-reads.Asked,
@@ -109,7 +110,8 @@ put-digits-returns-2 : (t : ℕ) → put-digits-lts.Need-returns-2 (
 ) (put-digits-at t) put-digits.Post
 put-digits-returns-2 t c = let s = c .before .before .before .before .before .before .before in
     let p = c .before .before .put-digits in
-    p .ensures ∙ rw (c .before .before .before .before .before .digit .ensures) (one-more (s .args .field .now) (s .args .end) (s .args .left)
+    p .ensures
+    ∙ rw (c .before .before .before .before .before .digit .ensures) (one-more (s .args .field .now) (s .args .end) (s .args .left)
     (omega (arith, s .fits .left .fits)) (c .before .before .before .before .if1 .left) (s .pre .1 .0))
 
 pub +put-digits-spec : {M : Type 1} → statement M

@@ -52,7 +52,11 @@ sub-t8 c = fits (minus (c .before .before .args .size) (c .before .before .pre))
 returns-3 : tie.Need-returns-3
 returns-3 c =
     let s = c .before .before in
-    rw (not-false (s .args .is-minus) (c .before .if1 .left), minus-some (s .args .size) (c .if2 .left), stored (minus (s .args .size) (s .pre)) tt)
+    rw (
+      not-false (s .args .is-minus) (c .before .if1 .left),
+      minus-some (s .args .size) (c .if2 .left),
+      stored (minus (s .args .size) (s .pre)) tt,
+    )
 
 pub signed-spec : {M : Type 1} → statement M
 signed-spec =

@@ -41,14 +41,18 @@ module _ (f : List ℕ) (start : ℕ) (z : ℤ) (fits : start + length (amountTe
   blanks-before : length f - length (amountText z) ≡ start
   blanks-before = omega arith
 
-  one-run : sets (sets (set blanked start (signByte z)) (start + length (signByte z ∷ [])) dollars) (start + length (signByte z ∷ dollars)) cents ≡ sets blanked start (amountText z)
+  one-run :
+      sets (sets (set blanked start (signByte z)) (start + length (signByte z ∷ [])) dollars) (start + length (signByte z ∷ dollars)) cents
+      ≡ sets blanked start (amountText z)
   unfolding amountText
   one-run = rw (stored-on (signByte z ∷ []) dollars blanked start) (stored-on (signByte z ∷ dollars) cents blanked start)
 
-  whole-field : sets (sets (set blanked start (signByte z)) (length f - 3 - length dollars) dollars) (length f - 3) cents ≡ amountField (length f) z
+  whole-field : sets (sets (set blanked start (signByte z)) (length f - 3 - length dollars) dollars) (length f - 3) cents
+      ≡ amountField (length f) z
   unfolding amountField
   whole-field = rw (at-dollars, at-cents, blanks-before)
-      (one-run ∙ stored-to-the-end (amountText z) blanked start to-the-end ∙ rw (take-at blanks (drop start f) start (length-replicate start 32)))
+      (one-run ∙ stored-to-the-end (amountText z) blanked start to-the-end
+      ∙ rw (take-at blanks (drop start f) start (length-replicate start 32)))
 
 -- ---- the needs
 
@@ -69,16 +73,24 @@ sign-byte-requires : tie.Need-sign-byte-requires
 sign-byte-requires c κs = search needs
 
 slice-write-field : tie.Need-slice-write-field
-slice-write-field c = omega (arith, c .before .before .before .put-blanks .kept .0, text-length (c .before .before .before .before .before .before .before .args .cents))
+slice-write-field c = omega (
+  arith,
+  c .before .before .before .put-blanks .kept .0,
+  text-length (c .before .before .before .before .before .before .before .args .cents),
+)
 
 put-digits-requires : tie.Need-put-digits-requires
 put-digits-requires c κs =
     let s = c .before .before .before .before .before .before .before .before in
-    let h : length (decimal (natAbs (s .args .cents) / 100)) ≤ length (s .args .field .now) - 3 = omega (arith, text-length (s .args .cents)) in
-    (rw (sized (c .before .before .before .before .before .before)) h, simp length-set (omega (arith, c .before .before .before .before .put-blanks .kept .0)))
+    let h : length (decimal (natAbs (s .args .cents) / 100)) ≤ length (s .args .field .now) - 3 =
+    omega (arith, text-length (s .args .cents)) in (
+      rw (sized (c .before .before .before .before .before .before)) h,
+      simp length-set (omega (arith, c .before .before .before .before .put-blanks .kept .0)),
+    )
 
 -- the field keeps its length up to the cents
-kept : (c : tie.After-put-digits) → length (c .put-digits .last .0) ≡ length (c .before .before .before .before .before .before .before .before .before .args .field .now)
+kept : (c : tie.After-put-digits) →
+    length (c .put-digits .last .0) ≡ length (c .before .before .before .before .before .before .before .before .before .args .field .now)
 kept c = c .put-digits .kept .0 ∙ simp length-set (c .before .before .before .before .before .put-blanks .kept .0)
 
 put-cents-requires : tie.Need-put-cents-requires
@@ -93,9 +105,15 @@ returns : tie.Need-returns
 returns c =
     let d = c .before .before .before .before .before .before in
     let s = d .before .before .before .before .before .before .before .before .before in
-    let sign : d .before .before .sign-byte .result ≡ signByte (s .args .cents) = d .before .before .sign-byte .ensures ∙ ap signByte (read-back (s .fits .cents)) in
+    let sign : d .before .before .sign-byte .result ≡ signByte (s .args .cents) = d .before .before .sign-byte .ensures
+    ∙ ap signByte (read-back (s .fits .cents)) in
     c .before .before .put-cents .ensures
-    ∙ rw (d .put-digits .ensures, d .before .before .before .before .before .put-blanks .ensures, sign, sized (d .before .before .before .before .before .before .before))
+    ∙ rw (
+      d .put-digits .ensures,
+      d .before .before .before .before .before .put-blanks .ensures,
+      sign,
+      sized (d .before .before .before .before .before .before .before),
+    )
     (whole-field (s .args .field .now) (s .args .start) (s .args .cents) (s .pre))
 
 pub put-spec : {M : Type 1} → statement M

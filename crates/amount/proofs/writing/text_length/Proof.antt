@@ -24,7 +24,8 @@ add-result c = omega (arith, c .digits .ensures, decimal-at-most-20 (c .before .
 returns : tie.Need-returns
 returns c =
     let cents = c .before .before .args .cents in
-    let size : c .before .size-of .result ≡ natAbs cents = c .before .size-of .ensures ∙ ap natAbs (read-back (c .before .before .fits .cents)) in
+    let size : c .before .size-of .result ≡ natAbs cents = c .before .size-of .ensures
+    ∙ ap natAbs (read-back (c .before .before .fits .cents)) in
     let dollars : c .digits .result ≡ length (decimal (natAbs cents / 100)) = c .digits .ensures ∙ rw size in
     omega (arith, text-length cents)
 

@@ -1,4 +1,4 @@
--- `formula::cents::cents` meets its contract. Assumes nothing.
+-- `formula::cents::cents` meets its contract: half a cent away from zero, then the quotient toward it.
 use mathlib.Core.Path.{_∙_}
 use lib.Dec.{lit<}
 use native.Mathlib.Omega.{arith}
@@ -23,7 +23,8 @@ returns : tie.Need-returns
 unfolding nearestCent cents
 returns c =
     let s = c .before in
-    stored (below s :/ 10000000) tt ∙ nearest-neg (s .args .grains) 5000000 (omega arith) (lt-yes (grains s) (# (pos 0)) tt tt (c .if1 .taken))
+    stored (below s :/ 10000000) tt
+    ∙ nearest-neg (s .args .grains) 5000000 (omega arith) (lt-yes (grains s) (# (pos 0)) tt tt (c .if1 .taken))
 
 returns-2 : tie.Need-returns-2
 unfolding nearestCent cents

@@ -1,4 +1,4 @@
--- `formula::deviation::accounted` meets its contract: every step fits, and so what is stored is what is meant. Assumes nothing.
+-- `formula::deviation::accounted` meets its contract: every step fits, and so what is stored is what is meant.
 use mathlib.Core.Path.{_≡_, refl, sym, _∙_, ap}
 use lib.IntN.{ℤ, pos, +ℤ-idl}
 use Rattle.whole.proofs.Machine.{Num, #, _:-_, _:*_, fits, stored}
@@ -40,7 +40,8 @@ told r k e f = f ∙ sym (ap (λ (x : Kind). accountedAs x (r .A) (r .H)) e)
 
 returns : tie.Need-returns
 unfolding accountedAs
-returns c = told _ Generator (c .enum-told .given .1) (stored (metered (at-lost (c .before .before)) :- lost (at-lost (c .before .before))) tt)
+returns c =
+    told _ Generator (c .enum-told .given .1) (stored (metered (at-lost (c .before .before)) :- lost (at-lost (c .before .before))) tt)
 
 returns-2 : tie.Need-returns-2
 unfolding accountedAs

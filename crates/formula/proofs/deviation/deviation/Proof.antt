@@ -1,4 +1,4 @@
--- `formula::deviation::deviation` meets its contract: each kind has its formula. Assumes nothing.
+-- `formula::deviation::deviation` meets its contract: each kind has its formula.
 use mathlib.Core.Path.{_≡_, refl, sym, _∙_, ap}
 use lib.IntN.{ℤ}
 use Rattle.whole.proofs.Machine.{result, stored, back}

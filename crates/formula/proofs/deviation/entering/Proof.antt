@@ -1,4 +1,4 @@
--- `formula::deviation::entering` meets its contract. Assumes nothing.
+-- `formula::deviation::entering` meets its contract: kind by kind; a number of this range has a negative.
 use mathlib.Core.Path.{_∙_}
 use lib.IntN.{pos, +ℤ-idl}
 use Rattle.whole.proofs.Machine.{Num, #, at, _:-_, fits, stored}

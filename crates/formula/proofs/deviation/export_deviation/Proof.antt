@@ -1,4 +1,4 @@
--- `formula::deviation::export_deviation` meets its contract: every step fits, and so what is stored is what is meant. Assumes nothing.
+-- `formula::deviation::export_deviation` meets its contract: every step fits, and so what is stored is what is meant.
 use lib.IntN.{pos}
 use Rattle.whole.proofs.Machine.{Num, #, _:-_, _:*_, fits, stored}
 use Rattle.rules.specs.Deviation.{exportDeviation}

@@ -1,4 +1,4 @@
--- `formula::deviation::generator_deviation` meets its contract: every step fits, and so what is stored is what is meant. Assumes nothing.
+-- `formula::deviation::generator_deviation` meets its contract: every step fits, and so what is stored is what is meant.
 use mathlib.Core.Path.{_∙_, ap}
 use lib.IntN.{pos}
 use Rattle.whole.specs.Signed.{minℤ}

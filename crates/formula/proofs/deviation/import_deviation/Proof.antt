@@ -1,4 +1,4 @@
--- `formula::deviation::import_deviation` meets its contract: every step fits, and so what is stored is what is meant. Assumes nothing.
+-- `formula::deviation::import_deviation` meets its contract: every step fits, and so what is stored is what is meant.
 use Rattle.whole.proofs.Machine.{Num, _:+_, _:-_, _:*_, fits, stored}
 use Rattle.rules.specs.Deviation.{importDeviation}
 use Rattle.formula.proofs.Terms.{S, A, J, F, adjusted, ancillary}

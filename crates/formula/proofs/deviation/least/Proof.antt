@@ -1,4 +1,4 @@
--- `formula::deviation::least` meets its contract. Assumes nothing.
+-- `formula::deviation::least` meets its contract.
 use mathlib.Core.Path.{_∙_}
 use mir.Facts.{toZ-ofZ}
 use Rattle.whole.specs.Signed.{minℤ}

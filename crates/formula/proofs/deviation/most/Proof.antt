@@ -1,4 +1,4 @@
--- `formula::deviation::most` meets its contract. Assumes nothing.
+-- `formula::deviation::most` meets its contract.
 use mathlib.Core.Path.{_∙_}
 use mir.Facts.{toZ-ofZ}
 use Rattle.whole.specs.Signed.{maxℤ}

@@ -1,4 +1,4 @@
--- `formula::entry::is_load` meets its contract. Assumes nothing.
+-- `formula::entry::is_load` meets its contract: kind by kind.
 use Rattle.formula.proofs.entry.is_load.Statement.{statement}
 use Rattle.formula.proofs.entry.is_load.Tie as tie
 

@@ -1,4 +1,4 @@
--- `formula::entry::kind_of` meets its contract. Assumes nothing.
+-- `formula::entry::kind_of` meets its contract: number by number, and none for those past 5.
 use mathlib.Core.Path.{_≡_, refl}
 use mathlib.Core.Logic.{_≢_}
 use Prim.Native.Nat.{ℕ, zero, suc}

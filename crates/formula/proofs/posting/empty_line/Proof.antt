@@ -1,4 +1,4 @@
--- `formula::posting::empty_line` meets its contract. Assumes nothing.
+-- `formula::posting::empty_line` meets its contract.
 use mathlib.Core.Path.{refl}
 use Rattle.rules.specs.Posting.{emptyLine}
 use Rattle.formula.proofs.posting.empty_line.Statement.{statement}

@@ -1,4 +1,4 @@
--- `formula::posting::empty_tally` meets its contract. Assumes nothing.
+-- `formula::posting::empty_tally` meets its contract.
 use mathlib.Core.Path.{refl}
 use Rattle.rules.specs.Posting.{emptyTally}
 use Rattle.formula.proofs.posting.empty_tally.Statement.{statement}

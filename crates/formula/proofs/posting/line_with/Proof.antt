@@ -1,4 +1,4 @@
--- `formula::posting::line_with` meets its contract. Assumes nothing.
+-- `formula::posting::line_with` meets its contract: the sum fits, by the room that is asked.
 use mir.Syntax.{w64}
 use mir.Val.{SFits}
 use borrow.Author.Needs.{sfits-of}

@@ -1,4 +1,4 @@
--- `formula::posting::tallied` meets its contract. Assumes nothing.
+-- `formula::posting::tallied` meets its contract: both sums fit, by the room that is asked.
 use mir.Syntax.{w64}
 use mir.Val.{Fits, SFits}
 use Prim.Native.Nat.{_*_}

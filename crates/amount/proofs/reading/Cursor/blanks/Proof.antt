@@ -23,7 +23,8 @@ byte-at-requires : tie.Need-byte-at-requires Inv-loop μ-loop
 byte-at-requires c κs = tt
 
 -- a blank is no 0, so it stands before the end
-blank : (c : tie.Then1 Inv-loop μ-loop) → let at = c .before .before .loop .at in let s = c .before .before .before .before .args .field .now in
+blank : (c : tie.Then1 Inv-loop μ-loop) → let at = c .before .before .loop .at in
+    let s = c .before .before .before .before .args .field .now in
     (getD s at 0 ≡ 32) × (at < length s)
 blank c =
     let at = c .before .before .loop .at in
@@ -48,7 +49,8 @@ returns : tie.Need-returns Inv-loop μ-loop
 returns c =
     let at = c .before .before .loop .at in
     let s = c .before .before .before .before .args .field .now in
-    let here : pastBlanks s at ≡ at = blanks-from s at ∙ rw (ne-eqb (getD s at 0) 32 (λ e. c .if1 .left (c .before .byte-at .ensures ∙ e))) in
+    let here : pastBlanks s at ≡ at = blanks-from s at
+    ∙ rw (ne-eqb (getD s at 0) 32 (λ e. c .if1 .left (c .before .byte-at .ensures ∙ e))) in
     sym here ∙ c .before .before .loop .inv
 
 pub blanks-spec : {M : Type 1} → statement M

@@ -34,10 +34,12 @@ no-digit {t = t} e f g = rw g at (sym e ∙ not-true t f)
 point : (c : tie.Else1) → getD (c .before .before .before .args .field .now) (c .before .before .before .args .self .at) 0 ≡ 46
 point c = sym (c .before .byte-at .ensures) ∙ c .if1 .left
 
-tens : (c : tie.Else2) → let s = c .before .before .before .before .before .before in isDigit (getD (s .args .field .now) (s .args .self .at + 1) 0) ≡ true
+tens : (c : tie.Else2) → let s = c .before .before .before .before .before .before in
+    isDigit (getD (s .args .field .now) (s .args .self .at + 1) 0) ≡ true
 tens c = a-digit (c .before .is-digit .ensures) (c .if2 .left) (c .before .before .byte-at2 .ensures)
 
-ones : (c : tie.Else3) → let s = c .before .before .before .before .before .before .before .before .before in isDigit (getD (s .args .field .now) (s .args .self .at + 2) 0) ≡ true
+ones : (c : tie.Else3) → let s = c .before .before .before .before .before .before .before .before .before in
+    isDigit (getD (s .args .field .now) (s .args .self .at + 2) 0) ≡ true
 ones c = a-digit (c .before .is-digit2 .ensures) (c .if3 .left) (c .before .before .byte-at3 .ensures)
 
 byte-at-requires : tie.Need-byte-at-requires
@@ -60,7 +62,8 @@ is-digit-requires c κs = search needs
 
 returns-2 : tie.Need-returns-2
 unfolding centsAt
-returns-2 c = rw (point (c .before .before .before), no-digit (c .before .is-digit .ensures) (c .if2 .taken) (c .before .before .byte-at2 .ensures))
+returns-2 c =
+    rw (point (c .before .before .before), no-digit (c .before .is-digit .ensures) (c .if2 .taken) (c .before .before .byte-at2 .ensures))
 
 add-byte-at-2 : tie.Need-add-byte-at-2
 add-byte-at-2 c = let s = c .before .before .before .before .before .before in
@@ -74,10 +77,15 @@ is-digit-requires-2 c κs = search needs
 
 returns-3 : tie.Need-returns-3
 unfolding centsAt
-returns-3 c = rw (point (c .before .before .before .before .before .before), tens (c .before .before .before), no-digit (c .before .is-digit2 .ensures) (c .if3 .taken) (c .before .before .byte-at3 .ensures))
+returns-3 c = rw (
+  point (c .before .before .before .before .before .before),
+  tens (c .before .before .before),
+  no-digit (c .before .is-digit2 .ensures) (c .if3 .taken) (c .before .before .byte-at3 .ensures),
+)
 
 sub-value : tie.Need-sub-value
-sub-value c = digit-range (c .before .before .before .before .before .byte-at2 .result) (rw (← c .before .before .before .before .before .byte-at2 .ensures) at (tens (c .before .before .before))) .0
+sub-value c = digit-range (c .before .before .before .before .before .byte-at2 .result)
+    (rw (← c .before .before .before .before .before .byte-at2 .ensures) at (tens (c .before .before .before))) .0
 
 cast-value : tie.Need-cast-value
 cast-value c = search needs

@@ -44,12 +44,14 @@ digits-from-requires c κs = search needs
 returns : tie.Need-returns
 returns c =
     let s = c .before .before .before in
-    no-digit (s .args .field .now) (s .args .self .at) (c .before .digits-from .result .count) (c .before .digits-from .ensures .0) (c .if1 .taken)
+    no-digit (s .args .field .now) (s .args .self .at) (c .before .digits-from .result .count) (c .before .digits-from .ensures .0)
+    (c .if1 .taken)
 
 returns-2 : tie.Need-returns-2
 returns-2 c =
     let s = c .before .before .before .before in
-    too-many (s .args .field .now) (s .args .self .at) (c .before .before .digits-from .result .count) (c .before .before .digits-from .ensures .0) (c .if2 .taken)
+    too-many (s .args .field .now) (s .args .self .at) (c .before .before .digits-from .result .count)
+    (c .before .before .digits-from .ensures .0) (c .if2 .taken)
 
 byte-at-requires : tie.Need-byte-at-requires
 byte-at-requires c κs = search needs
@@ -59,13 +61,19 @@ returns-3 c =
     let t = c .before .before .before in
     let d = t .before .before .digits-from in
     let s = t .before .before .before .before in
-    zero-first (s .args .field .now) (s .args .self .at) (d .result .count) (d .ensures .0) (t .if2 .left) (omega (arith, c .before .before .if3 .taken))
+    zero-first (s .args .field .now) (s .args .self .at) (d .result .count) (d .ensures .0) (t .if2 .left)
+    (omega (arith, c .before .before .if3 .taken))
     (sym (c .before .byte-at .ensures) ∙ c .if4 .taken)
 
 add-t9 : tie.Need-add-t9
 add-t9 c =
     let s = c .before .before .before .before .before in
-    omega (arith, c .before .before .before .digits-from .ensures .0, counted-stand (drop (s .args .self .at) (s .args .field .now)), length-drop (s .args .self .at) (s .args .field .now))
+    omega (
+      arith,
+      c .before .before .before .digits-from .ensures .0,
+      counted-stand (drop (s .args .self .at) (s .args .field .now)),
+      length-drop (s .args .self .at) (s .args .field .now),
+    )
 
 returns-4 : tie.Need-returns-4
 returns-4 c =
@@ -76,7 +84,8 @@ returns-4 c =
     (λ several. rw (ne-eqb first 48 (λ e. several .2 .left (several .1 .ensures ∙ e))) (or-true (eqb (d .result .count) 1)))
     (λ single. rw (eq-eqb (d .result .count) 1 (omega (arith, single .left, c .before .before .if1 .left))))
     (c .if3 .came) in
-    rw (d .ensures .1) (found (s .args .field .now) (s .args .self .at) (d .result .count) (d .ensures .0) (c .before .if2 .left) (c .before .before .if1 .left) front)
+    rw (d .ensures .1) (found (s .args .field .now) (s .args .self .at) (d .result .count) (d .ensures .0) (c .before .if2 .left)
+    (c .before .before .if1 .left) front)
 
 pub dollars-spec : {M : Type 1} → statement M
 dollars-spec =

@@ -15,18 +15,23 @@ byte-at-requires c κs = search needs
 plus : (c : tie.Then1) → getD (c .before .before .before .args .field .now) (c .before .before .before .args .self .at) 0 ≡ 43
 plus c = sym (c .before .byte-at .ensures) ∙ c .if1 .taken
 
-minus : (c : tie.Then2) → getD (c .before .before .before .before .args .field .now) (c .before .before .before .before .args .self .at) 0 ≡ 45
+minus : (c : tie.Then2) →
+    getD (c .before .before .before .before .args .field .now) (c .before .before .before .before .args .self .at) 0 ≡ 45
 minus c = sym (c .before .before .byte-at .ensures) ∙ c .if2 .taken
 
 add-t6 : tie.Need-add-t6
-add-t6 c = let e = plus c in omega (arith, stands (c .before .before .before .args .field .now) (c .before .before .before .args .self .at) (λ z. omega arith))
+add-t6 c = let e = plus c in
+    omega (arith, stands (c .before .before .before .args .field .now) (c .before .before .before .args .self .at) (λ z. omega arith))
 
 returns : tie.Need-returns
 unfolding signAt
 returns c = rw (plus c)
 
 add-t8 : tie.Need-add-t8
-add-t8 c = let e = minus c in omega (arith, stands (c .before .before .before .before .args .field .now) (c .before .before .before .before .args .self .at) (λ z. omega arith))
+add-t8 c = let e = minus c in omega (
+  arith,
+  stands (c .before .before .before .before .args .field .now) (c .before .before .before .before .args .self .at) (λ z. omega arith),
+)
 
 returns-2 : tie.Need-returns-2
 unfolding signAt

@@ -1,0 +1,2 @@
+-- Laws of text that is put, for the proofs here and of whoever puts line after line.
+pub mod Putting

@@ -1,0 +1,49 @@
+-- `printing::put_charge` meets its contract: the part that is lent comes back as the charge's field.
+use mathlib.Core.Path.{_≡_, _∙_, ap}
+use Prim.Native.Nat.{_+_, _-_}
+use native.Mathlib.Omega.{arith}
+use borrow.Author.Needs.{needs}
+use borrow.Rule.Slice.PartMut.{midOf, mid-len}
+use lib.ListN.{length, replicate}
+use Rattle.whole.proofs.Machine.{read-back}
+use Rattle.rules.specs.Settling.{write}
+use Rattle.rules.proofs.Text.{field-has-width, written-in-14}
+use Rattle.printing.proofs.Putting.{put-as, part-put}
+use Rattle.printing.proofs.put_charge.Statement.{statement}
+use Rattle.printing.proofs.put_charge.Tie as tie
+
+add-end : tie.Need-add-end
+add-end c = search needs
+
+sub-write : tie.Need-sub-write
+sub-write c = search needs
+
+part-write-start : tie.Need-part-write-start
+part-write-start c = search needs
+
+part-write-end : tie.Need-part-write-end
+part-write-end c = search needs
+
+write-requires : tie.Need-write-requires
+write-requires c κs = search needs
+
+same-length : tie.Need-same-length
+same-length c = search needs
+
+returns : tie.Need-returns
+returns c =
+    let w = c .before .before .write in
+    let s = c .before .before .before .before .before in
+    let o = s .args .out .now in
+    let at = s .args .at in
+    let part : length (midOf at (at + 14 - at) o) ≡ 14 = mid-len at (at + 14) o (s .pre .0) ∙ omega arith in
+    let field : w .last .1 .0 ≡ write (replicate 14 32) (s .args .cents) .field =
+    w .ensures .1 ∙ rw (read-back (s .fits .cents)) (written-in-14 (midOf at (at + 14 - at) o) (s .args .cents) part (s .pre .1)) in
+    let width : length (w .last .1 .0) ≡ at + 14 - at = ap length field ∙ field-has-width (replicate 14 32) (s .args .cents)
+    ∙ omega arith in
+    put-as field (part-put o (w .last .1 .0) at (at + 14) (omega arith) (s .pre .0) width)
+
+pub put-charge-spec : {M : Type 1} → statement M
+put-charge-spec =
+    tie.close
+    (tie.spec add-end sub-write part-write-start part-write-end write-requires same-length returns)

@@ -1,0 +1,56 @@
+// The lines of a statement (document 01, "The printed statement") as bytes, from numbers alone: each is put into a lent slice, and the
+// place after it is handed back.
+ghost use Prim.Native.Nat.{_+_, _≤_, _<_};
+ghost use lib.IntN.{natAbs};
+ghost use lib.ListN.{length, replicate};
+ghost use Rattle.rules.specs.Refusals.{refusedAt};
+ghost use Rattle.rules.specs.Settling.{write};
+ghost use Rattle.rules.specs.Statement.{firstLine, memberLine, refusedLine};
+ghost use Rattle.printing.specs.Put.{Put};
+use crate::text::put_bytes;
+use crate::text::put_count;
+
+mod text;
+
+// Line 1. The room is for twenty digits of each number.
+pub fn put_first_line(out: &mut [u8], hour: u64, members: u64, records: u64) -> usize
+    requires { ⌜ 84 ≤ length (now out) ⌝ }
+    ensures { λ r. ⌜ Put (now (out .entry)) 0 (firstLine hour members records) r (now (out .exit)) ⌝ }
+{
+    let after_hour = put_count(out, 0, b"hour ", hour);
+    let after_members = put_count(out, after_hour, b" members ", members);
+    let after_records = put_count(out, after_members, b" records ", records);
+    put_bytes(out, after_records, b"\n")
+}
+
+// A charge in 14 columns, into the part of the slice that is its field. It is in range and fits, so writing never refuses it.
+fn put_charge(out: &mut [u8], at: usize, cents: i64) -> usize
+    requires { ⌜ (at + 14 ≤ length (now out)) × (natAbs cents ≤ 999999999999) ⌝ }
+    ensures { λ r. ⌜ Put (now (out .entry)) at (write (replicate 14 32) cents .field) r (now (out .exit)) ⌝ }
+{
+    let end = at + 14;
+    amount::write(cents, &mut out[at..end]);
+    end
+}
+
+// A member's line: two digits, a blank, the charge.
+pub fn put_member(out: &mut [u8], at: usize, member: usize, cents: i64) -> usize
+    requires { ⌜ (at + 18 ≤ length (now out)) × (member < 100) × (natAbs cents ≤ 999999999999) ⌝ }
+    ensures { λ r. ⌜ Put (now (out .entry)) at (memberLine member cents) r (now (out .exit)) ⌝ }
+{
+    out[at] = amount::decimal::digit(member as u64 / 10);
+    out[at + 1] = amount::decimal::digit(member as u64);
+    out[at + 2] = b' ';
+    let after_charge = put_charge(out, at + 3, cents);
+    put_bytes(out, after_charge, b"\n")
+}
+
+// A refusal's number and place, and nothing else. The room is for twenty digits of each.
+pub fn put_refusal(out: &mut [u8], number: u64, place: u64) -> usize
+    requires { ⌜ 53 ≤ length (now out) ⌝ }
+    ensures { λ r. ⌜ Put (now (out .entry)) 0 (refusedLine (refusedAt number place)) r (now (out .exit)) ⌝ }
+{
+    let after_number = put_count(out, 0, b"refused ", number);
+    let after_place = put_count(out, after_number, b" at ", place);
+    put_bytes(out, after_place, b"\n")
+}

@@ -1,0 +1,116 @@
+-- `report::put_members` meets its contract: the lines of the members passed stand one after the other.
+use Prim.Native.Nat.{ℕ, _+_, _-_, _≤_, _<_}
+use mathlib.Core.Path.{_≡_}
+use mathlib.Core.List.{List, _++_}
+use native.Mathlib.Numerals.{add-one}
+use native.Mathlib.Omega.{arith}
+use mir.Syntax.{w64}
+use mir.Val.{toZ, ofZ}
+use lib.IntN.{ℤ, pos}
+use lib.ListN.{getD}
+use Rattle.whole.proofs.Machine.{read-back}
+use Rattle.whole.proofs.Ranges.{u-fits}
+use Rattle.rules.specs.Record as Record
+use Rattle.rules.specs.Record.{Hour}
+use Rattle.rules.specs.Charge.{charge}
+use Rattle.rules.specs.Statement.{memberLine, memberLines}
+use Rattle.rules.proofs.Bounds.{charge-under}
+use Rattle.hour.specs.Hour.{hourIn}
+use Rattle.rules.proofs.Stated.{member-lines-length}
+use Rattle.printing.specs.Put.{Put}
+use Rattle.printing.proofs.Putting.{put-nothing, put-length, put-on, put-as}
+use Rattle.report.specs.Stated.{Charged}
+use Rattle.report.proofs.put_members.Statement.{statement}
+use Rattle.report.proofs.put_members.Tie as tie
+
+-- the charge that stands at a member's place, as it is read back
+held : {s : List ℕ} {charges : List ℤ} → Charged s charges → (m : ℕ) → m < Record.members (hourIn s) →
+    toZ w64 (ofZ w64 (getD charges m (pos 0))) ≡ charge (hourIn s) m
+held c m l = rw (c .charges-are m l) (read-back (u-fits (charge-under (c .kept .hour-kept) m) tt))
+
+next-line : (h : Hour) (m : ℕ) → memberLines h m ++ memberLine m (charge h m) ≡ memberLines h (m + 1)
+unfolding memberLines
+next-line h m = rw (add-one m)
+
+put-none : (h : Hour) (o : List ℕ) (at : ℕ) → Put o at (memberLines h 0) at o
+unfolding memberLines
+put-none h o at = put-nothing o at
+
+abbrev Inv-loop : tie.InvT-loop
+Inv-loop file charges out₀ at members place₀ m₀ out place m =
+    (m ≤ members) × (members ≡ Record.members (hourIn file)) × Put out₀ at (memberLines (hourIn file) m) place out
+
+abbrev μ-loop : tie.MeasureT-loop
+μ-loop file charges out₀ at members place₀ m₀ out place m = members - m
+
+members-requires : tie.Need-members-requires Inv-loop μ-loop
+members-requires c κs = tt
+
+loop-holds : tie.Need-loop-holds Inv-loop μ-loop
+loop-holds c =
+    let s = c .before .before .before .args in (omega arith, c .members .ensures, put-none (hourIn (s .file .now)) (s .out .now) (s .at))
+
+mul-put-member : tie.Need-mul-put-member Inv-loop μ-loop
+mul-put-member c =
+    let s = c .before .before .before .before .before .before in
+    omega (arith, s .pre .0 .kept .hour-kept .members-most, c .before .before .loop .inv .1)
+
+shared-slice-copy-out-put-member : tie.Need-shared-slice-copy-out-put-member Inv-loop μ-loop
+shared-slice-copy-out-put-member c =
+    let s = c .before .before .before .before .before .before in
+    omega (arith, s .pre .0 .room, c .before .before .loop .inv .1)
+
+put-member-requires : tie.Need-put-member-requires Inv-loop μ-loop
+put-member-requires c κs =
+    let l = c .before .before .before .loop in
+    let s = c .before .before .before .before .before .before .before in
+    let h = hourIn (s .args .file .now) in
+    let there : l .m < Record.members h = omega (arith, l .inv .1) in (
+      omega (arith, l .inv .2 .next-is, put-length (l .inv .2), member-lines-length h (l .m), s .pre .1),
+      omega (arith, s .pre .0 .kept .hour-kept .members-most),
+      rw (held (s .pre .0) (l .m) there) (omega (arith, charge-under (s .pre .0 .kept .hour-kept) (l .m) .under)),
+    )
+
+add-m : tie.Need-add-m Inv-loop μ-loop
+add-m c = omega (arith, c .before .before .before .before .before .before .loop .inv .0)
+
+loop-less : tie.Need-loop-less Inv-loop μ-loop
+loop-less c = omega arith
+
+loop-again : tie.Need-loop-again Inv-loop μ-loop
+loop-again c =
+    let l = c .before .before .before .before .before .before .loop in
+    let s = c .before .before .before .before .before .before .before .before .before .before in
+    let h = hourIn (s .args .file .now) in
+    let there : l .m < Record.members h = omega (arith, l .inv .1) in (
+      omega arith,
+      l .inv .1,
+      put-as (next-line h (l .m)) (put-on (l .inv .2) (rw (held (s .pre .0) (l .m) there) at (c .before .before .put-member .ensures))),
+    )
+
+same-length : tie.Need-same-length Inv-loop μ-loop
+same-length c = put-length (c .before .loop .inv .2)
+
+returns : tie.Need-returns Inv-loop μ-loop
+returns c =
+    let l = c .before .loop in
+    let all : l .m ≡ Record.members (hourIn (c .before .before .before .before .before .args .file .now)) =
+    omega (arith, l .inv .0, l .inv .1) in
+    rw all at (l .inv .2)
+
+pub put-members-spec : {M : Type 1} → statement M
+put-members-spec =
+    tie.close
+    (tie.spec
+    Inv-loop
+    μ-loop
+    members-requires
+    loop-holds
+    mul-put-member
+    shared-slice-copy-out-put-member
+    put-member-requires
+    add-m
+    loop-less
+    loop-again
+    same-length
+    returns)
