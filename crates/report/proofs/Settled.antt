@@ -15,8 +15,10 @@ use Rattle.rules.specs.Charge.{charge}
 use Rattle.rules.specs.Refusals.{accepted, verdictOf, verdict, hourRows}
 use Rattle.rules.specs.Statement.{refusedLine, statement}
 use Rattle.hour.specs.Hour.{hourIn}
-use Rattle.settle.specs.Parallel.{Lent, lentRow, parallelRows, filledLent, settleParallel, FitsParallel}
-use Rattle.settle.proofs.Answered.{numbered, parallel-verdict}
+use Rattle.answer.proofs.Refusing.{numbered}
+use Rattle.filling.specs.Lent.{Lent, lentRow, filledLent}
+use Rattle.settle.specs.Parallel.{parallelRows, settleParallel, FitsParallel}
+use Rattle.settle.proofs.Answered.{parallel-verdict}
 use Rattle.report.specs.Lines.{Charged, acceptedLines}
 use Rattle.report.specs.Stated.{Rooms}
 use Rattle.rules.proofs.Stated.{accepted-kept, room-for-all, statement-accepted, statement-refused}

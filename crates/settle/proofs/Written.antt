@@ -25,7 +25,8 @@ use Rattle.rules.proofs.Rows.{settle-accepts, settle-verdict, settle-numbered, 
 use Rattle.rules.proofs.Demands.{buffers-room}
 use Rattle.rules.proofs.Outcome.{by-formula, fair-outcome}
 use Rattle.hour.specs.Hour.{hourIn}
-use Rattle.settle.specs.Parallel.{Lent, lines, lentRow, parallelRows, filledLent, settleParallel, FitsParallel}
+use Rattle.filling.specs.Lent.{Lent, lines, lentRow, filledLent}
+use Rattle.settle.specs.Parallel.{parallelRows, settleParallel, FitsParallel}
 use Rattle.settle.specs.Written.{lineAt, asBuffers}
 
 -- ---- two lists or one

@@ -1,15 +1,10 @@
 -- `report::put_statement` meets its contract: settling answers as the statement's rows do, and its charges are the hour's.
-use mathlib.Core.List.{[], _∷_}
-use types.Run.{OneOf, miss}
 use borrow.Author.Needs.{needs}
+use Rattle.answer.proofs.Refusing.{no-other}
 use Rattle.report.proofs.Putting.{put-as}
 use Rattle.report.proofs.Settled.{refused-statement, accepted-statement, charged}
 use Rattle.report.proofs.put_statement.Statement.{statement}
 use Rattle.report.proofs.put_statement.Tie as tie
-
--- the answers but acceptance, as the code tells them apart
-no-other : OneOf (1 ∷ 2 ∷ 3 ∷ 4 ∷ 5 ∷ 6 ∷ 7 ∷ 8 ∷ 9 ∷ 10 ∷ 11 ∷ []) 0 → ⊥
-no-other = miss (1 ∷ 2 ∷ 3 ∷ 4 ∷ 5 ∷ 6 ∷ 7 ∷ 8 ∷ 9 ∷ 10 ∷ 11 ∷ []) 0 tt
 
 settle-requires : tie.Need-settle-requires
 settle-requires c κs = search needs

@@ -1,8 +1,8 @@
--- `settle::hand_over` meets its contract: each of the five stores fills one buffer and no other.
+-- `filling::hand_over` meets its contract: each of the five stores fills one buffer and no other.
 use borrow.Author.Needs.{needs}
-use Rattle.settle.specs.Parallel.{handedOver}
-use Rattle.settle.proofs.hand_over.Statement.{statement}
-use Rattle.settle.proofs.hand_over.Tie as tie
+use Rattle.filling.specs.Finished.{handedOver}
+use Rattle.filling.proofs.hand_over.Statement.{statement}
+use Rattle.filling.proofs.hand_over.Tie as tie
 
 put-charges-requires : tie.Need-put-charges-requires
 put-charges-requires c κs = search needs

@@ -1,4 +1,4 @@
--- `settle::finish` meets its contract: row 7 is looked for in what is held, row 11 in the lengths, and only then is anything stored.
+-- `filling::finish` meets its contract: row 7 is looked for in what is held, row 11 in the lengths, and only then is anything stored.
 use mathlib.Core.Path.{_≡_, sym, _∙_, ap}
 use mathlib.Core.Bool.{Bool, _||_}
 use mathlib.Core.Option.{none}
@@ -9,10 +9,10 @@ use borrow.Author.Needs.{needs}
 use Rattle.rules.specs.Record.{Hour, members}
 use Rattle.rules.specs.Refusals.{foundAt, badAmount}
 use Rattle.hour.specs.Hour.{hourIn}
-use Rattle.settle.specs.Parallel.{Lent, lent}
-use Rattle.settle.proofs.Held.{row-7, amount-over, short, some-short, can-hand-over, all-handed}
-use Rattle.settle.proofs.finish.Statement.{statement}
-use Rattle.settle.proofs.finish.Tie as tie
+use Rattle.filling.specs.Lent.{Lent, lent}
+use Rattle.filling.proofs.Handed.{row-7, amount-over, short, some-short, can-hand-over, all-handed}
+use Rattle.filling.proofs.finish.Statement.{statement}
+use Rattle.filling.proofs.finish.Tie as tie
 
 member-over-requires : tie.Need-member-over-requires
 member-over-requires c κs = tt

@@ -1,12 +1,12 @@
--- `settle::too_short` meets its contract, length by length.
+-- `filling::too_short` meets its contract, length by length.
 use mathlib.Core.Path.{ap}
 use native.Mathlib.Omega.{arith}
 use lib.Dec.{ltb}
 use borrow.Author.Tests.{lt-ltb, le-ltb}
 use Rattle.rules.specs.Record as Record
 use Rattle.hour.specs.Hour.{hourIn}
-use Rattle.settle.proofs.too_short.Statement.{statement}
-use Rattle.settle.proofs.too_short.Tie as tie
+use Rattle.filling.proofs.too_short.Statement.{statement}
+use Rattle.filling.proofs.too_short.Tie as tie
 
 members-requires : tie.Need-members-requires
 members-requires c κs = tt

@@ -1,4 +1,4 @@
--- `settle::copy` meets its contract. The loop's invariant: the places passed hold what is held there.
+-- `filling::copy` meets its contract. The loop's invariant: the places passed hold what is held there.
 use mathlib.Core.Path.{_≡_, sym, _∙_, ap}
 use Prim.Native.Nat.{_-_, _≤_}
 use native.Mathlib.Omega.{arith}
@@ -9,8 +9,8 @@ use mir.ValLaws.{toZ-ofZ}
 use borrow.Author.Needs.{sfits-of}
 use Rattle.whole.specs.Below.{replacingFirst}
 use Rattle.whole.proofs.Buffers.{replacing-none, written-length, written-next}
-use Rattle.settle.proofs.copy.Statement.{statement}
-use Rattle.settle.proofs.copy.Tie as tie
+use Rattle.filling.proofs.copy.Statement.{statement}
+use Rattle.filling.proofs.copy.Tie as tie
 
 abbrev Inv-loop : tie.InvT-loop
 Inv-loop held out₀ i₀ out i = (i ≤ length held) × (out ≡ replacingFirst (λ k. getD held k (pos 0)) i out₀)
