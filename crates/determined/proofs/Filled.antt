@@ -40,7 +40,8 @@ pub one-write : (κs : Lfts 1) → OneOutcome (write.Post κs) (λ s. now (s .1 
 one-write κs a x y s t p q = (agree-answer (p .0) (q .0), agree (p .1) (q .1))
 
 pub one-read : (κs : Lfts 1) → OneResult (read.Post κs)
-one-read κs a x y s t p q = one-reading _ x y (record { verdict-is = p .0; amount-is = p .1 }) (record { verdict-is = q .0; amount-is = q .1 })
+one-read κs a x y s t p q =
+    one-reading _ x y (record { verdict-is = p .0; amount-is = p .1 }) (record { verdict-is = q .0; amount-is = q .1 })
 
 pub one-put-digits : (κs : Lfts 1) → OneOutcome (put-digits.Post κs) (λ s. now (s .0))
 one-put-digits κs a x y s t p q = (refl, agree p q)
@@ -69,25 +70,30 @@ one-put-counts κs a x y s t p q = (refl, agree (p .1) (q .1))
 -- ---- the five buffers of settling, as its contracts name them
 
 pub one-finish : (κs : Lfts 10) →
-    OneOutcome (finish.Post κs) (λ s. lent (now (s .1 .1 .1 .1 .1 .0)) (now (s .1 .1 .1 .1 .1 .1 .0)) (now (s .1 .1 .1 .1 .1 .1 .1 .0)) (now (s .1 .1 .1 .1 .1 .1 .1 .1 .0)) (now (s .1 .1 .1 .1 .1 .1 .1 .1 .1 .0)))
+    OneOutcome (finish.Post κs) (λ s. lent (now (s .1 .1 .1 .1 .1 .0)) (now (s .1 .1 .1 .1 .1 .1 .0)) (now (s .1 .1 .1 .1 .1 .1 .1 .0))
+    (now (s .1 .1 .1 .1 .1 .1 .1 .1 .0)) (now (s .1 .1 .1 .1 .1 .1 .1 .1 .1 .0)))
 one-finish κs a x y s t p q = (agree-answer (p .verdict-is) (q .verdict-is), agree (p .buffers-are) (q .buffers-are))
 
 agree-settled : {file : List ℕ} {before : Lent} {x y : Settled} {after other : Lent} →
     FitsParallel file before x after → FitsParallel file before y other → (x ≡ y) × (after ≡ other)
 agree-settled p q = (
-  ap₂ (λ (a : Answer) (u : List ℤ). record { answer = a; ufe = u }) (agree-answer (p .verdict-is) (q .verdict-is)) (agree (p .ufe-is) (q .ufe-is)),
+  ap₂ (λ (a : Answer) (u : List ℤ). record { answer = a; ufe = u }) (agree-answer (p .verdict-is) (q .verdict-is))
+      (agree (p .ufe-is) (q .ufe-is)),
   agree (p .buffers-are) (q .buffers-are),
 )
 
 pub one-settle-tallied : (κs : Lfts 6) →
-    OneOutcome (settle-tallied.Post κs) (λ s. lent (now (s .1 .1 .0)) (now (s .1 .1 .1 .0)) (now (s .1 .1 .1 .1 .0)) (now (s .1 .1 .1 .1 .1 .0)) (now (s .1 .1 .1 .1 .1 .1 .0)))
+    OneOutcome (settle-tallied.Post κs) (λ s. lent (now (s .1 .1 .0)) (now (s .1 .1 .1 .0)) (now (s .1 .1 .1 .1 .0))
+    (now (s .1 .1 .1 .1 .1 .0)) (now (s .1 .1 .1 .1 .1 .1 .0)))
 one-settle-tallied κs a x y s t p q = agree-settled p q
 
 pub one-settle : (κs : Lfts 6) →
-    OneOutcome (settle.Post κs) (λ s. lent (now (s .1 .0)) (now (s .1 .1 .0)) (now (s .1 .1 .1 .0)) (now (s .1 .1 .1 .1 .0)) (now (s .1 .1 .1 .1 .1 .0)))
+    OneOutcome (settle.Post κs) (λ s. lent (now (s .1 .0)) (now (s .1 .1 .0)) (now (s .1 .1 .1 .0))
+    (now (s .1 .1 .1 .1 .0)) (now (s .1 .1 .1 .1 .1 .0)))
 one-settle κs a x y s t p q = agree-settled p q
 
-pub one-pool-settle : (κs : Lfts 5) → OneOutcome (pool-settle.Post κs) (λ s. buffers (now (s .1 .1 .0)) (now (s .1 .1 .1 .0)) (now (s .1 .1 .1 .1 .0)) (now (s .1 .0)))
+pub one-pool-settle : (κs : Lfts 5) →
+    OneOutcome (pool-settle.Post κs) (λ s. buffers (now (s .1 .1 .0)) (now (s .1 .1 .1 .0)) (now (s .1 .1 .1 .1 .0)) (now (s .1 .0)))
 one-pool-settle κs a x y s t p q = one-result _ _ x y _ _ p q
 
 -- ---- the functions for C

@@ -89,7 +89,8 @@ module _ {s : List ℕ} {deviations shares amounts : List ℤ} {counts : List �
       pub can-hand-over : CanHandOver deviations shares amounts counts b
       unfolding badAmount
       can-hand-over =
-          let p = neither (ltb (length (b .charges)) (members h) || ltb (lines b) (members h) || ltb (length (b .shares)) (h .count)) _ enough in
+          let p = neither (ltb (length (b .charges)) (members h) || ltb (lines b) (members h) || ltb (length (b .shares)) (h .count))
+          _ enough in
           let q = neither (ltb (length (b .charges)) (members h) || ltb (lines b) (members h)) _ (p .0) in
           let r = neither (ltb (length (b .charges)) (members h)) _ (q .0) in
           let charges-room = ltb-false (length (b .charges)) (members h) (r .0) in

@@ -55,10 +55,13 @@ withoutLines b = apart (b .charges) (b .shares) (b .deviations)
 
 module _ (s : List ℕ) (few : members (hourIn s) ≤ 32) (n : ℕ) (b : Lent)
     (amounts-room : length (b .amounts) ≡ min n 32) (counts-room : length (b .counts) ≡ min n 32) where
-  as-short : ltb (lines b) (members (hourIn s)) ≡ ltb n (members (hourIn s))
-  as-short = split (ltb n (members (hourIn s)))
-      (λ t. lt-ltb (lines b) (members (hourIn s)) (omega (arith, few, ltb-true n (members (hourIn s)) t, amounts-room, counts-room)) ∙ sym t)
-      (λ f. le-ltb (lines b) (members (hourIn s)) (omega (arith, few, ltb-false n (members (hourIn s)) f, amounts-room, counts-room)) ∙ sym f)
+  abbrev m : ℕ
+  m = members (hourIn s)
+
+  as-short : ltb (lines b) m ≡ ltb n m
+  as-short = split (ltb n m)
+      (λ t. lt-ltb (lines b) m (omega (arith, few, ltb-true n m t, amounts-room, counts-room)) ∙ sym t)
+      (λ f. le-ltb (lines b) m (omega (arith, few, ltb-false n m f, amounts-room, counts-room)) ∙ sym f)
 
   module _ (ls : List Line) (so-many : length ls ≡ n) where
     abbrev given : Buffers

@@ -26,4 +26,5 @@ withLines b lines = buffers (b .charges) (b .shares) (b .deviations) lines
 
 -- what was answered and left behind is what `settle` says, whatever so many lines hold; they are still to be posted
 pub record FitsApart (s : List ℕ) (lines : ℕ) (b : Apart) (answered : Settled) (after : Apart) : Type 0 where
-  pub fits : (ls : List Line) → length ls ≡ lines → Fits s (withLines b ls) answered (withLines after (settle s (withLines b ls) .buffers .lines))
+  pub fits : (ls : List Line) → length ls ≡ lines →
+      Fits s (withLines b ls) answered (withLines after (settle s (withLines b ls) .buffers .lines))

@@ -40,7 +40,11 @@ loop-less : tie.Need-loop-less Inv-loop μ-loop
 loop-less c = omega arith
 
 loop-again : tie.Need-loop-again Inv-loop μ-loop
-loop-again c = (omega arith, written-next _ _ _ _ (c .before .before .loop .inv .1) _ (omega arith) (toZ-ofZ w64 (getD (c .before .before .before .args .held .now) (c .before .before .loop .i) (pos 0)) (sfits-of (c .out .given))))
+loop-again c =
+    let at = c .before .before in
+    let held = at .before .args .held .now in
+    let same = toZ-ofZ w64 (getD held (at .loop .i) (pos 0)) (sfits-of (c .out .given)) in
+    (omega arith, written-next _ _ _ _ (at .loop .inv .1) _ (omega arith) same)
 
 same-length : tie.Need-same-length Inv-loop μ-loop
 same-length c = written-length _ _ _ _ (c .before .loop .inv .1) (omega arith)

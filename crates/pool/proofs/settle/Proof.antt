@@ -44,7 +44,8 @@ returns c =
     let examined = c .before .before in
     let s = start examined in
     rw (c .refused .ensures)
-    (file-refused (file s) (withLines (before s) (lines s)) (examined .examine .ensures) (λ e. no-other (rw e at (c .before .match .keys2))))
+    (file-refused (file s) (withLines (before s) (lines s)) (examined .examine .ensures)
+    (λ e. no-other (rw e at (c .before .match .keys2))))
 
 -- the file is accepted
 module _ (c : tie.After-enum-told) where
@@ -94,6 +95,10 @@ returns-2 c =
 
 -- ---- accepted: the lines
 
+-- the moments when the answer is known to be acceptance, and when it was given
+abbrev answered : tie.After-put-lines-arg3 → tie.After-enum-told2
+answered c = c .before .before .before
+
 abbrev accepted-last : tie.After-put-lines-arg3 → tie.After-settle-apart
 accepted-last c = c .before .before .before .before .before .before .before .before
 
@@ -102,7 +107,7 @@ put-lines-requires c κs =
     let last = accepted-last c in
     let k = tallied (last .before) .before in
     let s = start (examined k) in
-    can-put-lines (file s) (before s) (lines s) (last .settle-apart .ensures) (kept k) (c .before .before .before .enum-told2 .given .1)
+    can-put-lines (file s) (before s) (lines s) (last .settle-apart .ensures) (kept k) (answered c .enum-told2 .given .1)
 
 -- when the lines are posted
 abbrev posted : tie.After-lines → tie.After-put-lines
@@ -126,7 +131,8 @@ returns-3 c =
     let last = accepted-last (p .before) in
     let k = tallied (last .before) .before in
     let s = start (examined k) in
-    lines-posted (file s) (before s) (lines s) (last .settle-apart .ensures) (kept k) (p .before .before .before .before .enum-told2 .given .1) (p .put-lines .ensures)
+    lines-posted (file s) (before s) (lines s) (last .settle-apart .ensures) (kept k) (answered (p .before) .enum-told2 .given .1)
+    (p .put-lines .ensures)
 
 pub settle-spec : {M : Type 1} → statement M
 settle-spec =

@@ -29,7 +29,8 @@ returns c =
     let examined = c .before .before in
     let a = start examined .args in
     let before = lent (a .charges .now) (a .shares .now) (a .deviations .now) (a .amounts .now) (a .counts .now) in
-    rw (c .refused .ensures) (file-refused (a .file .now) before (examined .examine .ensures) (λ e. no-other (rw e at (c .before .match .keys2))))
+    rw (c .refused .ensures)
+    (file-refused (a .file .now) before (examined .examine .ensures) (λ e. no-other (rw e at (c .before .match .keys2))))
 
 -- the file is accepted
 module _ (c : tie.After-enum-told) where

@@ -51,7 +51,8 @@ array-borrow-prefix-counted : tie.Need-array-borrow-prefix-counted
 array-borrow-prefix-counted c = omega (arith, members-few (c .before .before .before))
 
 slice-aggregate-settle-in-4 : tie.Need-slice-aggregate-settle-in-4
-slice-aggregate-settle-in-4 c = let m = c .before .before .before .before in sym (length-take-le (members m) _ (omega (arith, members-few m)))
+slice-aggregate-settle-in-4 c =
+    let m = c .before .before .before .before in sym (length-take-le (members m) _ (omega (arith, members-few m)))
 
 abbrev members-read : tie.After-settle-in-arg5 → tie.After-members
 members-read c = c .before .before .before .before .before .before .before .before .before

@@ -1,5 +1,5 @@
--- `settle::settle_in` meets its contract: what `hold` worked is what `finish` takes over. The proof that is found by itself takes several times
--- as long to check.
+-- `settle::settle_in` meets its contract: what `hold` worked is what `finish` takes over. The proof that is found without this file takes
+-- several times as long to check.
 use Rattle.settle.proofs.settle_in.Statement.{statement}
 use Rattle.settle.proofs.settle_in.Tie as tie
 
