@@ -1,6 +1,6 @@
 -- Room for as many lines as an hour can have members decides rows 7 and 11 as the caller's lines would.
-use mathlib.Core.Path.{_≡_, sym, _∙_}
-use Prim.Native.Nat.{ℕ, min, _≤_}
+use mathlib.Core.Path.{sym, _∙_}
+use Prim.Native.Nat.{ℕ, _≤_}
 use native.Mathlib.Omega.{arith}
 use lib.Seq.{length-take-le}
 use Rattle.pool.proofs.Answers.{without-lines}
