@@ -1,7 +1,9 @@
-// An answer's number and place in the table of refusals, for whoever prints them or hands them on.
+// An answer's number and place in the table of refusals, for whoever prints them or hands them on; what a refused settling answers.
 ghost use mathlib.Core.Path.{_≡_};
 ghost use Rattle.rules.specs.Refusals.{numberOf, placeOf};
+ghost use Rattle.rules.specs.Settling.{noFigures};
 use rules::Answer;
+use rules::Settled;
 
 pub fn number_of(answer: Answer) -> u64
     ensures { λ r. ⌜ r ≡ numberOf answer ⌝ }
@@ -39,5 +41,15 @@ pub fn place_of(answer: Answer) -> usize
         Answer::TooNarrow => 0,
         Answer::NotAnAmount => 0,
         Answer::TooShort => 0,
+    }
+}
+
+// All UFE figures are 0 on refusal.
+pub fn refused(answer: Answer) -> Settled
+    ensures { λ r. ⌜ r ≡ record { answer = answer; ufe = noFigures } ⌝ }
+{
+    Settled {
+        answer: answer,
+        ufe: [0i64; 8],
     }
 }

@@ -33,7 +33,7 @@ use Rattle.tally.proofs.ufe_of.Reads as ufe-of
 use Rattle.tally.proofs.ufe_figures.Reads as ufe-figures
 use Rattle.tally.proofs.area_without_demand.Reads as area-without-demand
 use Rattle.lines.proofs.member_over.Reads as member-over
-use Rattle.settle.proofs.too_short.Reads as too-short
+use Rattle.filling.proofs.too_short.Reads as too-short
 
 pub one-length-bad : (κs : Lfts 1) → OneResult (length-bad.Post κs)
 one-length-bad κs a x y s t = agree

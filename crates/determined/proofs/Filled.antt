@@ -6,9 +6,11 @@ use lib.IntN.{ℤ}
 use contract.Lifetimes.{Lfts}
 use denote.Ref.{now}
 use Rattle.rules.specs.declared.Answer.{Answer}
+use Rattle.rules.specs.declared.Settled.{Settled}
 use Rattle.amount.proofs.RoundTrips.{one-reading}
 use Rattle.rules.specs.Settling.{Buffers, settle as settling}
-use Rattle.settle.specs.Parallel.{lent}
+use Rattle.filling.specs.Lent.{Lent, lent}
+use Rattle.settle.specs.Parallel.{FitsParallel}
 use Rattle.pool.specs.declared.boundary.NumberedSettled.{NumberedSettled}
 use Rattle.pool.specs.HandedOut.{settlement}
 use Rattle.pool.specs.Apart.{buffers}
@@ -24,7 +26,8 @@ use Rattle.deviations.proofs.put_deviations.Reads as put-deviations
 use Rattle.sharing.proofs.put_shares.Reads as put-shares
 use Rattle.lines.proofs.put_charges.Reads as put-charges
 use Rattle.lines.proofs.put_lines.Reads as put-lines
-use Rattle.settle.proofs.settle_figured.Reads as settle-figured
+use Rattle.filling.proofs.finish.Reads as finish
+use Rattle.settle.proofs.settle_tallied.Reads as settle-tallied
 use Rattle.settle.proofs.settle.Reads as settle
 use Rattle.pool.proofs.Port.settle.Reads as pool-settle
 use Rattle.pool.proofs.boundary.numbered.Reads as numbered
@@ -40,7 +43,8 @@ pub one-write : (κs : Lfts 1) → OneOutcome (write.Post κs) (λ s. now (s .1 
 one-write κs a x y s t p q = (agree-answer (p .0) (q .0), agree (p .1) (q .1))
 
 pub one-read : (κs : Lfts 1) → OneResult (read.Post κs)
-one-read κs a x y s t p q = one-reading _ x y (record { verdict-is = p .0; amount-is = p .1 }) (record { verdict-is = q .0; amount-is = q .1 })
+one-read κs a x y s t p q =
+    one-reading _ x y (record { verdict-is = p .0; amount-is = p .1 }) (record { verdict-is = q .0; amount-is = q .1 })
 
 pub one-put-digits : (κs : Lfts 1) → OneOutcome (put-digits.Post κs) (λ s. now (s .0))
 one-put-digits κs a x y s t p q = (refl, agree p q)
@@ -75,19 +79,33 @@ one-put-lines κs a x y s t p q = (refl, agree (p .0) (q .0))
 pub one-put-counts : (κs : Lfts 5) → OneOutcome (put-lines.Post κs) (λ s. now (s .1 .1 .1 .1 .0))
 one-put-counts κs a x y s t p q = (refl, agree (p .1) (q .1))
 
--- the five buffers of settling, as its contract names them
-pub one-settle-figured : (κs : Lfts 6) →
-    OneOutcome (settle-figured.Post κs) (λ s. lent (now (s .1 .1 .0)) (now (s .1 .1 .1 .0)) (now (s .1 .1 .1 .1 .0)) (now (s .1 .1 .1 .1 .1 .0)) (now (s .1 .1 .1 .1 .1 .1 .0)))
-one-settle-figured κs a x y s t p q = (agree-answer (p .verdict-is) (q .verdict-is), agree (p .buffers-are) (q .buffers-are))
+-- ---- the five buffers of settling, as its contracts name them
 
-pub one-settle : (κs : Lfts 6) →
-    OneOutcome (settle.Post κs) (λ s. lent (now (s .1 .0)) (now (s .1 .1 .0)) (now (s .1 .1 .1 .0)) (now (s .1 .1 .1 .1 .0)) (now (s .1 .1 .1 .1 .1 .0)))
-one-settle κs a x y s t p q = (
-  ap₂ (λ (a : Answer) (u : List ℤ). record { answer = a; ufe = u }) (agree-answer (p .verdict-is) (q .verdict-is)) (agree (p .ufe-is) (q .ufe-is)),
+pub one-finish : (κs : Lfts 10) →
+    OneOutcome (finish.Post κs) (λ s. lent (now (s .1 .1 .1 .1 .1 .0)) (now (s .1 .1 .1 .1 .1 .1 .0)) (now (s .1 .1 .1 .1 .1 .1 .1 .0))
+    (now (s .1 .1 .1 .1 .1 .1 .1 .1 .0)) (now (s .1 .1 .1 .1 .1 .1 .1 .1 .1 .0)))
+one-finish κs a x y s t p q = (agree-answer (p .verdict-is) (q .verdict-is), agree (p .buffers-are) (q .buffers-are))
+
+agree-settled : {file : List ℕ} {before : Lent} {x y : Settled} {after other : Lent} →
+    FitsParallel file before x after → FitsParallel file before y other → (x ≡ y) × (after ≡ other)
+agree-settled p q = (
+  ap₂ (λ (a : Answer) (u : List ℤ). record { answer = a; ufe = u }) (agree-answer (p .verdict-is) (q .verdict-is))
+      (agree (p .ufe-is) (q .ufe-is)),
   agree (p .buffers-are) (q .buffers-are),
 )
 
-pub one-pool-settle : (κs : Lfts 5) → OneOutcome (pool-settle.Post κs) (λ s. buffers (now (s .1 .1 .0)) (now (s .1 .1 .1 .0)) (now (s .1 .1 .1 .1 .0)) (now (s .1 .0)))
+pub one-settle-tallied : (κs : Lfts 6) →
+    OneOutcome (settle-tallied.Post κs) (λ s. lent (now (s .1 .1 .0)) (now (s .1 .1 .1 .0)) (now (s .1 .1 .1 .1 .0))
+    (now (s .1 .1 .1 .1 .1 .0)) (now (s .1 .1 .1 .1 .1 .1 .0)))
+one-settle-tallied κs a x y s t p q = agree-settled p q
+
+pub one-settle : (κs : Lfts 6) →
+    OneOutcome (settle.Post κs) (λ s. lent (now (s .1 .0)) (now (s .1 .1 .0)) (now (s .1 .1 .1 .0))
+    (now (s .1 .1 .1 .1 .0)) (now (s .1 .1 .1 .1 .1 .0)))
+one-settle κs a x y s t p q = agree-settled p q
+
+pub one-pool-settle : (κs : Lfts 5) →
+    OneOutcome (pool-settle.Post κs) (λ s. buffers (now (s .1 .1 .0)) (now (s .1 .1 .1 .0)) (now (s .1 .1 .1 .1 .0)) (now (s .1 .0)))
 one-pool-settle κs a x y s t p q = one-result _ _ x y _ _ p q
 
 -- ---- the functions for C

@@ -1,4 +1,4 @@
--- Functions of values: numbers, kinds, entries, tallies, lines.
+-- Functions of values: numbers, kinds, answers, entries, tallies, lines.
 use contract.Lifetimes.{Lfts}
 use Rattle.determined.specs.Determined.{OneResult}
 use Rattle.determined.proofs.Laws.{agree}
@@ -6,6 +6,7 @@ use Rattle.sign.proofs.size_of.Reads as size-of
 use Rattle.sign.proofs.with_sign_of.Reads as with-sign-of
 use Rattle.answer.proofs.number_of.Reads as number-of
 use Rattle.answer.proofs.place_of.Reads as place-of
+use Rattle.answer.proofs.refused.Reads as refused
 use Rattle.amount.proofs.decimal.digit.Reads as digit
 use Rattle.amount.proofs.decimal.digits.Reads as digits
 use Rattle.wordrules.proofs.keeps.Reads as keeps
@@ -39,6 +40,9 @@ one-number-of κs a x y s t = agree
 
 pub one-place-of : (κs : Lfts 0) → OneResult (place-of.Post κs)
 one-place-of κs a x y s t = agree
+
+pub one-refused : (κs : Lfts 0) → OneResult (refused.Post κs)
+one-refused κs a x y s t = agree
 
 pub one-digit : (κs : Lfts 0) → OneResult (digit.Post κs)
 one-digit κs a x y s t = agree

@@ -1,2 +1,3 @@
 -- The laws behind the members' lines.
 mod Postings
+pub mod Worked

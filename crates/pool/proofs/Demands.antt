@@ -9,6 +9,7 @@ use Rattle.rules.specs.declared.Answer.the-variants.{Accepted}
 use Rattle.rules.specs.HourFile.{hourly, hourOf}
 use Rattle.rules.specs.Outcome.{FairOutcome}
 use Rattle.rules.specs.Promises.{Accepts, ByFormula, Fits}
+use Rattle.rules.specs.Refusals.{verdict}
 use Rattle.rules.specs.Settling.{Buffers, Settlement, Written, ReadAmount, noFigures, settleRows, settle, write, read}
 use Rattle.rules.proofs.Outcome.{by-formula, fair-outcome}
 use Rattle.rules.proofs.Rows.{zero-accepts, settle-numbered, settle-verdict, settle-changes-nothing}
@@ -33,10 +34,17 @@ module _ (s : List ℕ) (b : Buffers) {r : NumberedSettled} {after : Buffers} (i
 
   module _ (zero : r .number ≡ 0) where
     accepts : Accepts s b
-    accepts = settle-verdict s b ∙ zero-accepts (settleRows s b) (settle-numbered s b) (ap (λ v. v .number) (sym (settle-verdict s b)) ∙ ap (λ (x : Settlement). x .verdict .number) (sym is) ∙ zero)
+    accepts = settle-verdict s b ∙ zero-accepts (settleRows s b) (settle-numbered s b) none
+      where
+        none : verdict (settleRows s b) .number ≡ 0
+        none = ap (λ v. v .number) (sym (settle-verdict s b)) ∙ ap (λ (x : Settlement). x .verdict .number) (sym is) ∙ zero
 
     fits : Fits s b (record { answer = Accepted; ufe = r .ufe }) after
-    fits = record { verdict-is = sym accepts; ufe-is = ap (λ (x : Settlement). x .ufe) is; buffers-are = ap (λ (x : Settlement). x .buffers) is }
+    fits = record {
+      verdict-is = sym accepts;
+      ufe-is = ap (λ (x : Settlement). x .ufe) is;
+      buffers-are = ap (λ (x : Settlement). x .buffers) is;
+    }
 
     pub accepted-by-formula : ByFormula (hourOf hourly s) b (r .ufe) after
     accepted-by-formula = by-formula s b fits refl
@@ -46,11 +54,13 @@ module _ (s : List ℕ) (b : Buffers) {r : NumberedSettled} {after : Buffers} (i
 
 -- ---- the others
 
-pub one-writing : (field : List ℕ) (z : ℤ) {r t : NumberedAnswer} {after other : List ℕ} → written r after ≡ write field z → written t other ≡ write field z → (r ≡ t) × (after ≡ other)
+pub one-writing : (field : List ℕ) (z : ℤ) {r t : NumberedAnswer} {after other : List ℕ} →
+    written r after ≡ write field z → written t other ≡ write field z → (r ≡ t) × (after ≡ other)
 one-writing field z is too = (
   ap (λ (x : Written). record { number = x .verdict .number; place = x .verdict .place }) (is ∙ sym too),
   ap (λ (x : Written). x .field) (is ∙ sym too),
 )
 
 pub one-reading : (field : List ℕ) {r t : NumberedReading} → readAmount r ≡ read field → readAmount t ≡ read field → r ≡ t
-one-reading field is too = ap (λ (x : ReadAmount). record { number = x .verdict .number; place = x .verdict .place; amount = x .amount }) (is ∙ sym too)
+one-reading field is too =
+    ap (λ (x : ReadAmount). record { number = x .verdict .number; place = x .verdict .place; amount = x .amount }) (is ∙ sym too)

@@ -58,10 +58,12 @@ module _ (s : List ℕ) (b : ℕ) where
       (λ bad. absent (record { empty = ap length (body-empty-bad hourly s b bad); part = rw bad }))
       (λ good. split (leb (blocks s) b)
       (λ past. absent (record { empty = ap length (body-empty-past hourly s b (leb-true _ _ past)); part = rw (good, past) }))
-      (λ within. there (record { full = body-length hourly s b good (leb-false _ _ within); part = rw (good, within); before-end = leb-false _ _ within })))
+      (λ within. let before-end = leb-false _ _ within in
+      there (record { full = body-length hourly s b good before-end; part = rw (good, within); before-end = before-end })))
 
   pub none-there : {n : ℕ} → n ≡ length (body hourly s b) → n ≡ 0 → bodyPart s b ≡ record { from = 0; length = 0 }
   none-there e z = absent-or-there (λ a. a .part) (λ t. absurd (omega (arith, e, z, t .full)))
 
-  pub one-there : {n : ℕ} → n ≡ length (body hourly s b) → (n ≡ 0 → ⊥) → (bodyPart s b ≡ record { from = 512 * b + 32; length = n }) × (b < blocks s)
+  pub one-there : {n : ℕ} → n ≡ length (body hourly s b) → (n ≡ 0 → ⊥) →
+      (bodyPart s b ≡ record { from = 512 * b + 32; length = n }) × (b < blocks s)
   one-there e some = absent-or-there (λ a. absurd (some (e ∙ a .empty))) (λ t. (t .part ∙ rw (sym (e ∙ t .full)), t .before-end))

@@ -40,7 +40,8 @@ module _ {h : Hour} (kept : HourKept h) (old : List Line) where
     })
 
     -- the next posting, as its member and its grains were read
-    module _ {ls : List Line} {m : ℕ} {g : ℤ} (posted : ls ≡ linesAfter h old i) (member-is : m ≡ memberOf h i) (grains-is : g ≡ grains h i) where
+    module _ {ls : List Line} {m : ℕ} {g : ℤ} (posted : ls ≡ linesAfter h old i) (member-is : m ≡ memberOf h i)
+        (grains-is : g ≡ grains h i) where
       pub can-post : members h ≤ length old → (m < length ls) × LineRoom (getD ls m emptyLine) g
       can-post room = rw (posted, member-is, grains-is)
           (omega (arith, lines-length i (le-of-lt there) room, kept .record-kept i there .member-there), line-room)

@@ -22,4 +22,5 @@ readAmount r = record { verdict = refusedAt (r .number) (r .place); amount = r .
 
 -- the 480 bytes after a block's first 32; where the file has no such body, no bytes from its start
 unfoldable pub bodyPart : List ℕ → ℕ → Part
-bodyPart s b = cond (lengthBad hourly s || leb (blocks s) b) (record { from = 0; length = 0 }) (record { from = 512 * b + 32; length = 480 })
+bodyPart s b =
+    cond (lengthBad hourly s || leb (blocks s) b) (record { from = 0; length = 0 }) (record { from = 512 * b + 32; length = 480 })

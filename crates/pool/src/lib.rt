@@ -1,5 +1,5 @@
 // The customer's library: the tally and the members' lines are lent to each posting, and settling writes into the caller's own buffers.
-// Structs are moved here, not computed with: the sums are worked by value in `formula`, `posting` and `settle`.
+// Structs are moved here, not computed with: the sums are worked by value in `formula`, `lines` and `settle`.
 ghost use mathlib.Core.Path.{_≡_};
 ghost use Prim.Native.Nat.{min, _≤_, _<_};
 ghost use lib.ListN.{length, getD};
@@ -8,21 +8,18 @@ ghost use Rattle.rules.specs.Record as Record;
 ghost use Rattle.rules.specs.Posting as Posting;
 ghost use Rattle.rules.specs.Refusals.{accepted, verdict, fileRows};
 ghost use Rattle.rules.specs.Settling as Settling;
-ghost use Rattle.rules.specs.Settling.{noFigures};
 ghost use Rattle.rules.specs.Promises.{Fits};
 ghost use Rattle.rules.specs.Kept.{FileKept};
 ghost use Rattle.formula.specs.Room.{TallyRoom, LineRoom};
 ghost use Rattle.hour.specs.Hour.{hourIn};
 ghost use Rattle.lines.specs.Lined.{AllWorked};
 ghost use Rattle.tally.specs.Posted.{Tallied};
-ghost use Rattle.settle.specs.Parallel.{Figured};
-ghost use Rattle.pool.specs.Apart.{apart, buffers, FinishedApart, FitsApart};
+ghost use Rattle.pool.specs.Apart.{apart, buffers, FitsApart};
 ghost use Rattle.pool.specs.HandedOut.{settlement};
 
 pub mod boundary;
 
 use rules::Answer;
-use rules::Found;
 use rules::Line;
 use rules::Settled;
 use rules::Tally;
@@ -78,7 +75,8 @@ fn clear_lines(lines: &mut [Line], n: usize)
 // Each record to its member's line, in file order. What a member's line held isn't read; the lines past the members' are unchanged.
 fn put_lines(file: &[u8], deviations: &[i64], shares: &[i64], lines: &mut [Line])
     requires { ⌜ AllWorked (now file) (now deviations) (now shares) × (Record.members (hourIn (now file)) ≤ length (now lines)) ⌝ }
-    ensures { λ _. ⌜ now (lines .exit) ≡ Posting.linesAfter (hourIn (now (file .entry))) (now (lines .entry)) (hourIn (now (file .entry)) .count) ⌝ }
+    ensures { λ _. ⌜ now (lines .exit)
+        ≡ Posting.linesAfter (hourIn (now (file .entry))) (now (lines .entry)) (hourIn (now (file .entry)) .count) ⌝ }
 {
     clear_lines(lines, hour::members(file));
     let n = hourfile::records(file);
@@ -91,15 +89,6 @@ fn put_lines(file: &[u8], deviations: &[i64], shares: &[i64], lines: &mut [Line]
     }
 }
 
-fn refused(answer: Answer) -> Settled
-    ensures { λ r. ⌜ r ≡ record { answer = answer; ufe = noFigures } ⌝ }
-{
-    Settled {
-        answer: answer,
-        ufe: [0i64; 8],
-    }
-}
-
 // No hour has more than 32 members, so that more lines than that need no room.
 fn room_for(lines: usize) -> usize
     ensures { λ r. ⌜ r ≡ min lines 32 ⌝ }
@@ -107,34 +96,8 @@ fn room_for(lines: usize) -> usize
     if lines < 32 { lines } else { 32 }
 }
 
-// Refusals 7 and 11; then the buffers are filled. This function only makes the room in which the amounts are worked for row 7.
-fn finish(
-    file: &[u8],
-    figures: [i64; 8],
-    lines: usize,
-    charges: &mut [i64],
-    shares: &mut [i64],
-    deviations: &mut [i64],
-) -> Answer
-    requires { ⌜ Figured (now file) figures ⌝ }
-    ensures { λ r. ⌜ FinishedApart (hourIn (now (file .entry))) lines (apart (now (charges .entry)) (now (shares .entry)) (now (deviations .entry))) r (apart (now (charges .exit)) (now (shares .exit)) (now (deviations .exit))) ⌝ }
-{
-    let room = room_for(lines);
-    let mut amounts = [0i64; 32];
-    let mut counts = [0u32; 32];
-    settle::settle_figured(
-        file,
-        figures,
-        charges,
-        shares,
-        deviations,
-        &mut amounts[..room],
-        &mut counts[..room],
-    )
-}
-
-// What is left to do once the tally is made, but for the lines.
-fn settle_tallied(
+// Once the tally is made: all but the lines. This function only makes the room in which the amounts are worked for row 7.
+fn settle_apart(
     file: &[u8],
     tally: Tally,
     lines: usize,
@@ -143,20 +106,22 @@ fn settle_tallied(
     deviations: &mut [i64],
 ) -> Settled
     requires { ⌜ (verdict (fileRows (now file)) ≡ accepted) × Tallied (now file) tally ⌝ }
-    ensures { λ r. ⌜ FitsApart (now (file .entry)) lines (apart (now (charges .entry)) (now (shares .entry)) (now (deviations .entry))) r (apart (now (charges .exit)) (now (shares .exit)) (now (deviations .exit))) ⌝ }
+    ensures { λ r. ⌜ FitsApart (now (file .entry)) lines
+        (apart (now (charges .entry)) (now (shares .entry)) (now (deviations .entry))) r
+        (apart (now (charges .exit)) (now (shares .exit)) (now (deviations .exit))) ⌝ }
 {
-    let figures = tally::ufe_figures(file, tally);
-    if let Found::At(a) = tally::area_without_demand(file, tally, figures) {
-        return refused(Answer::BadArea(a));
-    }
-    let answer = finish(file, figures, lines, charges, shares, deviations);
-    let Answer::Accepted = answer else {
-        return refused(answer);
-    };
-    Settled {
-        answer: Answer::Accepted,
-        ufe: figures,
-    }
+    let room = room_for(lines);
+    let mut amounts = [0i64; 32];
+    let mut counts = [0u32; 32];
+    settle::settle_tallied(
+        file,
+        tally,
+        charges,
+        shares,
+        deviations,
+        &mut amounts[..room],
+        &mut counts[..room],
+    )
 }
 
 // Settles an hour file: any bytes, any lengths of buffers. Every check runs before the first line is touched.
@@ -167,14 +132,16 @@ pub fn settle(
     shares: &mut [i64],
     deviations: &mut [i64],
 ) -> Settled
-    ensures { λ r. ⌜ Fits (now (file .entry)) (buffers (now (charges .entry)) (now (shares .entry)) (now (deviations .entry)) (now (lines .entry))) r (buffers (now (charges .exit)) (now (shares .exit)) (now (deviations .exit)) (now (lines .exit))) ⌝ }
+    ensures { λ r. ⌜ Fits (now (file .entry))
+        (buffers (now (charges .entry)) (now (shares .entry)) (now (deviations .entry)) (now (lines .entry))) r
+        (buffers (now (charges .exit)) (now (shares .exit)) (now (deviations .exit)) (now (lines .exit))) ⌝ }
 {
     let answer = examine::examine(file);
     let Answer::Accepted = answer else {
-        return refused(answer);
+        return answer::refused(answer);
     };
     let tally = tally_of(file);
-    let settled = settle_tallied(file, tally, lines.len(), charges, shares, deviations);
+    let settled = settle_apart(file, tally, lines.len(), charges, shares, deviations);
     let last = settled.answer;
     let Answer::Accepted = last else {
         return settled;
@@ -192,7 +159,9 @@ pub extern "C" fn sneupelaar_settle(
     shares: &mut [i64],
     deviations: &mut [i64],
 ) -> boundary::NumberedSettled
-    ensures { λ r. ⌜ settlement r (buffers (now (charges .exit)) (now (shares .exit)) (now (deviations .exit)) (now (lines .exit))) ≡ Settling.settle (now (file .entry)) (buffers (now (charges .entry)) (now (shares .entry)) (now (deviations .entry)) (now (lines .entry))) ⌝ }
+    ensures { λ r. ⌜ settlement r (buffers (now (charges .exit)) (now (shares .exit)) (now (deviations .exit)) (now (lines .exit)))
+        ≡ Settling.settle (now (file .entry))
+        (buffers (now (charges .entry)) (now (shares .entry)) (now (deviations .entry)) (now (lines .entry))) ⌝ }
 {
     boundary::numbered(settle(file, lines, charges, shares, deviations))
 }

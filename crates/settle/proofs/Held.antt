@@ -1,139 +1,46 @@
--- What is held once an hour is worked, and what goes from there to the caller's buffers.
-use mathlib.Core.Path.{_≡_, refl, sym, _∙_, ap}
-use mathlib.Core.Bool.{Bool, true, false, cond, _||_}
-use mathlib.Core.Option.{none, some}
+-- Working an hour in room of settling's own: what is put there is what `filling` takes over.
+use mathlib.Core.Path.{_≡_, sym, _∙_, ap}
 use mathlib.Core.List.{List}
-use Prim.Native.Nat.{ℕ, _<_}
+use Prim.Native.Nat.{ℕ}
 use native.Mathlib.Omega.{arith}
-use lib.Dec.{ltb}
-use lib.IntN.{ℤ, pos, natAbs}
-use lib.ListN.{length, getD}
-use borrow.Author.Tests.{ltb-false}
-use Rattle.whole.specs.Below.{valuesBelow, replacingFirst, firstBelow}
-use Rattle.whole.proofs.Tests.{neither}
-use Rattle.whole.proofs.Search.{first-ext, first-none}
-use Rattle.whole.proofs.Buffers.{length-values, getD-values, all-written, getD-replacing, length-replacing, replacing-ext}
-use Rattle.rules.specs.declared.Answer.{Answer}
-use Rattle.rules.specs.declared.Answer.the-variants.{Accepted, BadAmount, TooShort}
-use Rattle.rules.specs.declared.Found.{Found}
+use lib.IntN.{ℤ}
+use lib.ListN.{length}
+use Rattle.whole.specs.Below.{valuesBelow, replacingFirst}
+use Rattle.whole.proofs.Buffers.{all-written}
 use Rattle.rules.specs.Record.{Hour, members, entryOf}
 use Rattle.rules.specs.Deviation.{deviation}
-use Rattle.rules.specs.Charge.{shareOf, amount, recordsOf, cents, charge}
-use Rattle.rules.specs.Refusals.{foundAt, verdictOf, verdict, badAmount, tooShort}
-use Rattle.rules.specs.Settling.{isAccepted}
+use Rattle.rules.specs.Charge.{shareOf, amount, recordsOf}
 use Rattle.rules.specs.Kept.{FileKept}
 use Rattle.hour.specs.Hour.{hourIn}
-use Rattle.lines.specs.Lined.{overLimit, LinesRoom, AllWorked}
-use Rattle.settle.specs.Parallel.{Lent, lines, lentRow, filledLent, handedOver, CanHandOver, lastRows, Rooms, Held, Finished}
+use Rattle.lines.specs.Lined.{LinesRoom, AllWorked}
+use Rattle.lines.proofs.Worked.{all-worked}
+use Rattle.filling.specs.Finished.{Held}
+use Rattle.settle.specs.Figured.{Rooms}
 
 -- room for n values that holds them holds nothing else
-all-of {ℓ} : {A : Type ℓ} (f : ℕ → A) (n : ℕ) (old out : List A) → length old ≡ n → out ≡ replacingFirst f n old → out ≡ valuesBelow f n
+all-of {ℓ} : {A : Type ℓ} (f : ℕ → A) (n : ℕ) (old out : List A) → length old ≡ n → out ≡ replacingFirst f n old →
+    out ≡ valuesBelow f n
 all-of f n old out room e = all-written f n old out e (sym room) ∙ ap (valuesBelow f) room
 
--- and copied from there it is in the first places
-filled {ℓ} : {A : Type ℓ} (f : ℕ → A) (n : ℕ) (held out : List A) (d : A) → held ≡ valuesBelow f n →
-    replacingFirst (λ i. getD held i d) (length held) out ≡ replacingFirst f n out
-filled f n held out d e =
-    rw e (ap (λ k. replacingFirst (λ i. getD (valuesBelow f n) i d) k out) (length-values f n) ∙ replacing-ext _ f n out (λ i l. getD-values f n i d l))
-
--- ---- working an hour
-
 module _ {s : List ℕ} {d₀ s₀ a₀ : List ℤ} {c₀ : List ℕ} (kept : FileKept s) (rooms : Rooms s d₀ s₀ a₀ c₀) where
-  pub lines-room : LinesRoom s a₀ c₀
-  lines-room = record { amounts-room = omega (arith, rooms .amounts-room); counts-room = omega (arith, rooms .counts-room) }
-
-  module _ {deviations shares : List ℤ} (put-deviations : deviations ≡ replacingFirst (λ i. deviation (entryOf (hourIn s) i)) (hourIn s .count) d₀)
-      (put-shares : shares ≡ replacingFirst (shareOf (hourIn s)) (hourIn s .count) s₀) where
-    pub all-worked : AllWorked s deviations shares
-    all-worked = record {
-      kept = kept;
-      deviations-room = omega (arith, ap length put-deviations, length-replacing (λ i. deviation (entryOf (hourIn s) i)) (hourIn s .count) d₀ (omega (arith, rooms .deviations-room)), rooms .deviations-room);
-      shares-room = omega (arith, ap length put-shares, length-replacing (shareOf (hourIn s)) (hourIn s .count) s₀ (omega (arith, rooms .shares-room)), rooms .shares-room);
-      deviations-are = λ i l. rw put-deviations (getD-replacing _ (hourIn s .count) d₀ i (pos 0) l);
-      shares-are = λ i l. rw put-shares (getD-replacing _ (hourIn s .count) s₀ i (pos 0) l);
-    }
-
-    pub all-held : {amounts : List ℤ} {counts : List ℕ} → amounts ≡ replacingFirst (amount (hourIn s)) (members (hourIn s)) a₀ →
-        counts ≡ replacingFirst (recordsOf (hourIn s)) (members (hourIn s)) c₀ → Held s deviations shares amounts counts
-    all-held put-amounts put-counts = record {
-      kept = kept;
-      deviations-held = all-of _ (hourIn s .count) d₀ deviations (rooms .deviations-room) put-deviations;
-      shares-held = all-of _ (hourIn s .count) s₀ shares (rooms .shares-room) put-shares;
-      amounts-held = all-of _ (members (hourIn s)) a₀ _ (rooms .amounts-room) put-amounts;
-      counts-held = all-of _ (members (hourIn s)) c₀ _ (rooms .counts-room) put-counts;
-    }
-
--- ---- refusals 7 and 11, and the buffers
-
-module _ {s : List ℕ} {deviations shares amounts : List ℤ} {counts : List ℕ} (held : Held s deviations shares amounts counts) (b : Lent) where
   abbrev h : Hour
   h = hourIn s
 
-  deviation-count : length deviations ≡ h .count
-  deviation-count = ap length (held .deviations-held) ∙ length-values _ (h .count)
+  module _ {deviations shares : List ℤ} (put-deviations : deviations ≡ replacingFirst (λ i. deviation (entryOf h i)) (h .count) d₀)
+      (put-shares : shares ≡ replacingFirst (shareOf h) (h .count) s₀) where
+    -- what the lines need
+    pub can-put-lines : AllWorked s deviations shares × LinesRoom s a₀ c₀
+    can-put-lines = (
+      all-worked kept d₀ s₀ (omega (arith, rooms .deviations-room)) (omega (arith, rooms .shares-room)) put-deviations put-shares,
+      record { amounts-room = omega (arith, rooms .amounts-room); counts-room = omega (arith, rooms .counts-room) },
+    )
 
-  share-count : length shares ≡ h .count
-  share-count = ap length (held .shares-held) ∙ length-values _ (h .count)
-
-  amount-count : length amounts ≡ members h
-  amount-count = ap length (held .amounts-held) ∙ length-values _ (members h)
-
-  count-count : length counts ≡ members h
-  count-count = ap length (held .counts-held) ∙ length-values _ (members h)
-
-  amount-at : (m : ℕ) → m < members h → getD amounts m (pos 0) ≡ amount h m
-  amount-at m l = rw (held .amounts-held) (getD-values (amount h) (members h) m (pos 0) l)
-
-  -- the search of the held amounts is row 7
-  search-is-row-7 : firstBelow (overLimit amounts) (length amounts) ≡ badAmount h
-  unfolding overLimit badAmount
-  search-is-row-7 = rw amount-count (first-ext _ _ (members h) (λ m l. ap (λ (z : ℤ). ltb 4000000000000000000 (natAbs z)) (amount-at m l)))
-
-  pub row-7 : (r : Found) → foundAt r ≡ firstBelow (overLimit amounts) (length amounts) → badAmount h ≡ foundAt r
-  row-7 r e = sym (e ∙ search-is-row-7)
-
-  answered : (answer : Answer) (after : Lent) → verdict (lastRows h b) ≡ verdictOf answer → after ≡ cond (isAccepted (verdictOf answer)) (filledLent h b) b → Finished h b answer after
-  answered answer after e f = record { verdict-is = sym e; buffers-are = f ∙ ap (λ v. cond (isAccepted v) (filledLent h b) b) (sym e) }
-
-  pub amount-over : {m : ℕ} → badAmount h ≡ some m → Finished h b (BadAmount m) b
-  unfolding lastRows verdict
-  amount-over {m} e = answered (BadAmount m) b (rw e) refl
-
-  -- what refusal 11 tests
-  abbrev pub short : Bool
-  short = ltb (length (b .charges)) (members h) || ltb (lines b) (members h) || ltb (length (b .shares)) (h .count) || ltb (length (b .deviations)) (h .count)
-
-  pub some-short : badAmount h ≡ none → short ≡ true → Finished h b TooShort b
-  unfolding lastRows lentRow tooShort verdict
-  some-short e t = answered TooShort b (rw (e, t)) refl
-
-  module _ (whole : badAmount h ≡ none) (enough : short ≡ false) where
-    pub can-hand-over : CanHandOver deviations shares amounts counts b
-    unfolding badAmount
-    can-hand-over =
-        let p = neither (ltb (length (b .charges)) (members h) || ltb (lines b) (members h) || ltb (length (b .shares)) (h .count)) _ enough in
-        let q = neither (ltb (length (b .charges)) (members h) || ltb (lines b) (members h)) _ (p .0) in
-        let r = neither (ltb (length (b .charges)) (members h)) _ (q .0) in
-        let charges-room = ltb-false (length (b .charges)) (members h) (r .0) in
-        let lines-room = ltb-false (lines b) (members h) (r .1) in
-        let shares-room = ltb-false (length (b .shares)) (h .count) (q .1) in
-        let deviations-room = ltb-false (length (b .deviations)) (h .count) (p .1) in
-        record {
-          charges-room = omega (arith, amount-count);
-          shares-room = omega (arith, share-count);
-          deviations-room = omega (arith, deviation-count);
-          amounts-room = omega (arith, amount-count);
-          counts-room = omega (arith, count-count);
-          small = λ m l. let k : m < members h = omega (arith, amount-count) in
-              record { under = rw (amount-at m k) (ltb-false 4000000000000000000 (natAbs (amount h m)) (first-none _ (members h) whole m k)) };
-        }
-
-    pub all-handed : {after : Lent} → after ≡ handedOver deviations shares amounts counts b → Finished h b Accepted after
-    unfolding lastRows lentRow tooShort verdict handedOver filledLent charge
-    all-handed {after} e = answered Accepted after (rw (whole, enough)) (e ∙ λ k. record {
-      charges = (ap (λ n. replacingFirst (λ m. cents (getD amounts m (pos 0))) n (b .charges)) amount-count ∙ replacing-ext _ _ (members h) (b .charges) (λ m l. ap cents (amount-at m l))) k;
-      shares = filled (shareOf h) (h .count) shares (b .shares) (pos 0) (held .shares-held) k;
-      deviations = filled (λ i. deviation (entryOf h i)) (h .count) deviations (b .deviations) (pos 0) (held .deviations-held) k;
-      amounts = filled (amount h) (members h) amounts (b .amounts) (pos 0) (held .amounts-held) k;
-      counts = filled (recordsOf h) (members h) counts (b .counts) 0 (held .counts-held) k;
-    })
+    pub all-held : {amounts : List ℤ} {counts : List ℕ} → amounts ≡ replacingFirst (amount h) (members h) a₀ →
+        counts ≡ replacingFirst (recordsOf h) (members h) c₀ → Held s deviations shares amounts counts
+    all-held put-amounts put-counts = record {
+      kept = kept;
+      deviations-held = all-of _ (h .count) d₀ deviations (rooms .deviations-room) put-deviations;
+      shares-held = all-of _ (h .count) s₀ shares (rooms .shares-room) put-shares;
+      amounts-held = all-of _ (members h) a₀ _ (rooms .amounts-room) put-amounts;
+      counts-held = all-of _ (members h) c₀ _ (rooms .counts-room) put-counts;
+    }

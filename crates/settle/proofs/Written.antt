@@ -1,6 +1,7 @@
--- What `settle` answered and wrote, from its promise alone. It is what `rules` settles where the two lists of amounts and counts are one list
--- of lines, so that the three demands hold of it.
+-- What `settle` answered and wrote, from its promise alone. It is what `rules` settles where the two lists of amounts and counts are one
+-- list of lines, so that the three demands hold of it.
 use mathlib.Core.Path.{_≡_, sym, _∙_, ap, ap₂}
+use mathlib.Core.Bool.{true}
 use mathlib.Core.List.{List, [], _∷_, _++_}
 use Prim.Native.Nat.{ℕ, _≤_, _<_}
 use native.Mathlib.Omega.{arith}
@@ -13,6 +14,7 @@ use Rattle.whole.specs.Below.{valuesBelow, replacingFirst}
 use Rattle.whole.proofs.Tests.{split}
 use Rattle.whole.proofs.Buffers.{length-values, getD-values, length-replacing, getD-replacing, getD-kept}
 use Rattle.rules.specs.declared.Answer.the-variants.{Accepted}
+use Rattle.rules.specs.declared.Line.{Line}
 use Rattle.rules.specs.declared.Settled.{Settled}
 use Rattle.rules.specs.Record.{Hour, members}
 use Rattle.rules.specs.Charge.{amount, recordsOf}
@@ -25,7 +27,8 @@ use Rattle.rules.proofs.Rows.{settle-accepts, settle-verdict, settle-numbered, 
 use Rattle.rules.proofs.Demands.{buffers-room}
 use Rattle.rules.proofs.Outcome.{by-formula, fair-outcome}
 use Rattle.hour.specs.Hour.{hourIn}
-use Rattle.settle.specs.Parallel.{Lent, lines, lentRow, parallelRows, filledLent, settleParallel, FitsParallel}
+use Rattle.filling.specs.Lent.{Lent, lines, lentRow, filledLent}
+use Rattle.settle.specs.Parallel.{parallelRows, settleParallel, FitsParallel}
 use Rattle.settle.specs.Written.{lineAt, asBuffers}
 
 -- ---- two lists or one
@@ -45,17 +48,23 @@ module _ (b : Lent) where
     counts-kept = length-replacing (recordsOf h) (members h) (b .counts) (omega arith)
 
     -- the lines as they are written, place by place
-    line-written : (m : ℕ) → m < lines b → lineAt (filledLent h b) m ≡ getD (replacingFirst (lineOf h) (members h) (asBuffers b .lines)) m emptyLine
+    line-written : (m : ℕ) → m < lines b →
+        lineAt (filledLent h b) m ≡ getD (replacingFirst (lineOf h) (members h) (asBuffers b .lines)) m emptyLine
     unfolding lineAt filledLent lineOf asBuffers
     line-written m l = split (ltb m (members h))
         (λ t. let k = ltb-true m (members h) t in
-        ap₂ (λ (a : ℤ) (n : ℕ). record { amount = a; records = n }) (getD-replacing (amount h) (members h) (b .amounts) m (pos 0) k) (getD-replacing (recordsOf h) (members h) (b .counts) m 0 k)
+        line (getD-replacing (amount h) (members h) (b .amounts) m (pos 0) k) (getD-replacing (recordsOf h) (members h) (b .counts) m 0 k)
         ∙ sym (getD-replacing (lineOf h) (members h) (asBuffers b .lines) m emptyLine k))
         (λ f. let k = ltb-false m (members h) f in
-        ap₂ (λ (a : ℤ) (n : ℕ). record { amount = a; records = n }) (getD-kept (amount h) (members h) (b .amounts) m (pos 0) k) (getD-kept (recordsOf h) (members h) (b .counts) m 0 k)
+        line (getD-kept (amount h) (members h) (b .amounts) m (pos 0) k) (getD-kept (recordsOf h) (members h) (b .counts) m 0 k)
         ∙ sym (getD-kept (lineOf h) (members h) (asBuffers b .lines) m emptyLine k ∙ getD-values (lineAt b) (lines b) m emptyLine l))
+      where
+        line : {a c : ℤ} {n k : ℕ} → a ≡ c → n ≡ k →
+            _≡_ {A = Line} (record { amount = a; records = n }) (record { amount = c; records = k })
+        line e f = ap₂ (λ (a : ℤ) (n : ℕ). record { amount = a; records = n }) e f
 
-    lines-written : valuesBelow (lineAt (filledLent h b)) (lines (filledLent h b)) ≡ replacingFirst (lineOf h) (members h) (asBuffers b .lines)
+    lines-written : valuesBelow (lineAt (filledLent h b)) (lines (filledLent h b))
+        ≡ replacingFirst (lineOf h) (members h) (asBuffers b .lines)
     lines-written =
         let n : lines (filledLent h b) ≡ lines b = omega (arith, amounts-kept, counts-kept) in
         let own = length-values (lineAt (filledLent h b)) (lines (filledLent h b)) in
@@ -66,27 +75,43 @@ module _ (b : Lent) where
     -- filling the five buffers fills the four
     filled-alike : asBuffers (filledLent h b) ≡ filled h (asBuffers b)
     unfolding asBuffers filled filledLent
-    filled-alike = λ k. record { charges = filled h (asBuffers b) .charges; shares = filled h (asBuffers b) .shares; deviations = filled h (asBuffers b) .deviations; lines = lines-written k }
+    filled-alike = λ k. record {
+      charges = filled h (asBuffers b) .charges;
+      shares = filled h (asBuffers b) .shares;
+      deviations = filled h (asBuffers b) .deviations;
+      lines = lines-written k;
+    }
 
 -- ---- settling
 
 module _ (s : List ℕ) (b : Lent) where
   same-rows : settleRows s (asBuffers b) ≡ parallelRows s b
   unfolding settleRows bufferRows parallelRows lentRow asBuffers
-  same-rows = ap (λ n. hourRows s ++ row 11 (tooShort (hourIn s) (length (b .charges)) n (length (b .shares)) (length (b .deviations))) ∷ []) (line-count b)
+  same-rows = ap
+      (λ n. hourRows s ++ row 11 (tooShort (hourIn s) (length (b .charges)) n (length (b .shares)) (length (b .deviations))) ∷ [])
+      (line-count b)
 
   room : Accepts s (asBuffers b) → members (hourIn s) ≤ lines b
   unfolding settleRows
   room a =
-      let r = buffers-room (hourIn s) (asBuffers b) (whole-parts (hourRows s) (bufferRows (hourIn s) (asBuffers b)) .0 (settle-accepts s (asBuffers b) .0 a) .1) in
-      omega (arith, line-count b, r .lines-room)
+      let rows = whole-parts (hourRows s) (bufferRows (hourIn s) (asBuffers b)) .0 (settle-accepts s (asBuffers b) .0 a) in
+      let r = buffers-room (hourIn s) (asBuffers b) (rows .1) in omega (arith, line-count b, r .lines-room)
+
+  -- the verdict accepts, where it has the number of acceptance
+  accepts : isAccepted (verdict (parallelRows s b)) ≡ true → Accepts s (asBuffers b)
+  accepts t = settle-verdict s (asBuffers b)
+      ∙ zero-accepts (settleRows s (asBuffers b)) (settle-numbered s (asBuffers b))
+      (ap (λ (rows : List Row). verdict rows .number) same-rows ∙ eqb-true _ _ t)
 
   -- Settling with two lists is `rules`' settling with one.
-  pub settles-alike : settle s (asBuffers b) ≡ record { verdict = settleParallel s b .verdict; ufe = settleParallel s b .ufe; buffers = asBuffers (settleParallel s b .buffers) }
+  pub settles-alike : settle s (asBuffers b) ≡ record {
+    verdict = settleParallel s b .verdict;
+    ufe = settleParallel s b .ufe;
+    buffers = asBuffers (settleParallel s b .buffers);
+  }
   unfolding settle settleParallel
   settles-alike = rw same-rows (split (isAccepted (verdict (parallelRows s b)))
-      (λ t. let a : Accepts s (asBuffers b) = settle-verdict s (asBuffers b) ∙ zero-accepts (settleRows s (asBuffers b)) (settle-numbered s (asBuffers b)) (ap (λ (rows : List Row). verdict rows .number) same-rows ∙ eqb-true _ _ t) in
-      rw (t, filled-alike b (hourIn s) (room a)))
+      (λ t. rw (t, filled-alike b (hourIn s) (room (accepts t))))
       (λ f. rw f))
 
 -- ---- what the promise gives

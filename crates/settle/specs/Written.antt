@@ -5,7 +5,7 @@ use lib.ListN.{getD}
 use Rattle.whole.specs.Below.{valuesBelow}
 use Rattle.rules.specs.declared.Line.{Line}
 use Rattle.rules.specs.Settling.{Buffers}
-use Rattle.settle.specs.Parallel.{Lent, lines}
+use Rattle.filling.specs.Lent.{Lent, lines}
 
 -- a line is an amount and a count of one place
 unfoldable pub lineAt : Lent → ℕ → Line

@@ -1,141 +1,17 @@
 // Settling an hour file: refusals 1 to 7 in their order, then 11; accepted, the caller's buffers are filled. Every figure is worked once,
-// in room of this crate's own, and every check runs before the first store into a caller's buffer, so that a refusal changes nothing.
+// in room of this crate's own; `filling` checks the last two rows and stores, so that a refusal changes nothing.
 ghost use mathlib.Core.Path.{_≡_};
-ghost use mathlib.Core.Bool.{_||_};
-ghost use Prim.Native.Nat.{ℕ, min, _≤_, _<_};
-ghost use lib.IntN.{pos};
-ghost use lib.ListN.{length, getD};
-ghost use lib.Dec.{ltb};
-ghost use Rattle.whole.specs.Below.{replacingFirst};
-ghost use Rattle.rules.specs.Record as Record;
-ghost use Rattle.rules.specs.Settling.{ufeFigures, noFigures};
-ghost use Rattle.rules.specs.Kept.{FileKept};
+ghost use Rattle.rules.specs.Refusals.{accepted, verdict, fileRows};
 ghost use Rattle.hour.specs.Hour.{hourIn};
-ghost use Rattle.settle.specs.Parallel.{lent, handedOver, CanHandOver, FitsParallel, Held, Figured, Rooms, Finished};
+ghost use Rattle.tally.specs.Posted.{Tallied};
+ghost use Rattle.filling.specs.Lent.{lent};
+ghost use Rattle.filling.specs.Finished.{Held, Finished};
+ghost use Rattle.settle.specs.Figured.{Figured, Rooms};
+ghost use Rattle.settle.specs.Parallel.{FitsParallel};
 use rules::Answer;
 use rules::Found;
 use rules::Settled;
-
-fn refused(answer: Answer) -> Settled
-    ensures { λ r. ⌜ r ≡ record { answer = answer; ufe = noFigures } ⌝ }
-{
-    Settled {
-        answer: answer,
-        ufe: [0i64; 8],
-    }
-}
-
-fn least(x: usize, y: usize) -> usize
-    ensures { λ r. ⌜ r ≡ min x y ⌝ }
-{
-    if x < y { x } else { y }
-}
-
-// Refusal 11: charges or lines shorter than the members, or shares or deviations shorter than the records.
-pub fn too_short(
-    file: &[u8],
-    charges: usize,
-    lines: usize,
-    shares: usize,
-    deviations: usize,
-) -> bool
-    ensures { λ r. ⌜ r ≡ (ltb charges (Record.members (hourIn (now (file .entry)))) || ltb lines (Record.members (hourIn (now (file .entry)))) || ltb shares (hourIn (now (file .entry)) .count) || ltb deviations (hourIn (now (file .entry)) .count)) ⌝ }
-{
-    let members = hour::members(file);
-    let records = hourfile::records(file);
-    if charges < members {
-        return true;
-    }
-    if lines < members {
-        return true;
-    }
-    if shares < records {
-        return true;
-    }
-    deviations < records
-}
-
-// Held figures to a caller's first places; the places past them are unchanged.
-fn copy(held: &[i64], out: &mut [i64])
-    requires { ⌜ length (now held) ≤ length (now out) ⌝ }
-    ensures { λ _. ⌜ now (out .exit) ≡ replacingFirst (λ i. getD (now (held .entry)) i (pos 0)) (length (now (held .entry))) (now (out .entry)) ⌝ }
-{
-    let mut i = 0;
-    while i < held.len() {
-        out[i] = held[i];
-        i += 1;
-    }
-}
-
-fn copy_counts(held: &[u32], out: &mut [u32])
-    requires { ⌜ length (now held) ≤ length (now out) ⌝ }
-    ensures { λ _. ⌜ now (out .exit) ≡ replacingFirst (λ m. getD (now (held .entry)) m 0) (length (now (held .entry))) (now (out .entry)) ⌝ }
-{
-    let mut m = 0;
-    while m < held.len() {
-        out[m] = held[m];
-        m += 1;
-    }
-}
-
-// What is held goes to the caller's buffers, and the amounts in cents to the charges.
-fn hand_over(
-    deviated: &[i64],
-    shared: &[i64],
-    owed: &[i64],
-    counted: &[u32],
-    charges: &mut [i64],
-    shares: &mut [i64],
-    deviations: &mut [i64],
-    amounts: &mut [i64],
-    counts: &mut [u32],
-)
-    requires { ⌜ CanHandOver (now deviated) (now shared) (now owed) (now counted) (lent (now charges) (now shares) (now deviations) (now amounts) (now counts)) ⌝ }
-    ensures { λ _. ⌜ lent (now (charges .exit)) (now (shares .exit)) (now (deviations .exit)) (now (amounts .exit)) (now (counts .exit)) ≡ handedOver (now (deviated .entry)) (now (shared .entry)) (now (owed .entry)) (now (counted .entry)) (lent (now (charges .entry)) (now (shares .entry)) (now (deviations .entry)) (now (amounts .entry)) (now (counts .entry))) ⌝ }
-{
-    lines::put_charges(owed, charges);
-    copy(shared, shares);
-    copy(deviated, deviations);
-    copy(owed, amounts);
-    copy_counts(counted, counts);
-}
-
-// Refusals 7 and 11; then the buffers are filled.
-fn finish(
-    file: &[u8],
-    deviated: &[i64],
-    shared: &[i64],
-    owed: &[i64],
-    counted: &[u32],
-    charges: &mut [i64],
-    shares: &mut [i64],
-    deviations: &mut [i64],
-    amounts: &mut [i64],
-    counts: &mut [u32],
-) -> Answer
-    requires { ⌜ Held (now file) (now deviated) (now shared) (now owed) (now counted) ⌝ }
-    ensures { λ r. ⌜ Finished (hourIn (now (file .entry))) (lent (now (charges .entry)) (now (shares .entry)) (now (deviations .entry)) (now (amounts .entry)) (now (counts .entry))) r (lent (now (charges .exit)) (now (shares .exit)) (now (deviations .exit)) (now (amounts .exit)) (now (counts .exit))) ⌝ }
-{
-    if let Found::At(m) = lines::member_over(owed) {
-        return Answer::BadAmount(m);
-    }
-    let places = least(amounts.len(), counts.len());
-    if too_short(file, charges.len(), places, shares.len(), deviations.len()) {
-        return Answer::TooShort;
-    }
-    hand_over(
-        deviated,
-        shared,
-        owed,
-        counted,
-        charges,
-        shares,
-        deviations,
-        amounts,
-        counts,
-    );
-    Answer::Accepted
-}
+use rules::Tally;
 
 // Every figure of the hour, into room for it.
 fn hold(
@@ -154,7 +30,7 @@ fn hold(
     lines::put_lines(file, deviations, shares, amounts, counts);
 }
 
-// The rest of settling, in the room lent.
+// Once the UFE figures are worked, in the room lent.
 fn settle_in(
     file: &[u8],
     figures: [i64; 8],
@@ -169,10 +45,12 @@ fn settle_in(
     counts: &mut [u32],
 ) -> Answer
     requires { ⌜ Figured (now file) figures × Rooms (now file) (now deviated) (now shared) (now owed) (now counted) ⌝ }
-    ensures { λ r. ⌜ Finished (hourIn (now (file .entry))) (lent (now (charges .entry)) (now (shares .entry)) (now (deviations .entry)) (now (amounts .entry)) (now (counts .entry))) r (lent (now (charges .exit)) (now (shares .exit)) (now (deviations .exit)) (now (amounts .exit)) (now (counts .exit))) ⌝ }
+    ensures { λ r. ⌜ Finished (hourIn (now (file .entry)))
+        (lent (now (charges .entry)) (now (shares .entry)) (now (deviations .entry)) (now (amounts .entry)) (now (counts .entry))) r
+        (lent (now (charges .exit)) (now (shares .exit)) (now (deviations .exit)) (now (amounts .exit)) (now (counts .exit))) ⌝ }
 {
     hold(file, figures, deviated, shared, owed, counted);
-    finish(
+    filling::finish(
         file,
         deviated,
         shared,
@@ -186,8 +64,8 @@ fn settle_in(
     )
 }
 
-// The rest of settling. This function only makes the room.
-pub fn settle_figured(
+// Once the UFE figures are worked. This function only makes the room.
+fn settle_figured(
     file: &[u8],
     figures: [i64; 8],
     charges: &mut [i64],
@@ -197,7 +75,9 @@ pub fn settle_figured(
     counts: &mut [u32],
 ) -> Answer
     requires { ⌜ Figured (now file) figures ⌝ }
-    ensures { λ r. ⌜ Finished (hourIn (now (file .entry))) (lent (now (charges .entry)) (now (shares .entry)) (now (deviations .entry)) (now (amounts .entry)) (now (counts .entry))) r (lent (now (charges .exit)) (now (shares .exit)) (now (deviations .exit)) (now (amounts .exit)) (now (counts .exit))) ⌝ }
+    ensures { λ r. ⌜ Finished (hourIn (now (file .entry)))
+        (lent (now (charges .entry)) (now (shares .entry)) (now (deviations .entry)) (now (amounts .entry)) (now (counts .entry))) r
+        (lent (now (charges .exit)) (now (shares .exit)) (now (deviations .exit)) (now (amounts .exit)) (now (counts .exit))) ⌝ }
 {
     let records = hourfile::records(file);
     let members = hour::members(file);
@@ -220,6 +100,35 @@ pub fn settle_figured(
     )
 }
 
+// Once every record is in the tally: row 6, then the rest. Who lends the tally to each posting goes on here, too.
+pub fn settle_tallied(
+    file: &[u8],
+    tally: Tally,
+    charges: &mut [i64],
+    shares: &mut [i64],
+    deviations: &mut [i64],
+    amounts: &mut [i64],
+    counts: &mut [u32],
+) -> Settled
+    requires { ⌜ (verdict (fileRows (now file)) ≡ accepted) × Tallied (now file) tally ⌝ }
+    ensures { λ r. ⌜ FitsParallel (now (file .entry))
+        (lent (now (charges .entry)) (now (shares .entry)) (now (deviations .entry)) (now (amounts .entry)) (now (counts .entry))) r
+        (lent (now (charges .exit)) (now (shares .exit)) (now (deviations .exit)) (now (amounts .exit)) (now (counts .exit))) ⌝ }
+{
+    let figures = tally::ufe_figures(file, tally);
+    if let Found::At(a) = tally::area_without_demand(file, tally, figures) {
+        return answer::refused(Answer::BadArea(a));
+    }
+    let last = settle_figured(file, figures, charges, shares, deviations, amounts, counts);
+    let Answer::Accepted = last else {
+        return answer::refused(last);
+    };
+    Settled {
+        answer: Answer::Accepted,
+        ufe: figures,
+    }
+}
+
 // Settles an hour file: any bytes, any lengths of buffers. The members' lines are two buffers, exact amounts and record counts; as many
 // lines are there as the shorter has places.
 pub fn settle(
@@ -230,23 +139,14 @@ pub fn settle(
     amounts: &mut [i64],
     counts: &mut [u32],
 ) -> Settled
-    ensures { λ r. ⌜ FitsParallel (now (file .entry)) (lent (now (charges .entry)) (now (shares .entry)) (now (deviations .entry)) (now (amounts .entry)) (now (counts .entry))) r (lent (now (charges .exit)) (now (shares .exit)) (now (deviations .exit)) (now (amounts .exit)) (now (counts .exit))) ⌝ }
+    ensures { λ r. ⌜ FitsParallel (now (file .entry))
+        (lent (now (charges .entry)) (now (shares .entry)) (now (deviations .entry)) (now (amounts .entry)) (now (counts .entry))) r
+        (lent (now (charges .exit)) (now (shares .exit)) (now (deviations .exit)) (now (amounts .exit)) (now (counts .exit))) ⌝ }
 {
     let answer = examine::examine(file);
     let Answer::Accepted = answer else {
-        return refused(answer);
+        return answer::refused(answer);
     };
     let t = tally::tally_of(file);
-    let figures = tally::ufe_figures(file, t);
-    if let Found::At(a) = tally::area_without_demand(file, t, figures) {
-        return refused(Answer::BadArea(a));
-    }
-    let last = settle_figured(file, figures, charges, shares, deviations, amounts, counts);
-    let Answer::Accepted = last else {
-        return refused(last);
-    };
-    Settled {
-        answer: Answer::Accepted,
-        ufe: figures,
-    }
+    settle_tallied(file, t, charges, shares, deviations, amounts, counts)
 }

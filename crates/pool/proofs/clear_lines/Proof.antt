@@ -47,4 +47,17 @@ returns c =
     c .before .loop .inv .1 ∙ ap (λ k. replacingFirst (λ m. emptyLine) k (start .args .lines .now)) all
 
 pub clear-lines-spec : {M : Type 1} → statement M
-clear-lines-spec = tie.close (tie.spec Inv-loop μ-loop loop-holds empty-line-requires mul-t6 slice-set-from-lines add-m loop-less loop-again same-length returns)
+clear-lines-spec =
+    tie.close
+    (tie.spec
+    Inv-loop
+    μ-loop
+    loop-holds
+    empty-line-requires
+    mul-t6
+    slice-set-from-lines
+    add-m
+    loop-less
+    loop-again
+    same-length
+    returns)

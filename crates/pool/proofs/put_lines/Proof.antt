@@ -3,7 +3,7 @@ mod Lts
 mod Tie
 use mathlib.Core.Path.{_≡_, _∙_, ap}
 use mathlib.Core.List.{List}
-use Prim.Native.Nat.{_-_, _≤_, _<_}
+use Prim.Native.Nat.{ℕ, _-_, _≤_, _<_}
 use native.Mathlib.Omega.{arith}
 use lib.IntN.{pos}
 use lib.ListN.{length, getD}
@@ -13,18 +13,20 @@ use mir.ValLaws.{toZ-ofZ}
 use borrow.Author.Needs.{sfits-of}
 use Rattle.whole.specs.Below.{replacingFirst}
 use Rattle.rules.specs.declared.Line.{Line}
-use Rattle.rules.specs.Record.{Hour, members}
+use Rattle.rules.specs.Record.{Hour, memberOf}
 use Rattle.rules.specs.Charge.{grains}
 use Rattle.rules.specs.Posting.{emptyLine, linesAfter}
 use Rattle.rules.specs.Kept.{HourKept}
 use Rattle.hour.specs.Hour.{hourIn}
+use Rattle.lines.specs.Lined.{AllWorked}
 use Rattle.pool.proofs.Lines.{lines-length, can-post, next-lines}
 use Rattle.pool.proofs.put_lines.Statement.{statement}
 use Rattle.pool.proofs.put_lines.Proof.Tie as tie
 
 -- the loop starts from cleared lines: whatever they were before
 abbrev Inv-loop : tie.InvT-loop
-Inv-loop file deviations shares cleared n i₀ lines i = (i ≤ n) × ((old : List Line) → cleared ≡ linesAfter (hourIn file) old 0 → lines ≡ linesAfter (hourIn file) old i)
+Inv-loop file deviations shares cleared n i₀ lines i =
+    (i ≤ n) × ((old : List Line) → cleared ≡ linesAfter (hourIn file) old 0 → lines ≡ linesAfter (hourIn file) old i)
 
 abbrev μ-loop : tie.MeasureT-loop
 μ-loop file deviations shares cleared n i₀ lines i = n - i
@@ -58,7 +60,9 @@ module _ (c : tie.At-loop Inv-loop μ-loop) where
   -- the lines are those of the records so far
   posted : c .loop .lines ≡ linesAfter h old (c .loop .i)
   unfolding linesAfter
-  posted = c .loop .inv .1 old (c .before .before .before .clear-lines .ensures ∙ ap (λ k. replacingFirst (λ m. emptyLine) k old) (c .before .before .before .before .members .ensures))
+  posted = c .loop .inv .1 old
+      (c .before .before .before .clear-lines .ensures ∙ ap (λ k. replacingFirst (λ m. emptyLine) k old)
+      (c .before .before .before .before .members .ensures))
 
   so-many : c .loop .i ≤ h .count
   so-many = omega (arith, c .loop .inv .0, c .before .records .ensures)
@@ -66,44 +70,71 @@ module _ (c : tie.At-loop Inv-loop μ-loop) where
   pub as-long : length (c .loop .lines) ≡ length old
   as-long = ap length posted ∙ lines-length kept old (c .loop .i) so-many (start .pre .1)
 
-there : (c : tie.In-loop Inv-loop μ-loop) → c .before .loop .i < h (c .before) .count
-there c = omega arith
+-- a turn: record i is there
+module _ (turn : tie.In-loop Inv-loop μ-loop) where
+  abbrev at : tie.At-loop Inv-loop μ-loop
+  at = turn .before
+
+  abbrev i : ℕ
+  i = at .loop .i
+
+  abbrev worked : AllWorked (start at .args .file .now) (start at .args .deviations .now) (start at .args .shares .now)
+  worked = start at .pre .0
+
+  there : i < h at .count
+  there = omega arith
+
+  in-deviations : i < length (start at .args .deviations .now)
+  in-deviations = omega (arith, there, worked .deviations-room)
+
+  in-shares : i < length (start at .args .shares .now)
+  in-shares = omega (arith, there, worked .shares-room)
 
 member-of-requires : tie.Need-member-of-requires Inv-loop μ-loop
-member-of-requires c κs = (start (c .before) .pre .0 .kept, there c)
+member-of-requires c κs = (worked c .kept, there c)
 
 mul-grains : tie.Need-mul-grains Inv-loop μ-loop
-mul-grains c = omega (arith, there (c .before), start (c .before .before) .pre .0 .deviations-room)
+mul-grains c = omega (arith, in-deviations (c .before))
 
 shared-slice-copy-out-grains : tie.Need-shared-slice-copy-out-grains Inv-loop μ-loop
-shared-slice-copy-out-grains c = omega (arith, there (c .before), start (c .before .before) .pre .0 .deviations-room)
+shared-slice-copy-out-grains c = in-deviations (c .before)
 
 mul-grains-2 : tie.Need-mul-grains-2 Inv-loop μ-loop
-mul-grains-2 c = omega (arith, there (c .before .before), start (c .before .before .before) .pre .0 .shares-room)
+mul-grains-2 c = omega (arith, in-shares (c .before .before))
 
 shared-slice-copy-out-grains-2 : tie.Need-shared-slice-copy-out-grains-2 Inv-loop μ-loop
-shared-slice-copy-out-grains-2 c = omega (arith, there (c .before .before), start (c .before .before .before) .pre .0 .shares-room)
+shared-slice-copy-out-grains-2 c = in-shares (c .before .before)
 
+-- the number that is read of a lent slice is its element
 grains-requires : tie.Need-grains-requires Inv-loop μ-loop
 grains-requires c κs =
-    let turn = c .before .before .before in
-    let worked = start (turn .before) .pre .0 in
-    let i = turn .before .loop .i in
+    let t = c .before .before .before in
+    let w = worked t in
+    let deviation = getD (start (at t) .args .deviations .now) (i t) (pos 0) in
+    let share = getD (start (at t) .args .shares .now) (i t) (pos 0) in
     record {
-      kept = worked .kept;
-      there = there turn;
-      deviation-is = toZ-ofZ w64 (getD (start (turn .before) .args .deviations .now) i (pos 0)) (sfits-of (c .before .grains-arg .given)) ∙ worked .deviations-are i (there turn);
-      share-is = toZ-ofZ w64 (getD (start (turn .before) .args .shares .now) i (pos 0)) (sfits-of (c .grains-arg2 .given)) ∙ worked .shares-are i (there turn);
+      kept = w .kept;
+      there = there t;
+      deviation-is = toZ-ofZ w64 deviation (sfits-of (c .before .grains-arg .given)) ∙ w .deviations-are (i t) (there t);
+      share-is = toZ-ofZ w64 share (sfits-of (c .grains-arg2 .given)) ∙ w .shares-are (i t) (there t);
     }
 
-grains-is : (c : tie.After-grains Inv-loop μ-loop) → let turn = c .before .before .before .before in toZ w64 (ofZ w64 (c .grains .result)) ≡ grains (h (turn .before)) (turn .before .loop .i)
-grains-is c = toZ-ofZ w64 _ (sfits-of (c .grains .ok)) ∙ c .grains .ensures
+-- the record's member and grains are read
+module _ (c : tie.After-grains Inv-loop μ-loop) where
+  abbrev turn : tie.In-loop Inv-loop μ-loop
+  turn = c .before .before .before .before
+
+  member-is : c .before .before .before .member-of .result ≡ memberOf (h (at turn)) (i turn)
+  member-is = c .before .before .before .member-of .ensures
+
+  grains-is : toZ w64 (ofZ w64 (c .grains .result)) ≡ grains (h (at turn)) (i turn)
+  grains-is = toZ-ofZ w64 _ (sfits-of (c .grains .ok)) ∙ c .grains .ensures
 
 post-line-requires : tie.Need-post-line-requires Inv-loop μ-loop
 post-line-requires c κs =
-    let turn = c .before .before .before .before .before in
-    let at = turn .before in
-    can-post (kept at) (old at) (at .loop .i) (there turn) (posted at) (c .before .before .before .before .member-of .ensures) (grains-is (c .before)) (start at .pre .1)
+    let read = c .before in
+    let t = turn read in
+    can-post (kept (at t)) (old (at t)) (i t) (there t) (posted (at t)) (member-is read) (grains-is read) (start (at t) .pre .1)
 
 add-i : tie.Need-add-i Inv-loop μ-loop
 add-i c = omega arith
@@ -113,17 +144,41 @@ loop-less c = omega arith
 
 loop-again : tie.Need-loop-again Inv-loop μ-loop
 loop-again c =
-    let turn = c .before .before .before .before .before .before .before in
-    let at = turn .before in
-    (omega arith, λ before e. c .before .post-line .ensures ∙ next-lines (kept at) before (at .loop .i) (there turn) (at .loop .inv .1 before e) (c .before .before .before .before .before .before .member-of .ensures) (grains-is (c .before .before .before)))
+    let read = c .before .before .before in
+    let t = turn read in (
+      omega arith,
+      λ before e. c .before .post-line .ensures
+          ∙ next-lines (kept (at t)) before (i t) (there t) (at t .loop .inv .1 before e) (member-is read) (grains-is read),
+    )
 
 same-length : tie.Need-same-length Inv-loop μ-loop
 same-length c = as-long (c .before)
 
 returns : tie.Need-returns Inv-loop μ-loop
 returns c =
-    let all : c .before .loop .i ≡ h (c .before) .count = omega arith in
-    posted (c .before) ∙ ap (linesAfter (h (c .before)) (old (c .before))) all
+    let ended = c .before in
+    let all : ended .loop .i ≡ h ended .count = omega arith in
+    posted ended ∙ ap (linesAfter (h ended) (old ended)) all
 
 pub put-lines-spec : {M : Type 1} → statement M
-put-lines-spec = tie.close (tie.spec Inv-loop μ-loop members-requires clear-lines-requires records-requires loop-holds member-of-requires mul-grains shared-slice-copy-out-grains mul-grains-2 shared-slice-copy-out-grains-2 grains-requires post-line-requires add-i loop-less loop-again same-length returns)
+put-lines-spec =
+    tie.close
+    (tie.spec
+    Inv-loop
+    μ-loop
+    members-requires
+    clear-lines-requires
+    records-requires
+    loop-holds
+    member-of-requires
+    mul-grains
+    shared-slice-copy-out-grains
+    mul-grains-2
+    shared-slice-copy-out-grains-2
+    grains-requires
+    post-line-requires
+    add-i
+    loop-less
+    loop-again
+    same-length
+    returns)

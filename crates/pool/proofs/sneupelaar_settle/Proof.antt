@@ -1,6 +1,6 @@
--- Every buffer is passed on to `settle`, and what it answers to `numbered`: a walk of the function's steps, by hand. What the caller lends is
--- given up to `settle`, at the caller's own lifetimes, and what `settle` says of it at its exit is said here; of both callees all that is
--- known is that they meet their contracts.
+-- Every buffer is passed on to `settle`, and what it answers to `numbered`: a walk of the function's steps, by hand. What the caller lends
+-- is given up to `settle`, at the caller's own lifetimes, and what `settle` says of it at its exit is said here; of both callees all that
+-- is known is that they meet their contracts.
 use mathlib.Core.Path.{_≡_, refl}
 use Prim.Native.Nat.{ℕ}
 use mathlib.Core.List.{[], _∷_, List}
@@ -16,8 +16,10 @@ use ghost.Atoms.{Atoms, sem}
 use contract.Lifetimes.{Lfts, Shares}
 use contract.Monad.{Fun, fact}
 use contract.Running.{givenOf, tables, tablesOf}
-use types.Kit.{Given, ‵, raw, _⊛_, ⋆, some, later, _$_, _∵_, !, qed, by, move, keep, drop, use1, split, join, pick, suffices, frame, fjoin, await, done}
-use types.Run.{look, init, forget, stop, hop, fld, from, load, addr, and-then, no-more, assigns, land, returns, enter, alloc1, alloc0, params1, pass1, pass0, free1, free0}
+use types.Kit.{Given, ‵, raw, _⊛_, ⋆, some, later, _$_, _∵_, !, qed, by, move, keep, drop, use1, split, join, pick, suffices, frame, fjoin}
+use types.Kit.{await, done}
+use types.Run.{look, init, forget, stop, hop, fld, from, load, addr, and-then, no-more, assigns, land, returns, enter, alloc1, alloc0}
+use types.Run.{params1, pass1, pass0, free1, free0}
 use types.Part.{agg, whole, sub, look-in}
 use sound.WpLaws.{FmC, fmOf, WpFn-mono}
 use denote.RattleType.{flat}
@@ -80,7 +82,13 @@ module _ {M : Type 1} (𝓤 : URA M) (H : Heap 𝓤) (A : Atoms 𝓤) (at-mem : 
 module _ {M : Type 1} (𝓤 : URA M) (H : Heap 𝓤) (A : Atoms 𝓤) (W : Given 𝓤 H A) (at-mem : Memory → SProp 𝓤) (run : Routine → Fun 𝓤)
     (κs : Lfts 5) (qs : Shares 5) (a : Args f.signature κs) where
   abbrev at : Vals f.signature κs
-  at = (slice-vals (a .0), (slice-vals (a .1 .0), (slice-vals (a .1 .1 .0), (slice-vals (a .1 .1 .1 .0), (slice-vals (a .1 .1 .1 .1 .0), tt)))))
+  at = (
+    slice-vals (a .0),
+    (
+      slice-vals (a .1 .0),
+      (slice-vals (a .1 .1 .0), (slice-vals (a .1 .1 .1 .0), (slice-vals (a .1 .1 .1 .1 .0), tt))),
+    ),
+  )
 
   abbrev Post : Val → SProp 𝓤
   Post = walkOf 𝓤 H A f.ended stayed (f.clauses 𝓤 H A at-mem run) .post ((κs, qs, tt, a, at), tt)
@@ -103,7 +111,8 @@ module _ {M : Type 1} (𝓤 : URA M) (H : Heap 𝓤) (A : Atoms 𝓤) (W : Given
     to-numbered = ((tt, tt, tt, (r, tt), (u ∷ [], tt)), tt)
 
     numbered-asked : ent 𝓤 (sem 𝓤 H A (S.the-row .own r (u ∷ []))) (Numbers 𝓤 H A at-mem run .pre to-numbered)
-    numbered-asked = qed W (‵ (S.the-row .own r (u ∷ [])) ∷ []) ∵ nothing ! $ move ! (1 ∷ 0 ∷ []) $ fjoin ! $ nothing ! $ join ! $ frame ! $ done !
+    numbered-asked =
+        qed W (‵ (S.the-row .own r (u ∷ [])) ∷ []) ∵ nothing ! $ move ! (1 ∷ 0 ∷ []) $ fjoin ! $ nothing ! $ join ! $ frame ! $ done !
 
     abbrev Numbered : NumberedSettled → Type 0
     Numbered n = n ≡ record { number = numberOf (r .answer); place = placeOf (r .answer); ufe = r .ufe }
@@ -115,7 +124,8 @@ module _ {M : Type 1} (𝓤 : URA M) (H : Heap 𝓤) (A : Atoms 𝓤) (W : Given
         ent 𝓤 (⋆ 𝓤 H A (raw (alive 𝓤 H A g.signature κs qs) ∷ ‵ (lasts g.ended κs a ws) ∷ ‵ (N.the-row .own n (w ∷ [])) ∷ [])) (Post w)
     exits n w ws fits e =
         qed W (raw (alive 𝓤 H A g.signature κs qs) ∷ ‵ (lasts g.ended κs a ws) ∷ ‵ (N.the-row .own n (w ∷ [])) ∷ []) ∵
-        suffices ! _ (ends-at 𝓤 H A f.ended stayed (f.clauses 𝓤 H A at-mem run) W ((κs, qs, tt, a, at), tt) w n ws (tt, (tt, (tt, (tt, (tt, tt)))))) $
+        suffices ! _ (ends-at 𝓤 H A f.ended stayed (f.clauses 𝓤 H A at-mem run) W ((κs, qs, tt, a, at), tt) w n ws
+        (tt, (tt, (tt, (tt, (tt, tt)))))) $
         says ! (numbered-fits (a .0 .now) lent fits e) $ done !
 
   module _ (C : Calls 𝓤 H) (Λ : Loops 𝓤 H) (fm : FmC 𝓤 H (W .laws) C)
@@ -125,7 +135,8 @@ module _ {M : Type 1} (𝓤 : URA M) (H : Heap 𝓤) (A : Atoms 𝓤) (W : Given
     walk are =
         qed W (raw (onEntry 𝓤 H A f.signature κs qs a at) ∷ []) ∵ enter ! C Λ code.function (flat (typesAt (f.signature .params) κs) at) _ $
         alloc1 ! (λ l₀. alloc1 ! (λ l₁. alloc1 ! (λ l₂. alloc1 ! (λ l₃. alloc1 ! (λ l₄. alloc1 ! (λ l₅. alloc1 ! (λ l₆. alloc1 ! (λ l₇.
-        alloc1 ! (λ l₈. alloc1 ! (λ l₉. alloc1 ! (λ l₁₀. alloc1 ! (λ l₁₁. alloc1 ! (λ l₁₂. alloc1 ! (λ l₁₃. alloc1 ! (λ l₁₄. alloc0 ! $ params1 ! $
+        alloc1 ! (λ l₈.
+        alloc1 ! (λ l₉. alloc1 ! (λ l₁₀. alloc1 ! (λ l₁₁. alloc1 ! (λ l₁₂. alloc1 ! (λ l₁₃. alloc1 ! (λ l₁₄. alloc0 ! $ params1 ! $
         pass1 ! (init ! 26 refl (tt, (tt, (record { fits = are .0 .0 .1 .0 }, tt)))) $
         pass1 ! (init ! 24 refl (tt, (tt, (record { fits = are .1 .0 .0 .1 .0 }, tt)))) $
         pass1 ! (init ! 22 refl (tt, (tt, (record { fits = are .1 .1 .0 .0 .1 .0 }, tt)))) $
@@ -133,38 +144,52 @@ module _ {M : Type 1} (𝓤 : URA M) (H : Heap 𝓤) (A : Atoms 𝓤) (W : Given
         pass1 ! (init ! 18 refl (tt, (tt, (record { fits = are .1 .1 .1 .1 .0 .0 .1 .0 }, tt)))) $ pass0 ! $
         -- [_14; …; _13; …; … ; _1; …; room for _0; …; what is had on entry]
         -- the lines, lent again
-        assigns ! (addr ! (from ! (fld ! refl (hop ! (look-in ! 24 (sub ! 0 refl (whole !))) (stop !))))) (from ! (stop !)) (init ! 14 refl (tt, tt)) $
-        assigns ! (agg ! (and-then ! (load ! (from ! (stop !)) (look ! 14 refl)) (and-then ! (load ! (from ! (fld ! refl (stop !))) (look-in ! 24 (sub ! 1 refl (whole !)))) (no-more !)))) (from ! (stop !))
+        assigns ! (addr ! (from ! (fld ! refl (hop ! (look-in ! 24 (sub ! 0 refl (whole !))) (stop !))))) (from ! (stop !))
+        (init ! 14 refl (tt, tt)) $
+        assigns ! (agg ! (and-then ! (load ! (from ! (stop !)) (look ! 14 refl))
+        (and-then ! (load ! (from ! (fld ! refl (stop !))) (look-in ! 24 (sub ! 1 refl (whole !)))) (no-more !)))) (from ! (stop !))
         (init ! 12 refl (tt, (tt, (record { fits = are .1 .0 .0 .1 .0 }, tt)))) $
         -- the charges
-        assigns ! (addr ! (from ! (fld ! refl (hop ! (look-in ! 22 (sub ! 0 refl (whole !))) (stop !))))) (from ! (stop !)) (init ! 10 refl (tt, tt)) $
-        assigns ! (agg ! (and-then ! (load ! (from ! (stop !)) (look ! 10 refl)) (and-then ! (load ! (from ! (fld ! refl (stop !))) (look-in ! 22 (sub ! 1 refl (whole !)))) (no-more !)))) (from ! (stop !))
+        assigns ! (addr ! (from ! (fld ! refl (hop ! (look-in ! 22 (sub ! 0 refl (whole !))) (stop !))))) (from ! (stop !))
+        (init ! 10 refl (tt, tt)) $
+        assigns ! (agg ! (and-then ! (load ! (from ! (stop !)) (look ! 10 refl))
+        (and-then ! (load ! (from ! (fld ! refl (stop !))) (look-in ! 22 (sub ! 1 refl (whole !)))) (no-more !)))) (from ! (stop !))
         (init ! 8 refl (tt, (tt, (record { fits = are .1 .1 .0 .0 .1 .0 }, tt)))) $
         -- the shares
-        assigns ! (addr ! (from ! (fld ! refl (hop ! (look-in ! 20 (sub ! 0 refl (whole !))) (stop !))))) (from ! (stop !)) (init ! 6 refl (tt, tt)) $
-        assigns ! (agg ! (and-then ! (load ! (from ! (stop !)) (look ! 6 refl)) (and-then ! (load ! (from ! (fld ! refl (stop !))) (look-in ! 20 (sub ! 1 refl (whole !)))) (no-more !)))) (from ! (stop !))
+        assigns ! (addr ! (from ! (fld ! refl (hop ! (look-in ! 20 (sub ! 0 refl (whole !))) (stop !))))) (from ! (stop !))
+        (init ! 6 refl (tt, tt)) $
+        assigns ! (agg ! (and-then ! (load ! (from ! (stop !)) (look ! 6 refl))
+        (and-then ! (load ! (from ! (fld ! refl (stop !))) (look-in ! 20 (sub ! 1 refl (whole !)))) (no-more !)))) (from ! (stop !))
         (init ! 4 refl (tt, (tt, (record { fits = are .1 .1 .1 .0 .0 .1 .0 }, tt)))) $
         -- the deviations
-        assigns ! (addr ! (from ! (fld ! refl (hop ! (look-in ! 18 (sub ! 0 refl (whole !))) (stop !))))) (from ! (stop !)) (init ! 2 refl (tt, tt)) $
-        assigns ! (agg ! (and-then ! (load ! (from ! (stop !)) (look ! 2 refl)) (and-then ! (load ! (from ! (fld ! refl (stop !))) (look-in ! 18 (sub ! 1 refl (whole !)))) (no-more !)))) (from ! (stop !))
+        assigns ! (addr ! (from ! (fld ! refl (hop ! (look-in ! 18 (sub ! 0 refl (whole !))) (stop !))))) (from ! (stop !))
+        (init ! 2 refl (tt, tt)) $
+        assigns ! (agg ! (and-then ! (load ! (from ! (stop !)) (look ! 2 refl))
+        (and-then ! (load ! (from ! (fld ! refl (stop !))) (look-in ! 18 (sub ! 1 refl (whole !)))) (no-more !)))) (from ! (stop !))
         (init ! 0 refl (tt, (tt, (record { fits = are .1 .1 .1 .1 .0 .0 .1 .0 }, tt)))) $
         -- the first call: what is had on entry goes to `settle`
         move ! (30 ∷ []) $ use1 W (raw (Settles 𝓤 H A at-mem run .pre to-settle)) settle-asked $
         calls-at ! fm (Settles 𝓤 H A at-mem run) settles to-settle
         (and-then ! (load ! (from ! (stop !)) (look ! 27 refl)) (and-then ! (load ! (from ! (stop !)) (look ! 13 refl))
-        (and-then ! (load ! (from ! (stop !)) (look ! 9 refl)) (and-then ! (load ! (from ! (stop !)) (look ! 5 refl)) (and-then ! (load ! (from ! (stop !)) (look ! 1 refl)) (no-more !)))))) (λ u.
-        use1 W (later (some (λ (r : Settled). (raw (alive 𝓤 H A g.signature κs qs) ⊛ ‵ (S.the-row .own r (u ∷ []))) ⊛ raw (ensured 𝓤 H A g.ended (g.clauses 𝓤 H A at-mem run) κs a tt r)))) (id⊢ 𝓤 _) $
+        (and-then ! (load ! (from ! (stop !)) (look ! 9 refl))
+        (and-then ! (load ! (from ! (stop !)) (look ! 5 refl)) (and-then ! (load ! (from ! (stop !)) (look ! 1 refl)) (no-more !)))))) (λ u.
+        use1 W (later (some (λ (r : Settled). (raw (alive 𝓤 H A g.signature κs qs) ⊛ ‵ (S.the-row .own r (u ∷ []))) ⊛
+        raw (ensured 𝓤 H A g.ended (g.clauses 𝓤 H A at-mem run) κs a tt r)))) (id⊢ 𝓤 _) $
         await ! tt $ pick ! (λ r. split ! $ move ! (1 ∷ []) $
-        use1 W (some (λ (ws : Lasts g.ended κs a). ‵ (lasts g.ended κs a ws) ⊛ raw (fact 𝓤 (Fits (a .0 .now) lent r (last ws))))) (id⊢ 𝓤 _) $ pick ! (λ ws.
+        use1 W (some (λ (ws : Lasts g.ended κs a). ‵ (lasts g.ended κs a ws) ⊛ raw (fact 𝓤 (Fits (a .0 .now) lent r (last ws)))))
+        (id⊢ 𝓤 _) $ pick ! (λ ws.
         split ! $ move ! (1 ∷ []) $ heard ! (Fits (a .0 .now) lent r (last ws)) (λ fits. move ! (1 ∷ []) $ split ! $ move ! (1 ∷ []) $
         -- [what the result owns; the tokens; the last values; _14; …]
         peeks ! S.the-row (Is S.the-row) (shows 𝓤 H A S.the-row) r (u ∷ []) (λ is.
         land ! (from ! (stop !)) (init ! 19 refl (LL.lawful S.the-type S′.the-laws 𝓤 H A W .typed r _ is .0)) $
         -- the second call: what the result owns goes to `numbered`
         use1 W (raw (Numbers 𝓤 H A at-mem run .pre (to-numbered r u))) (numbered-asked r u) $
-        calls-at ! fm (Numbers 𝓤 H A at-mem run) numbers (to-numbered r u) (and-then ! (load ! (from ! (stop !)) (look ! 19 refl)) (no-more !)) (λ w.
-        use1 W (later (some (λ (n : NumberedSettled). (‵ ftrue ⊛ ‵ (N.the-row .own n (w ∷ []))) ⊛ raw (ensured 𝓤 H A k.ended (k.clauses 𝓤 H A at-mem run) tt (r, tt) tt n)))) (id⊢ 𝓤 _) $
-        await ! tt $ pick ! (λ n. split ! $ move ! (1 ∷ []) $ use1 W (raw (fact 𝓤 (Numbered r u n))) (numbered-said r u n) $ heard ! (Numbered r u n) (λ e. split ! $ drop ! $
+        calls-at ! fm (Numbers 𝓤 H A at-mem run) numbers (to-numbered r u)
+        (and-then ! (load ! (from ! (stop !)) (look ! 19 refl)) (no-more !)) (λ w.
+        use1 W (later (some (λ (n : NumberedSettled). (‵ ftrue ⊛ ‵ (N.the-row .own n (w ∷ []))) ⊛
+        raw (ensured 𝓤 H A k.ended (k.clauses 𝓤 H A at-mem run) tt (r, tt) tt n)))) (id⊢ 𝓤 _) $
+        await ! tt $ pick ! (λ n. split ! $ move ! (1 ∷ []) $ use1 W (raw (fact 𝓤 (Numbered r u n))) (numbered-said r u n) $
+        heard ! (Numbered r u n) (λ e. split ! $ drop ! $
         peeks ! N.the-row (Is N.the-row) (shows 𝓤 H A N.the-row) n (w ∷ []) (λ is′.
         land ! (from ! (stop !)) (init ! 31 refl (LL.lawful N.the-type N′.the-laws 𝓤 H A W .typed n _ is′ .0)) $
         returns ! (look ! 31 refl) $ forget ! 3 refl $ forget ! 5 refl $ forget ! 7 refl $ forget ! 9 refl $ forget ! 11 refl $
@@ -178,7 +203,8 @@ module _ {M : Type 1} (𝓤 : URA M) (H : Heap 𝓤) (A : Atoms 𝓤) (W : Given
         keep ! (1 ∷ 2 ∷ 0 ∷ []) $ by ! (exits r u n w ws fits e)))))))))))))))))))))))))
 
 module _ {M : Type 1} (𝓤 : URA M) (H : Heap 𝓤) (A : Atoms 𝓤) (W : Given 𝓤 H A) (at-mem : Memory → SProp 𝓤) (run : Routine → Fun 𝓤) where
-  settle-walks : (C : Calls 𝓤 H) (Λ : Loops 𝓤 H) → FmC 𝓤 H (W .laws) C → Triple 𝓤 (C #settle) (Settles 𝓤 H A at-mem run) → Triple 𝓤 (C #numbered) (Numbers 𝓤 H A at-mem run)
+  settle-walks : (C : Calls 𝓤 H) (Λ : Loops 𝓤 H) → FmC 𝓤 H (W .laws) C → Triple 𝓤 (C #settle) (Settles 𝓤 H A at-mem run)
+      → Triple 𝓤 (C #numbered) (Numbers 𝓤 H A at-mem run)
       → Walks 𝓤 H A f.ended stayed (WpFn 𝓤 H C Λ code.function) (f.clauses 𝓤 H A at-mem run)
   settle-walks C Λ fm settles numbers = walked 𝓤 H A f.ended stayed (f.clauses 𝓤 H A at-mem run) (WpFn 𝓤 H C Λ code.function)
       (λ κs. (slice-vals, (slice-vals, (slice-vals, (slice-vals, (slice-vals, tt))))))
@@ -198,11 +224,13 @@ module _ {M : Type 1} (𝓤 : URA M) (H : Heap 𝓤) (A : Atoms 𝓤) (W : Given
   goes [] ks = tt
   goes (s ∷ ss) ks = (λ κs x w vs fits. W .laws .⇛-intro (sem 𝓤 H A (left (s .row κs .exit (ks .0)) x w)), goes ss (ks .1))
 
-settle-meets : {M : Type 1} (𝓤 : URA M) (H : Heap 𝓤) (A : Atoms 𝓤) → Given 𝓤 H A → (at-mem : Memory → SProp 𝓤) (run : Routine → Fun 𝓤) (𝓣 : Tables 𝓤 H)
+settle-meets : {M : Type 1} (𝓤 : URA M) (H : Heap 𝓤) (A : Atoms 𝓤) → Given 𝓤 H A → (at-mem : Memory → SProp 𝓤) (run : Routine → Fun 𝓤)
+    (𝓣 : Tables 𝓤 H)
     → Triple 𝓤 (𝓣 .C #settle) (Settles 𝓤 H A at-mem run) → Triple 𝓤 (𝓣 .C #numbered) (Numbers 𝓤 H A at-mem run)
     → Meets 𝓤 H A f.signature (WpFn 𝓤 H (𝓣 .C) (𝓣 .Λ) code.function) (f.spec 𝓤 H A at-mem run)
 settle-meets 𝓤 H A W at-mem run 𝓣 settles numbers =
-    walk-meets 𝓤 H A f.ended stayed W (goes 𝓤 H A W at-mem run (f.signature .params) (f.ended .kept)) (f.clauses 𝓤 H A at-mem run) (WpFn 𝓤 H (𝓣 .C) (𝓣 .Λ) code.function) (WpFn-mono 𝓤 H (W .laws) 𝓣 code.function)
+    walk-meets 𝓤 H A f.ended stayed W (goes 𝓤 H A W at-mem run (f.signature .params) (f.ended .kept)) (f.clauses 𝓤 H A at-mem run)
+    (WpFn 𝓤 H (𝓣 .C) (𝓣 .Λ) code.function) (WpFn-mono 𝓤 H (W .laws) 𝓣 code.function)
     (settle-walks 𝓤 H A W at-mem run (𝓣 .C) (𝓣 .Λ) (fmOf 𝓤 H (W .laws) 𝓣) settles numbers)
 
 pub sneupelaar-settle-spec : {M : Type 1} → stated.statement M
@@ -212,4 +240,5 @@ sneupelaar-settle-spec 𝓤 H 𝓜 𝓖 𝓡 =
     (tables 𝓤 H 𝓜 𝓡 code.env .C) (tables 𝓤 H 𝓜 𝓡 code.env .Λ) #sneupelaar-settle code.function (code.unfolded 𝓤 H 𝓜 𝓡)
     (settle-meets 𝓤 H (𝓖 .A) (givenOf 𝓤 H 𝓜 𝓖) (𝓜 .mem) (𝓡 .run) (tablesOf 𝓤 H 𝓜 (tables 𝓤 H 𝓜 𝓡 code.env))
     (cited 𝓤 H (Settles 𝓤 H (𝓖 .A) (𝓜 .mem) (𝓡 .run)) 𝓜 𝓡 code.env #settle g-def.routine code.calls-pool·settle (g-thm.met 𝓤 H 𝓜 𝓖 𝓡))
-    (cited 𝓤 H (Numbers 𝓤 H (𝓖 .A) (𝓜 .mem) (𝓡 .run)) 𝓜 𝓡 code.env #numbered k-def.routine code.calls-pool·boundary·numbered (k-thm.met 𝓤 H 𝓜 𝓖 𝓡)))
+    (cited 𝓤 H (Numbers 𝓤 H (𝓖 .A) (𝓜 .mem) (𝓡 .run)) 𝓜 𝓡 code.env #numbered k-def.routine code.calls-pool·boundary·numbered
+    (k-thm.met 𝓤 H 𝓜 𝓖 𝓡)))

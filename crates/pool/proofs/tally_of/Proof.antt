@@ -9,8 +9,8 @@ use mir.Syntax.{w64}
 use mir.Val.{toZ, ofZ}
 use mir.ValLaws.{toZ-ofZ}
 use borrow.Author.Needs.{sfits-of}
-use Rattle.rules.specs.Record.{entryOf}
-use Rattle.rules.specs.Posting.{accounted, tallyAfter}
+use Rattle.rules.specs.Record.{entryOf, areaOf}
+use Rattle.rules.specs.Posting.{accounted, demandOf, tallyAfter}
 use Rattle.hour.specs.Hour.{hourIn}
 use Rattle.tally.specs.Posted.{TalliedUpTo}
 use Rattle.tally.proofs.Tallies.{has-room, next-tally}
@@ -33,34 +33,50 @@ loop-holds : tie.Need-loop-holds Inv-loop μ-loop
 unfolding tallyAfter
 loop-holds c = (omega arith, c .empty-tally .ensures)
 
-area-of-requires : tie.Need-area-of-requires Inv-loop μ-loop
-area-of-requires c κs = (c .before .before .before .before .before .pre, omega arith)
-
-demand-of-requires : tie.Need-demand-of-requires Inv-loop μ-loop
-demand-of-requires c κs = (c .before .before .before .before .before .before .pre, omega arith)
-
-entry-of-requires : tie.Need-entry-of-requires Inv-loop μ-loop
-entry-of-requires c κs = (c .before .before .before .before .before .before .before .pre, omega arith)
-
 -- a turn: record i, of which the tally has those before it
-module _ (c : tie.After-demand-of Inv-loop μ-loop) where
+module _ (turn : tie.In-loop Inv-loop μ-loop) where
+  abbrev start : tie.Start Inv-loop μ-loop
+  start = turn .before .before .before .before .before
+
   abbrev file : List ℕ
-  file = c .before .before .before .before .before .before .before .args .file .now
+  file = start .args .file .now
 
   abbrev i : ℕ
-  i = c .before .before .before .loop .i
+  i = turn .before .loop .i
 
-  up-to : TalliedUpTo file (c .before .before .before .loop .tally) i
-  up-to = record { kept = c .before .before .before .before .before .before .before .pre; there = omega arith; posted = c .before .before .before .loop .inv .1 }
+  up-to : TalliedUpTo file (turn .before .loop .tally) i
+  up-to = record { kept = start .pre; there = omega arith; posted = turn .before .loop .inv .1 }
+
+area-of-requires : tie.Need-area-of-requires Inv-loop μ-loop
+area-of-requires c κs = (start c .pre, up-to c .there)
+
+demand-of-requires : tie.Need-demand-of-requires Inv-loop μ-loop
+demand-of-requires c κs = let t = c .before in (start t .pre, up-to t .there)
+
+entry-of-requires : tie.Need-entry-of-requires Inv-loop μ-loop
+entry-of-requires c κs = let t = c .before .before in (start t .pre, up-to t .there)
 
 accounted-requires : tie.Need-accounted-requires Inv-loop μ-loop
-accounted-requires c κs = let t = up-to (c .before) in rw (c .entry-of .ensures) (t .kept .hour-kept .record-kept (i (c .before)) (t .there) .entry-kept)
+accounted-requires c κs =
+    let t = c .before .before .before in
+    rw (c .entry-of .ensures) (up-to t .kept .hour-kept .record-kept (i t) (up-to t .there) .entry-kept)
 
-energy-is : (c : tie.After-accounted Inv-loop μ-loop) → toZ w64 (ofZ w64 (c .accounted .result)) ≡ accounted (entryOf (hourIn (file (c .before .before))) (i (c .before .before)))
-energy-is c = toZ-ofZ w64 _ (sfits-of (c .accounted .ok)) ∙ c .accounted .ensures ∙ ap accounted (c .before .entry-of .ensures)
+-- the record's area, demand and energy are read
+module _ (c : tie.After-accounted Inv-loop μ-loop) where
+  abbrev turn : tie.In-loop Inv-loop μ-loop
+  turn = c .before .before .before .before
+
+  area-is : c .before .before .before .area-of .result ≡ areaOf (hourIn (file turn)) (i turn)
+  area-is = c .before .before .before .area-of .ensures
+
+  demand-is : c .before .before .demand-of .result ≡ demandOf (hourIn (file turn)) (i turn)
+  demand-is = c .before .before .demand-of .ensures
+
+  energy-is : toZ w64 (ofZ w64 (c .accounted .result)) ≡ accounted (entryOf (hourIn (file turn)) (i turn))
+  energy-is = toZ-ofZ w64 _ (sfits-of (c .accounted .ok)) ∙ c .accounted .ensures ∙ ap accounted (c .before .entry-of .ensures)
 
 post-requires : tie.Need-post-requires Inv-loop μ-loop
-post-requires c κs = has-room (up-to (c .before .before .before)) (c .before .before .before .before .area-of .ensures) (c .before .before .before .demand-of .ensures) (energy-is (c .before))
+post-requires c κs = let r = c .before in has-room (up-to (turn r)) (area-is r) (demand-is r) (energy-is r)
 
 add-i : tie.Need-add-i Inv-loop μ-loop
 add-i c = omega arith
@@ -69,16 +85,32 @@ loop-less : tie.Need-loop-less Inv-loop μ-loop
 loop-less c = omega arith
 
 loop-again : tie.Need-loop-again Inv-loop μ-loop
-loop-again c = (
-  omega arith,
-  c .post .ensures ∙ next-tally (up-to (c .before .before .before .before)) (c .before .before .before .before .before .area-of .ensures) (c .before .before .before .before .demand-of .ensures) (energy-is (c .before .before)),
-)
+loop-again c =
+    let r = c .before .before in
+    (omega arith, c .post .ensures ∙ next-tally (up-to (turn r)) (area-is r) (demand-is r) (energy-is r))
 
 returns : tie.Need-returns Inv-loop μ-loop
 returns c =
-    let start = c .before .before .before .before .before in
-    let all : c .before .loop .i ≡ hourIn (start .args .file .now) .count = omega arith in
-    c .before .loop .inv .1 ∙ ap (tallyAfter (hourIn (start .args .file .now))) all
+    let at = c .before in
+    let h = hourIn (at .before .before .before .before .args .file .now) in
+    let all : at .loop .i ≡ h .count = omega arith in
+    at .loop .inv .1 ∙ ap (tallyAfter h) all
 
 pub tally-of-spec : {M : Type 1} → statement M
-tally-of-spec = tie.close (tie.spec Inv-loop μ-loop records-requires empty-tally-requires loop-holds area-of-requires demand-of-requires entry-of-requires accounted-requires post-requires add-i loop-less loop-again returns)
+tally-of-spec =
+    tie.close
+    (tie.spec
+    Inv-loop
+    μ-loop
+    records-requires
+    empty-tally-requires
+    loop-holds
+    area-of-requires
+    demand-of-requires
+    entry-of-requires
+    accounted-requires
+    post-requires
+    add-i
+    loop-less
+    loop-again
+    returns)

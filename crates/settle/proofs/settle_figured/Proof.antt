@@ -3,7 +3,6 @@ use mathlib.Core.Path.{sym, _∙_}
 use Prim.Native.Nat.{ℕ, _≤_}
 use native.Mathlib.Omega.{arith}
 use lib.Seq.{length-take-le}
-use borrow.Author.Needs.{needs}
 use Rattle.settle.proofs.settle_figured.Statement.{statement}
 use Rattle.settle.proofs.settle_figured.Tie as tie
 
@@ -52,11 +51,15 @@ array-borrow-prefix-counted : tie.Need-array-borrow-prefix-counted
 array-borrow-prefix-counted c = omega (arith, members-few (c .before .before .before))
 
 slice-aggregate-settle-in-4 : tie.Need-slice-aggregate-settle-in-4
-slice-aggregate-settle-in-4 c = let m = c .before .before .before .before in sym (length-take-le (members m) _ (omega (arith, members-few m)))
+slice-aggregate-settle-in-4 c =
+    let m = c .before .before .before .before in sym (length-take-le (members m) _ (omega (arith, members-few m)))
+
+abbrev members-read : tie.After-settle-in-arg5 → tie.After-members
+members-read c = c .before .before .before .before .before .before .before .before .before
 
 settle-in-requires : tie.Need-settle-in-requires
 settle-in-requires c κs =
-    let m = c .before .before .before .before .before .before .before .before .before in (
+    let m = members-read c in (
       start m .pre,
       record {
         deviations-room = length-take-le (records m) _ (omega (arith, records-few m)) ∙ m .before .records .ensures;
@@ -66,23 +69,27 @@ settle-in-requires c κs =
       },
     )
 
+-- when `settle_in` has returned
+abbrev settled : tie.After-slice-known2 → tie.After-settle-in
+settled c = c .before .before .before .before .before .before .before .before .before .before
+
 same-length : tie.Need-same-length
-same-length c = search needs
+same-length c = settled c .settle-in .kept .1 .1 .1 .1 .1 .1 .0
 
 same-length-2 : tie.Need-same-length-2
-same-length-2 c = search needs
+same-length-2 c = settled c .settle-in .kept .1 .1 .1 .1 .1 .1 .1 .0
 
 same-length-3 : tie.Need-same-length-3
-same-length-3 c = search needs
+same-length-3 c = settled c .settle-in .kept .1 .1 .1 .1 .1 .1 .1 .1 .0
 
 same-length-4 : tie.Need-same-length-4
-same-length-4 c = search needs
+same-length-4 c = settled c .settle-in .kept .1 .1 .1 .1 .1 .1 .1 .1 .1 .0
 
 same-length-5 : tie.Need-same-length-5
-same-length-5 c = search needs
+same-length-5 c = settled c .settle-in .kept .1 .1 .1 .1 .1 .1 .1 .1 .1 .1 .0
 
 returns : tie.Need-returns
-returns c = search needs
+returns c = settled c .settle-in .ensures
 
 pub settle-figured-spec : {M : Type 1} → statement M
 settle-figured-spec =

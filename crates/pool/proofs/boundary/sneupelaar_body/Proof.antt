@@ -1,6 +1,7 @@
 -- An empty body stands nowhere; any other begins after the 32 bytes that begin its block.
-use Prim.Native.Nat.{_+_, _*_, _<_}
+use Prim.Native.Nat.{ℕ, _+_, _*_, _<_}
 use mathlib.Core.Path.{_≡_, ap}
+use mathlib.Core.List.{List}
 use native.Mathlib.Omega.{arith}
 use lib.ListN.{length}
 use Rattle.rules.specs.HourFile.{blocks}
@@ -12,14 +13,27 @@ use Rattle.pool.proofs.boundary.sneupelaar_body.Tie as tie
 body-requires : tie.Need-body-requires
 body-requires c κs = tt
 
+-- the body is asked for
+module _ (c : tie.After-body) where
+  abbrev file : List ℕ
+  file = c .before .before .args .file .now
+
+  abbrev block : ℕ
+  block = c .before .before .args .block
+
 returns : tie.Need-returns
 returns c =
-    let start = c .before .before .before in
-    handed-out (start .args .file .now) (start .args .block) (none-there (start .args .file .now) (start .args .block) (ap length (c .before .body .ensures)) (c .if1 .taken))
+    let b = c .before in
+    handed-out (file b) (block b) (none-there (file b) (block b) (ap length (b .body .ensures)) (c .if1 .taken))
 
 -- a body that isn't empty
-found : (c : tie.Else1) → let start = c .before .before .before in (bodyPart (start .args .file .now) (start .args .block) ≡ record { from = 512 * start .args .block + 32; length = length (c .before .body .result .now) }) × (start .args .block < blocks (start .args .file .now))
-found c = one-there (c .before .before .before .args .file .now) (c .before .before .before .args .block) (ap length (c .before .body .ensures)) (c .if1 .left)
+module _ (c : tie.Else1) where
+  abbrev asked : tie.After-body
+  asked = c .before
+
+  found : (bodyPart (file asked) (block asked) ≡ record { from = 512 * block asked + 32; length = length (asked .body .result .now) })
+      × (block asked < blocks (file asked))
+  found = one-there (file asked) (block asked) (ap length (asked .body .ensures)) (c .if1 .left)
 
 mul-t6 : tie.Need-mul-t6
 unfolding blocks
@@ -30,7 +44,7 @@ unfolding blocks
 add-t7 c = omega (arith, found c .1)
 
 returns-2 : tie.Need-returns-2
-returns-2 c = handed-out (c .before .before .before .args .file .now) (c .before .before .before .args .block) (found c .0)
+returns-2 c = handed-out (file (asked c)) (block (asked c)) (found c .0)
 
 pub sneupelaar-body-spec : {M : Type 1} → statement M
 sneupelaar-body-spec = tie.close (tie.spec body-requires returns mul-t6 add-t7 returns-2)

@@ -22,7 +22,8 @@ returns : tie.Need-returns
 returns c =
     let answered = c .before .before .before .read in
     ap₂ (λ (v : Verdict) (amount : ℤ). record { verdict = v; amount = amount })
-    (numbered-verdict (answered .result .answer) (c .before .before .number-of .ensures) (c .before .place-of .ensures) ∙ answered .ensures .0)
+    (numbered-verdict (answered .result .answer) (c .before .before .number-of .ensures) (c .before .place-of .ensures)
+    ∙ answered .ensures .0)
     (toZ-ofZ w64 (answered .result .amount) (sfits-of (c .struct-told .given .1 .0 .1)) ∙ answered .ensures .1)
 
 pub sneupelaar-read-spec : {M : Type 1} → statement M

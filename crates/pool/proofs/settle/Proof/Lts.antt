@@ -118,7 +118,7 @@ abbrev b1 : Syntax.Body
 b1 = Syntax.skip
 
 abbrev b2 : Syntax.Body
-b2 = Syntax.call "pool::refused" (List._∷_ (Syntax.copy (Syntax.place 6 List.[])) List.[]) (Syntax.place 0 List.[])
+b2 = Syntax.call "answer::refused" (List._∷_ (Syntax.copy (Syntax.place 6 List.[])) List.[]) (Syntax.place 0 List.[])
 
 abbrev b3 : Syntax.Body
 b3 = Syntax.return
@@ -154,7 +154,7 @@ abbrev b13 : Syntax.Body
 b13 = Syntax.assign (Syntax.place 16 List.[]) (Syntax.aggregate (List._∷_ (Syntax.copy (Syntax.place 15 List.[])) (List._∷_ (Syntax.copy (Syntax.place 5 (List._∷_ (Syntax.field 1) List.[]))) List.[])))
 
 abbrev b14 : Syntax.Body
-b14 = Syntax.call "pool::settle_tallied" (List._∷_ (Syntax.copy (Syntax.place 1 List.[])) (List._∷_ (Syntax.copy (Syntax.place 7 List.[])) (List._∷_ (Syntax.copy (Syntax.place 10 List.[])) (List._∷_ (Syntax.copy (Syntax.place 12 List.[])) (List._∷_ (Syntax.copy (Syntax.place 14 List.[])) (List._∷_ (Syntax.copy (Syntax.place 16 List.[])) List.[])))))) (Syntax.place 8 List.[])
+b14 = Syntax.call "pool::settle_apart" (List._∷_ (Syntax.copy (Syntax.place 1 List.[])) (List._∷_ (Syntax.copy (Syntax.place 7 List.[])) (List._∷_ (Syntax.copy (Syntax.place 10 List.[])) (List._∷_ (Syntax.copy (Syntax.place 12 List.[])) (List._∷_ (Syntax.copy (Syntax.place 14 List.[])) (List._∷_ (Syntax.copy (Syntax.place 16 List.[])) List.[])))))) (Syntax.place 8 List.[])
 
 abbrev b15 : Syntax.Body
 b15 = Syntax.assign (Syntax.place 9 List.[]) (Syntax.rvOpd (Syntax.copy (Syntax.place 8 (List._∷_ (Syntax.field 0) List.[]))))
@@ -655,7 +655,7 @@ module _ (claims· : Claims) where
   module _ (Pre· : (κs : Lifetimes.Lfts 5) → Kinds.Dens κs ps → Type 0) (Post· : (κs : Lifetimes.Lfts 5) → (a : Kinds.Dens κs ps) → Kinds.Plain 5 ps r κs) where
     module _ (M : Type 1) where
       abbrev pub Closed : Type 2
-      Closed = (𝓤 : URA.URA M) (H : Wp.Heap 𝓤) (A : Atoms.Atoms 𝓤) (W : Kit.Given 𝓤 H A) (𝓣 : Wp.Tables 𝓤 H) (known0 : Plain.Known 𝓤 H A W 𝓣 1 ps·0 r·0 (claims· .0) (claims· .1) "examine::examine") (known1 : Plain.Known 𝓤 H A W 𝓣 0 ps·1 r·1 (claims· .2) (claims· .3) "pool::refused") (known2 : Plain.Known 𝓤 H A W 𝓣 1 ps·2 r·2 (claims· .4) (claims· .5) "pool::tally_of") (known3 : Plain.Known 𝓤 H A W 𝓣 4 ps·3 r·3 (claims· .6) (claims· .7) "pool::settle_tallied") (known4 : Plain.Known 𝓤 H A W 𝓣 4 ps·4 r·4 (claims· .8) (claims· .9) "pool::put_lines") → Statement.Triple 𝓤 (Wp.WpFn 𝓤 H (𝓣 .C) (𝓣 .Λ) (Function.fnOf 5 ps r xs m hs body)) (Function.plainOf 𝓤 H A 5 ps r Pre· Post·)
+      Closed = (𝓤 : URA.URA M) (H : Wp.Heap 𝓤) (A : Atoms.Atoms 𝓤) (W : Kit.Given 𝓤 H A) (𝓣 : Wp.Tables 𝓤 H) (known0 : Plain.Known 𝓤 H A W 𝓣 1 ps·0 r·0 (claims· .0) (claims· .1) "examine::examine") (known1 : Plain.Known 𝓤 H A W 𝓣 0 ps·1 r·1 (claims· .2) (claims· .3) "answer::refused") (known2 : Plain.Known 𝓤 H A W 𝓣 1 ps·2 r·2 (claims· .4) (claims· .5) "pool::tally_of") (known3 : Plain.Known 𝓤 H A W 𝓣 4 ps·3 r·3 (claims· .6) (claims· .7) "pool::settle_apart") (known4 : Plain.Known 𝓤 H A W 𝓣 4 ps·4 r·4 (claims· .8) (claims· .9) "pool::put_lines") → Statement.Triple 𝓤 (Wp.WpFn 𝓤 H (𝓣 .C) (𝓣 .Λ) (Function.fnOf 5 ps r xs m hs body)) (Function.plainOf 𝓤 H A 5 ps r Pre· Post·)
 
     module _ where
       abbrev at0 : Typed.TF T6 O1
@@ -867,7 +867,7 @@ module _ (claims· : Claims) where
 
       module _ {M : Type 1} (𝓤 : URA.URA M) (H : Wp.Heap 𝓤) (A : Atoms.Atoms 𝓤) (W : Kit.Given 𝓤 H A) (𝓣 : Wp.Tables 𝓤 H) where
         abbrev Knowns : Type 1
-        Knowns = Plain.Known 𝓤 H A W 𝓣 1 ps·0 r·0 (claims· .0) (claims· .1) "examine::examine" × Plain.Known 𝓤 H A W 𝓣 0 ps·1 r·1 (claims· .2) (claims· .3) "pool::refused" × Plain.Known 𝓤 H A W 𝓣 1 ps·2 r·2 (claims· .4) (claims· .5) "pool::tally_of" × Plain.Known 𝓤 H A W 𝓣 4 ps·3 r·3 (claims· .6) (claims· .7) "pool::settle_tallied" × Plain.Known 𝓤 H A W 𝓣 4 ps·4 r·4 (claims· .8) (claims· .9) "pool::put_lines"
+        Knowns = Plain.Known 𝓤 H A W 𝓣 1 ps·0 r·0 (claims· .0) (claims· .1) "examine::examine" × Plain.Known 𝓤 H A W 𝓣 0 ps·1 r·1 (claims· .2) (claims· .3) "answer::refused" × Plain.Known 𝓤 H A W 𝓣 1 ps·2 r·2 (claims· .4) (claims· .5) "pool::tally_of" × Plain.Known 𝓤 H A W 𝓣 4 ps·3 r·3 (claims· .6) (claims· .7) "pool::settle_apart" × Plain.Known 𝓤 H A W 𝓣 4 ps·4 r·4 (claims· .8) (claims· .9) "pool::put_lines"
 
       module _ (κs : Lifetimes.Lfts 5) (qs : Lifetimes.Shares 5) where
         abbrev g7 : List.List Row.Entry
@@ -1136,7 +1136,7 @@ module _ (claims· : Claims) where
           d4 = Typed.g-pre 𝓤 H A W 𝓣 E G7 G8 b3 Δ1 (Typed.pass T7 T8 s5) at3 (Scalar.g-room 𝓤 H A W E G7 6 (Syntax.tyEnum (List._∷_ 114 (List._∷_ 117 (List._∷_ 108 (List._∷_ 101 (List._∷_ 115 (List._∷_ 58 (List._∷_ 58 (List._∷_ 65 (List._∷_ 110 (List._∷_ 115 (List._∷_ 119 (List._∷_ 101 (List._∷_ 114 List.[]))))))))))))) (Syntax.ttcons Syntax.tnil (Syntax.ttcons Syntax.tnil (Syntax.ttcons (Syntax.tcons (Syntax.tyInt Syntax.w64) Syntax.tnil) (Syntax.ttcons (Syntax.tcons (Syntax.tyInt Syntax.w64) Syntax.tnil) (Syntax.ttcons (Syntax.tcons (Syntax.tyInt Syntax.w64) Syntax.tnil) (Syntax.ttcons (Syntax.tcons (Syntax.tyInt Syntax.w64) Syntax.tnil) (Syntax.ttcons (Syntax.tcons (Syntax.tyInt Syntax.w64) Syntax.tnil) (Syntax.ttcons (Syntax.tcons (Syntax.tyInt Syntax.w64) Syntax.tnil) (Syntax.ttcons Syntax.tnil (Syntax.ttcons Syntax.tnil (Syntax.ttcons Syntax.tnil (Syntax.ttcons Syntax.tnil Syntax.ttnil))))))))))))) (Local.room-whole 𝓤 H A W (Declared.row Answer.the-type) (Syntax.tyEnum (List._∷_ 114 (List._∷_ 117 (List._∷_ 108 (List._∷_ 101 (List._∷_ 115 (List._∷_ 58 (List._∷_ 58 (List._∷_ 65 (List._∷_ 110 (List._∷_ 115 (List._∷_ 119 (List._∷_ 101 (List._∷_ 114 List.[]))))))))))))) (Syntax.ttcons Syntax.tnil (Syntax.ttcons Syntax.tnil (Syntax.ttcons (Syntax.tcons (Syntax.tyInt Syntax.w64) Syntax.tnil) (Syntax.ttcons (Syntax.tcons (Syntax.tyInt Syntax.w64) Syntax.tnil) (Syntax.ttcons (Syntax.tcons (Syntax.tyInt Syntax.w64) Syntax.tnil) (Syntax.ttcons (Syntax.tcons (Syntax.tyInt Syntax.w64) Syntax.tnil) (Syntax.ttcons (Syntax.tcons (Syntax.tyInt Syntax.w64) Syntax.tnil) (Syntax.ttcons (Syntax.tcons (Syntax.tyInt Syntax.w64) Syntax.tnil) (Syntax.ttcons Syntax.tnil (Syntax.ttcons Syntax.tnil (Syntax.ttcons Syntax.tnil (Syntax.ttcons Syntax.tnil Syntax.ttnil))))))))))))) Path'.refl)) d3
 
           d5 : Typed.Typed 𝓤 H A 𝓣 E G3 b4 Δ1 at5
-          d5 = Typed.s-seq 𝓤 H A W 𝓣 E G3 G7 b2 b3 Δ1 (Typed.both s4) at4 (Plain.t-call-plain 𝓤 H A W 𝓣 0 ps·1 r·1 (claims· .2) (claims· .3) "pool::refused" (known .1) E (λ pos β. β) G3 (record { pos = 6; st = List.[]; d = 0; at = λ x. x }, tt) 0 List.[] (Call.sub-id 𝓤 H A W (G3 .slots)) ((Yields.yields-copy 𝓤 H A W (λ ρ. Unit) (Declared.row Answer.the-type) Path'.refl (Copies.cEnum Answer.the-type Laws.the-laws Laws.the-copy .copy 𝓤 H A W) (Rows'.whole (Declared.row Answer.the-type)) (λ x. x) (λ x. x) (λ ρ told. Local.mem-whole 𝓤 H A W (Declared.row Answer.the-type) ρ) λ ρ told. Local.whole-mem 𝓤 H A W (Declared.row Answer.the-type) ρ, Path'.refl), tt) (Reads'.room-gone 𝓤 H A (Syntax.tyStruct (List._∷_ 114 (List._∷_ 117 (List._∷_ 108 (List._∷_ 101 (List._∷_ 115 (List._∷_ 58 (List._∷_ 58 (List._∷_ 83 (List._∷_ 101 (List._∷_ 116 (List._∷_ 116 (List._∷_ 108 (List._∷_ 101 (List._∷_ 100 List.[])))))))))))))) (Syntax.tcons (Syntax.tyEnum (List._∷_ 114 (List._∷_ 117 (List._∷_ 108 (List._∷_ 101 (List._∷_ 115 (List._∷_ 58 (List._∷_ 58 (List._∷_ 65 (List._∷_ 110 (List._∷_ 115 (List._∷_ 119 (List._∷_ 101 (List._∷_ 114 List.[]))))))))))))) (Syntax.ttcons Syntax.tnil (Syntax.ttcons Syntax.tnil (Syntax.ttcons (Syntax.tcons (Syntax.tyInt Syntax.w64) Syntax.tnil) (Syntax.ttcons (Syntax.tcons (Syntax.tyInt Syntax.w64) Syntax.tnil) (Syntax.ttcons (Syntax.tcons (Syntax.tyInt Syntax.w64) Syntax.tnil) (Syntax.ttcons (Syntax.tcons (Syntax.tyInt Syntax.w64) Syntax.tnil) (Syntax.ttcons (Syntax.tcons (Syntax.tyInt Syntax.w64) Syntax.tnil) (Syntax.ttcons (Syntax.tcons (Syntax.tyInt Syntax.w64) Syntax.tnil) (Syntax.ttcons Syntax.tnil (Syntax.ttcons Syntax.tnil (Syntax.ttcons Syntax.tnil (Syntax.ttcons Syntax.tnil Syntax.ttnil))))))))))))) (Syntax.tcons (Syntax.tyArray (Syntax.tyInt Syntax.w64) 8) Syntax.tnil)))) tt Path'.refl) d4
+          d5 = Typed.s-seq 𝓤 H A W 𝓣 E G3 G7 b2 b3 Δ1 (Typed.both s4) at4 (Plain.t-call-plain 𝓤 H A W 𝓣 0 ps·1 r·1 (claims· .2) (claims· .3) "answer::refused" (known .1) E (λ pos β. β) G3 (record { pos = 6; st = List.[]; d = 0; at = λ x. x }, tt) 0 List.[] (Call.sub-id 𝓤 H A W (G3 .slots)) ((Yields.yields-copy 𝓤 H A W (λ ρ. Unit) (Declared.row Answer.the-type) Path'.refl (Copies.cEnum Answer.the-type Laws.the-laws Laws.the-copy .copy 𝓤 H A W) (Rows'.whole (Declared.row Answer.the-type)) (λ x. x) (λ x. x) (λ ρ told. Local.mem-whole 𝓤 H A W (Declared.row Answer.the-type) ρ) λ ρ told. Local.whole-mem 𝓤 H A W (Declared.row Answer.the-type) ρ, Path'.refl), tt) (Reads'.room-gone 𝓤 H A (Syntax.tyStruct (List._∷_ 114 (List._∷_ 117 (List._∷_ 108 (List._∷_ 101 (List._∷_ 115 (List._∷_ 58 (List._∷_ 58 (List._∷_ 83 (List._∷_ 101 (List._∷_ 116 (List._∷_ 116 (List._∷_ 108 (List._∷_ 101 (List._∷_ 100 List.[])))))))))))))) (Syntax.tcons (Syntax.tyEnum (List._∷_ 114 (List._∷_ 117 (List._∷_ 108 (List._∷_ 101 (List._∷_ 115 (List._∷_ 58 (List._∷_ 58 (List._∷_ 65 (List._∷_ 110 (List._∷_ 115 (List._∷_ 119 (List._∷_ 101 (List._∷_ 114 List.[]))))))))))))) (Syntax.ttcons Syntax.tnil (Syntax.ttcons Syntax.tnil (Syntax.ttcons (Syntax.tcons (Syntax.tyInt Syntax.w64) Syntax.tnil) (Syntax.ttcons (Syntax.tcons (Syntax.tyInt Syntax.w64) Syntax.tnil) (Syntax.ttcons (Syntax.tcons (Syntax.tyInt Syntax.w64) Syntax.tnil) (Syntax.ttcons (Syntax.tcons (Syntax.tyInt Syntax.w64) Syntax.tnil) (Syntax.ttcons (Syntax.tcons (Syntax.tyInt Syntax.w64) Syntax.tnil) (Syntax.ttcons (Syntax.tcons (Syntax.tyInt Syntax.w64) Syntax.tnil) (Syntax.ttcons Syntax.tnil (Syntax.ttcons Syntax.tnil (Syntax.ttcons Syntax.tnil (Syntax.ttcons Syntax.tnil Syntax.ttnil))))))))))))) (Syntax.tcons (Syntax.tyArray (Syntax.tyInt Syntax.w64) 8) Syntax.tnil)))) tt Path'.refl) d4
 
           d6 : Typed.Typed 𝓤 H A 𝓣 E G3 b5 Δ1 at6
           d6 = Switch.t-switch-on 𝓤 H A W E 𝓣 G3 (Scalar.oFld 6 (List._∷_ (Syntax.variant 0) (List._∷_ (Syntax.field 0) List.[])) (Syntax.tyInt Syntax.w8) 0 λ x. Val.vint Syntax.w8 (Declared.tagOf Answer.the-type x)) Syntax.w8 (λ u. Declared.tagOf Answer.the-type (u .1 .1 .1 .1 .1 .1 .0)) (Syntax.arm (List._∷_ 0 List.[]) b1 (Syntax.arm (List._∷_ 1 (List._∷_ 2 (List._∷_ 3 (List._∷_ 4 (List._∷_ 5 (List._∷_ 6 (List._∷_ 7 (List._∷_ 8 (List._∷_ 9 (List._∷_ 10 (List._∷_ 11 List.[]))))))))))) b4 Syntax.noDefault)) Δ1 (at2, (at5, tt)) (Match.reads-tag 𝓤 H A W Answer.the-type Laws.the-laws (Rows'.whole (Declared.row Answer.the-type)) 0 (λ x. x) (Whole.reads-enum 𝓤 H A W Answer.the-type Laws.the-laws), Path'.refl) (λ u. Path'.refl) (d2, (d5, tt))
@@ -1280,7 +1280,7 @@ module _ (claims· : Claims) where
           d52 = Typed.g-pre 𝓤 H A W 𝓣 E G20 G21 b39 Δ0 (Typed.pass T20 T21 s18) at51 (Scalar.g-room 𝓤 H A W E G20 7 (TallyKit.plain-ty) (TallyKit.room 𝓤 H A W)) d51
 
           d53 : Typed.Typed 𝓤 H A 𝓣 E G19 b40 Δ0 at53
-          d53 = Typed.s-seq 𝓤 H A W 𝓣 E G19 G20 b14 b39 Δ0 (Typed.both s17) at52 (Plain.t-call-plain 𝓤 H A W 𝓣 4 ps·3 r·3 (claims· .6) (claims· .7) "pool::settle_tallied" (known .3) E (λ pos β. β) G19 (record { pos = 1; ty = Syntax.tyRef (Syntax.named 0) Syntax.imm (Syntax.tyInt Syntax.w8); ref = λ x. x }, (record { pos = 7; st = List.[]; d = 0; at = λ x. x }, (Num.vAt 10 λ x. x, (record { pos = 12; ty = Syntax.tyRef Syntax.erased Syntax.mut (Syntax.tyInt Syntax.w64); ref = λ x. x }, (record { pos = 14; ty = Syntax.tyRef Syntax.erased Syntax.mut (Syntax.tyInt Syntax.w64); ref = λ x. x }, (record { pos = 16; ty = Syntax.tyRef Syntax.erased Syntax.mut (Syntax.tyInt Syntax.w64); ref = λ x. x }, tt)))))) 8 (List._∷_ 0 (List._∷_ 5 (List._∷_ 6 (List._∷_ 7 List.[])))) (Call.sub-id 𝓤 H A W (G19 .slots)) (ShrSlice.spares-sslice 𝓤 H A W (Referent.rtF (Referent.fInt Syntax.w8)) (Syntax.tyRef (Syntax.named 0) Syntax.imm (Syntax.tyInt Syntax.w8)) 0, Shared.reads-sslice 𝓤 H A W (Referent.rtF (Referent.fInt Syntax.w8)) (Syntax.tyRef (Syntax.named 0) Syntax.imm (Syntax.tyInt Syntax.w8)) 0, Path'.refl, ((TallyKit.yields 𝓤 H A W, Path'.refl), ((Scalar.reads-sc 𝓤 H A W (Row.sInt Syntax.w64), Path'.refl), (Reads'.as-is 𝓤 H A (Mut.mslice (DenSigned.SInt Syntax.w64) (Syntax.tyRef Syntax.erased Syntax.mut (Syntax.tyInt Syntax.w64)) 5), Mut.reads-mslice 𝓤 H A W (DenSigned.SInt Syntax.w64) (Syntax.tyRef Syntax.erased Syntax.mut (Syntax.tyInt Syntax.w64)) 5, Path'.refl, (Reads'.as-is 𝓤 H A (Mut.mslice (DenSigned.SInt Syntax.w64) (Syntax.tyRef Syntax.erased Syntax.mut (Syntax.tyInt Syntax.w64)) 6), Mut.reads-mslice 𝓤 H A W (DenSigned.SInt Syntax.w64) (Syntax.tyRef Syntax.erased Syntax.mut (Syntax.tyInt Syntax.w64)) 6, Path'.refl, (Reads'.as-is 𝓤 H A (Mut.mslice (DenSigned.SInt Syntax.w64) (Syntax.tyRef Syntax.erased Syntax.mut (Syntax.tyInt Syntax.w64)) 7), Mut.reads-mslice 𝓤 H A W (DenSigned.SInt Syntax.w64) (Syntax.tyRef Syntax.erased Syntax.mut (Syntax.tyInt Syntax.w64)) 7, Path'.refl, tt)))))) (Reads'.room-gone 𝓤 H A (Syntax.tyStruct (List._∷_ 114 (List._∷_ 117 (List._∷_ 108 (List._∷_ 101 (List._∷_ 115 (List._∷_ 58 (List._∷_ 58 (List._∷_ 83 (List._∷_ 101 (List._∷_ 116 (List._∷_ 116 (List._∷_ 108 (List._∷_ 101 (List._∷_ 100 List.[])))))))))))))) (Syntax.tcons (Syntax.tyEnum (List._∷_ 114 (List._∷_ 117 (List._∷_ 108 (List._∷_ 101 (List._∷_ 115 (List._∷_ 58 (List._∷_ 58 (List._∷_ 65 (List._∷_ 110 (List._∷_ 115 (List._∷_ 119 (List._∷_ 101 (List._∷_ 114 List.[]))))))))))))) (Syntax.ttcons Syntax.tnil (Syntax.ttcons Syntax.tnil (Syntax.ttcons (Syntax.tcons (Syntax.tyInt Syntax.w64) Syntax.tnil) (Syntax.ttcons (Syntax.tcons (Syntax.tyInt Syntax.w64) Syntax.tnil) (Syntax.ttcons (Syntax.tcons (Syntax.tyInt Syntax.w64) Syntax.tnil) (Syntax.ttcons (Syntax.tcons (Syntax.tyInt Syntax.w64) Syntax.tnil) (Syntax.ttcons (Syntax.tcons (Syntax.tyInt Syntax.w64) Syntax.tnil) (Syntax.ttcons (Syntax.tcons (Syntax.tyInt Syntax.w64) Syntax.tnil) (Syntax.ttcons Syntax.tnil (Syntax.ttcons Syntax.tnil (Syntax.ttcons Syntax.tnil (Syntax.ttcons Syntax.tnil Syntax.ttnil))))))))))))) (Syntax.tcons (Syntax.tyArray (Syntax.tyInt Syntax.w64) 8) Syntax.tnil)))) (tt, (tt, (tt, (tt, tt)))) Path'.refl) d52
+          d53 = Typed.s-seq 𝓤 H A W 𝓣 E G19 G20 b14 b39 Δ0 (Typed.both s17) at52 (Plain.t-call-plain 𝓤 H A W 𝓣 4 ps·3 r·3 (claims· .6) (claims· .7) "pool::settle_apart" (known .3) E (λ pos β. β) G19 (record { pos = 1; ty = Syntax.tyRef (Syntax.named 0) Syntax.imm (Syntax.tyInt Syntax.w8); ref = λ x. x }, (record { pos = 7; st = List.[]; d = 0; at = λ x. x }, (Num.vAt 10 λ x. x, (record { pos = 12; ty = Syntax.tyRef Syntax.erased Syntax.mut (Syntax.tyInt Syntax.w64); ref = λ x. x }, (record { pos = 14; ty = Syntax.tyRef Syntax.erased Syntax.mut (Syntax.tyInt Syntax.w64); ref = λ x. x }, (record { pos = 16; ty = Syntax.tyRef Syntax.erased Syntax.mut (Syntax.tyInt Syntax.w64); ref = λ x. x }, tt)))))) 8 (List._∷_ 0 (List._∷_ 5 (List._∷_ 6 (List._∷_ 7 List.[])))) (Call.sub-id 𝓤 H A W (G19 .slots)) (ShrSlice.spares-sslice 𝓤 H A W (Referent.rtF (Referent.fInt Syntax.w8)) (Syntax.tyRef (Syntax.named 0) Syntax.imm (Syntax.tyInt Syntax.w8)) 0, Shared.reads-sslice 𝓤 H A W (Referent.rtF (Referent.fInt Syntax.w8)) (Syntax.tyRef (Syntax.named 0) Syntax.imm (Syntax.tyInt Syntax.w8)) 0, Path'.refl, ((TallyKit.yields 𝓤 H A W, Path'.refl), ((Scalar.reads-sc 𝓤 H A W (Row.sInt Syntax.w64), Path'.refl), (Reads'.as-is 𝓤 H A (Mut.mslice (DenSigned.SInt Syntax.w64) (Syntax.tyRef Syntax.erased Syntax.mut (Syntax.tyInt Syntax.w64)) 5), Mut.reads-mslice 𝓤 H A W (DenSigned.SInt Syntax.w64) (Syntax.tyRef Syntax.erased Syntax.mut (Syntax.tyInt Syntax.w64)) 5, Path'.refl, (Reads'.as-is 𝓤 H A (Mut.mslice (DenSigned.SInt Syntax.w64) (Syntax.tyRef Syntax.erased Syntax.mut (Syntax.tyInt Syntax.w64)) 6), Mut.reads-mslice 𝓤 H A W (DenSigned.SInt Syntax.w64) (Syntax.tyRef Syntax.erased Syntax.mut (Syntax.tyInt Syntax.w64)) 6, Path'.refl, (Reads'.as-is 𝓤 H A (Mut.mslice (DenSigned.SInt Syntax.w64) (Syntax.tyRef Syntax.erased Syntax.mut (Syntax.tyInt Syntax.w64)) 7), Mut.reads-mslice 𝓤 H A W (DenSigned.SInt Syntax.w64) (Syntax.tyRef Syntax.erased Syntax.mut (Syntax.tyInt Syntax.w64)) 7, Path'.refl, tt)))))) (Reads'.room-gone 𝓤 H A (Syntax.tyStruct (List._∷_ 114 (List._∷_ 117 (List._∷_ 108 (List._∷_ 101 (List._∷_ 115 (List._∷_ 58 (List._∷_ 58 (List._∷_ 83 (List._∷_ 101 (List._∷_ 116 (List._∷_ 116 (List._∷_ 108 (List._∷_ 101 (List._∷_ 100 List.[])))))))))))))) (Syntax.tcons (Syntax.tyEnum (List._∷_ 114 (List._∷_ 117 (List._∷_ 108 (List._∷_ 101 (List._∷_ 115 (List._∷_ 58 (List._∷_ 58 (List._∷_ 65 (List._∷_ 110 (List._∷_ 115 (List._∷_ 119 (List._∷_ 101 (List._∷_ 114 List.[]))))))))))))) (Syntax.ttcons Syntax.tnil (Syntax.ttcons Syntax.tnil (Syntax.ttcons (Syntax.tcons (Syntax.tyInt Syntax.w64) Syntax.tnil) (Syntax.ttcons (Syntax.tcons (Syntax.tyInt Syntax.w64) Syntax.tnil) (Syntax.ttcons (Syntax.tcons (Syntax.tyInt Syntax.w64) Syntax.tnil) (Syntax.ttcons (Syntax.tcons (Syntax.tyInt Syntax.w64) Syntax.tnil) (Syntax.ttcons (Syntax.tcons (Syntax.tyInt Syntax.w64) Syntax.tnil) (Syntax.ttcons (Syntax.tcons (Syntax.tyInt Syntax.w64) Syntax.tnil) (Syntax.ttcons Syntax.tnil (Syntax.ttcons Syntax.tnil (Syntax.ttcons Syntax.tnil (Syntax.ttcons Syntax.tnil Syntax.ttnil))))))))))))) (Syntax.tcons (Syntax.tyArray (Syntax.tyInt Syntax.w64) 8) Syntax.tnil)))) (tt, (tt, (tt, (tt, tt)))) Path'.refl) d52
 
           d54 : Typed.Typed 𝓤 H A 𝓣 E G18 b41 Δ0 at54
           d54 = Typed.s-seq 𝓤 H A W 𝓣 E G18 G19 b13 b40 Δ0 (Typed.ask s16) at53 (Relend.t-sl-aggregate 𝓤 H A W E (DenSigned.SInt Syntax.w64) 𝓣 (Relend.asMut (DenSigned.SInt Syntax.w64)) G18 15 16 7 (Syntax.tyRef Syntax.erased Syntax.mut (Syntax.tyInt Syntax.w64)) (Syntax.tyRef Syntax.erased Syntax.mut (Syntax.tyInt Syntax.w64)) (λ x. x) (Scalar.oFld 5 (List._∷_ (Syntax.field 1) List.[]) (Syntax.tyInt Syntax.w64) 8 λ v. Shared.lenV (v .0)) (Reads'.as-is 𝓤 H A (Relend.msptr (DenSigned.SInt Syntax.w64) (Syntax.tyRef Syntax.erased Syntax.mut (Syntax.tyInt Syntax.w64)) 7)) (Reads'.room-gone 𝓤 H A (Syntax.tyStruct (List._∷_ 38 (List._∷_ 91 (List._∷_ 93 List.[]))) (Syntax.tcons (Syntax.tyRef Syntax.erased Syntax.mut (Syntax.tyInt Syntax.w64)) (Syntax.tcons (Syntax.tyInt Syntax.w64) Syntax.tnil)))) (Relend.reads-owed-len 𝓤 H A W (DenSigned.SInt Syntax.w64) (Syntax.tyRef (Syntax.named 4) Syntax.mut (Syntax.tyInt Syntax.w64)) 4 7 (Row.lease (κs .1 .1 .1 .1 .0) (qs .1 .1 .1 .1 .0)) 8 Path'.refl, Path'.refl) Path'.refl Path'.refl λ b o k. tt) d53
@@ -1464,73 +1464,73 @@ module _ (claims· : Claims) where
       m10 = λ before given. s10 .next (m9 before given)
 
       module _ (before· : After-tally-of) where
-        pub record After-settle-tallied-arg·own : Type 0 where
+        pub record After-settle-apart-arg·own : Type 0 where
           pub given : s9 .gives (m8 (before· .before) (After-tally-of·gave before·))
 
-      pub record After-settle-tallied-arg : Type 0 where
+      pub record After-settle-apart-arg : Type 0 where
         pub before : After-tally-of
-        pub settle-tallied-arg : After-settle-tallied-arg·own before
+        pub settle-apart-arg : After-settle-apart-arg·own before
 
-      abbrev pub m11 : (before : After-settle-tallied-arg) → (given : s12 .gives (m10 (before .before) (before .settle-tallied-arg .given))) → Typed.Mo T15
-      m11 = λ before given. s12 .next (m10 (before .before) (before .settle-tallied-arg .given)) given
+      abbrev pub m11 : (before : After-settle-apart-arg) → (given : s12 .gives (m10 (before .before) (before .settle-apart-arg .given))) → Typed.Mo T15
+      m11 = λ before given. s12 .next (m10 (before .before) (before .settle-apart-arg .given)) given
 
-      abbrev pub m12 : (before : After-settle-tallied-arg) → (given : s12 .gives (m10 (before .before) (before .settle-tallied-arg .given))) → Typed.Mo T16
+      abbrev pub m12 : (before : After-settle-apart-arg) → (given : s12 .gives (m10 (before .before) (before .settle-apart-arg .given))) → Typed.Mo T16
       m12 = λ before given. s13 .next (m11 before given)
 
-      module _ (before· : After-settle-tallied-arg) where
-        pub record After-settle-tallied-arg2·own : Type 0 where
-          pub given : s12 .gives (m10 (before· .before) (before· .settle-tallied-arg .given))
+      module _ (before· : After-settle-apart-arg) where
+        pub record After-settle-apart-arg2·own : Type 0 where
+          pub given : s12 .gives (m10 (before· .before) (before· .settle-apart-arg .given))
 
-      pub record After-settle-tallied-arg2 : Type 0 where
-        pub before : After-settle-tallied-arg
-        pub settle-tallied-arg2 : After-settle-tallied-arg2·own before
+      pub record After-settle-apart-arg2 : Type 0 where
+        pub before : After-settle-apart-arg
+        pub settle-apart-arg2 : After-settle-apart-arg2·own before
 
-      abbrev pub m13 : (before : After-settle-tallied-arg2) → (given : s15 .gives (m12 (before .before) (before .settle-tallied-arg2 .given))) → Typed.Mo T18
-      m13 = λ before given. s15 .next (m12 (before .before) (before .settle-tallied-arg2 .given)) given
+      abbrev pub m13 : (before : After-settle-apart-arg2) → (given : s15 .gives (m12 (before .before) (before .settle-apart-arg2 .given))) → Typed.Mo T18
+      m13 = λ before given. s15 .next (m12 (before .before) (before .settle-apart-arg2 .given)) given
 
-      abbrev pub m14 : (before : After-settle-tallied-arg2) → (given : s15 .gives (m12 (before .before) (before .settle-tallied-arg2 .given))) → Typed.Mo T19
+      abbrev pub m14 : (before : After-settle-apart-arg2) → (given : s15 .gives (m12 (before .before) (before .settle-apart-arg2 .given))) → Typed.Mo T19
       m14 = λ before given. s16 .next (m13 before given)
 
-      module _ (before· : After-settle-tallied-arg2) where
-        pub record After-settle-tallied-arg3·own : Type 0 where
-          pub given : s15 .gives (m12 (before· .before) (before· .settle-tallied-arg2 .given))
+      module _ (before· : After-settle-apart-arg2) where
+        pub record After-settle-apart-arg3·own : Type 0 where
+          pub given : s15 .gives (m12 (before· .before) (before· .settle-apart-arg2 .given))
 
-      pub record After-settle-tallied-arg3 : Type 0 where
-        pub before : After-settle-tallied-arg2
-        pub settle-tallied-arg3 : After-settle-tallied-arg3·own before
+      pub record After-settle-apart-arg3 : Type 0 where
+        pub before : After-settle-apart-arg2
+        pub settle-apart-arg3 : After-settle-apart-arg3·own before
 
-      abbrev pub Need-settle-tallied-requires : Type 0
-      Need-settle-tallied-requires = (c : After-settle-tallied-arg3) → s17 .asks (m14 (c .before) (c .settle-tallied-arg3 .given))
+      abbrev pub Need-settle-apart-requires : Type 0
+      Need-settle-apart-requires = (c : After-settle-apart-arg3) → s17 .asks (m14 (c .before) (c .settle-apart-arg3 .given))
 
-      abbrev pub m15 : (before : After-settle-tallied-arg3) → (given : s17 .gives (m14 (before .before) (before .settle-tallied-arg3 .given))) → Typed.Mo T20
-      m15 = λ before given. s17 .next (m14 (before .before) (before .settle-tallied-arg3 .given)) given
+      abbrev pub m15 : (before : After-settle-apart-arg3) → (given : s17 .gives (m14 (before .before) (before .settle-apart-arg3 .given))) → Typed.Mo T20
+      m15 = λ before given. s17 .next (m14 (before .before) (before .settle-apart-arg3 .given)) given
 
-      module _ (before· : After-settle-tallied-arg3) where
-        abbrev pub After-settle-tallied·own : Type 0
-        After-settle-tallied·own = Called.Called ps·3 r·3 (claims· .7) T19 (record { pos = 1; ty = Syntax.tyRef (Syntax.named 0) Syntax.imm (Syntax.tyInt Syntax.w8); ref = λ x. x }, (record { pos = 7; st = List.[]; d = 0; at = λ x. x }, (Num.vAt 10 λ x. x, (record { pos = 12; ty = Syntax.tyRef Syntax.erased Syntax.mut (Syntax.tyInt Syntax.w64); ref = λ x. x }, (record { pos = 14; ty = Syntax.tyRef Syntax.erased Syntax.mut (Syntax.tyInt Syntax.w64); ref = λ x. x }, (record { pos = 16; ty = Syntax.tyRef Syntax.erased Syntax.mut (Syntax.tyInt Syntax.w64); ref = λ x. x }, tt)))))) (m14 (before· .before) (before· .settle-tallied-arg3 .given))
+      module _ (before· : After-settle-apart-arg3) where
+        abbrev pub After-settle-apart·own : Type 0
+        After-settle-apart·own = Called.Called ps·3 r·3 (claims· .7) T19 (record { pos = 1; ty = Syntax.tyRef (Syntax.named 0) Syntax.imm (Syntax.tyInt Syntax.w8); ref = λ x. x }, (record { pos = 7; st = List.[]; d = 0; at = λ x. x }, (Num.vAt 10 λ x. x, (record { pos = 12; ty = Syntax.tyRef Syntax.erased Syntax.mut (Syntax.tyInt Syntax.w64); ref = λ x. x }, (record { pos = 14; ty = Syntax.tyRef Syntax.erased Syntax.mut (Syntax.tyInt Syntax.w64); ref = λ x. x }, (record { pos = 16; ty = Syntax.tyRef Syntax.erased Syntax.mut (Syntax.tyInt Syntax.w64); ref = λ x. x }, tt)))))) (m14 (before· .before) (before· .settle-apart-arg3 .given))
 
-      pub record After-settle-tallied : Type 0 where
-        pub before : After-settle-tallied-arg3
-        pub settle-tallied : After-settle-tallied·own before
+      pub record After-settle-apart : Type 0 where
+        pub before : After-settle-apart-arg3
+        pub settle-apart : After-settle-apart·own before
 
-      abbrev pub After-settle-tallied·gave : (c : After-settle-tallied) → s17 .gives (m14 (c .before .before) (c .before .settle-tallied-arg3 .given))
-      After-settle-tallied·gave = λ c. Called.given ps·3 r·3 (claims· .7) T19 (record { pos = 1; ty = Syntax.tyRef (Syntax.named 0) Syntax.imm (Syntax.tyInt Syntax.w8); ref = λ x. x }, (record { pos = 7; st = List.[]; d = 0; at = λ x. x }, (Num.vAt 10 λ x. x, (record { pos = 12; ty = Syntax.tyRef Syntax.erased Syntax.mut (Syntax.tyInt Syntax.w64); ref = λ x. x }, (record { pos = 14; ty = Syntax.tyRef Syntax.erased Syntax.mut (Syntax.tyInt Syntax.w64); ref = λ x. x }, (record { pos = 16; ty = Syntax.tyRef Syntax.erased Syntax.mut (Syntax.tyInt Syntax.w64); ref = λ x. x }, tt)))))) (m14 (c .before .before) (c .before .settle-tallied-arg3 .given)) (c .settle-tallied)
+      abbrev pub After-settle-apart·gave : (c : After-settle-apart) → s17 .gives (m14 (c .before .before) (c .before .settle-apart-arg3 .given))
+      After-settle-apart·gave = λ c. Called.given ps·3 r·3 (claims· .7) T19 (record { pos = 1; ty = Syntax.tyRef (Syntax.named 0) Syntax.imm (Syntax.tyInt Syntax.w8); ref = λ x. x }, (record { pos = 7; st = List.[]; d = 0; at = λ x. x }, (Num.vAt 10 λ x. x, (record { pos = 12; ty = Syntax.tyRef Syntax.erased Syntax.mut (Syntax.tyInt Syntax.w64); ref = λ x. x }, (record { pos = 14; ty = Syntax.tyRef Syntax.erased Syntax.mut (Syntax.tyInt Syntax.w64); ref = λ x. x }, (record { pos = 16; ty = Syntax.tyRef Syntax.erased Syntax.mut (Syntax.tyInt Syntax.w64); ref = λ x. x }, tt)))))) (m14 (c .before .before) (c .before .settle-apart-arg3 .given)) (c .settle-apart)
 
-      abbrev pub m16 : (before : After-settle-tallied-arg3) → (given : s17 .gives (m14 (before .before) (before .settle-tallied-arg3 .given))) → Typed.Mo T21
+      abbrev pub m16 : (before : After-settle-apart-arg3) → (given : s17 .gives (m14 (before .before) (before .settle-apart-arg3 .given))) → Typed.Mo T21
       m16 = λ before given. s18 (m15 before given)
 
-      abbrev pub m17 : (before : After-settle-tallied-arg3) → (given : s17 .gives (m14 (before .before) (before .settle-tallied-arg3 .given))) → Typed.Mo T22
+      abbrev pub m17 : (before : After-settle-apart-arg3) → (given : s17 .gives (m14 (before .before) (before .settle-apart-arg3 .given))) → Typed.Mo T22
       m17 = λ before given. s19 (m16 before given)
 
-      abbrev pub m18 : (before : After-settle-tallied) → (given : s21 .gives (m17 (before .before) (After-settle-tallied·gave before))) → Typed.Mo T24
-      m18 = λ before given. s21 .next (m17 (before .before) (After-settle-tallied·gave before)) given
+      abbrev pub m18 : (before : After-settle-apart) → (given : s21 .gives (m17 (before .before) (After-settle-apart·gave before))) → Typed.Mo T24
+      m18 = λ before given. s21 .next (m17 (before .before) (After-settle-apart·gave before)) given
 
-      module _ (before· : After-settle-tallied) where
+      module _ (before· : After-settle-apart) where
         pub record After-charges·own : Type 0 where
-          pub given : s21 .gives (m17 (before· .before) (After-settle-tallied·gave before·))
+          pub given : s21 .gives (m17 (before· .before) (After-settle-apart·gave before·))
 
       pub record After-charges : Type 0 where
-        pub before : After-settle-tallied
+        pub before : After-settle-apart
         pub charges : After-charges·own before
 
       abbrev pub m19 : (before : After-charges) → (given : s24 .gives (m18 (before .before) (before .charges .given))) → Typed.Mo T27
@@ -1721,18 +1721,18 @@ module _ (claims· : Claims) where
       abbrev pub Need-returns-3 : Type 0
       Need-returns-3 = (c : After-lines) → Post· (c .before .before .before .before .before .before .before .before .before .before .before .before .before .before .before .before .before .before .before .κs) (dens (c .before .before .before .before .before .before .before .before .before .before .before .before .before .before .before .before .before .before .before .κs) (c .before .before .before .before .before .before .before .before .before .before .before .before .before .before .before .before .before .before .before .args)) (Function.resV r (c .before .before .before .before .before .before .before .before .before .before .before .before .before .before .before .before .before .before .before .κs) (m41 (c .before) (c .lines .given) .0)) (Clauses.atExit (Kinds.endedOf 5 ps r) (c .before .before .before .before .before .before .before .before .before .before .before .before .before .before .before .before .before .before .before .κs) (dens (c .before .before .before .before .before .before .before .before .before .before .before .before .before .before .before .before .before .before .before .κs) (c .before .before .before .before .before .before .before .before .before .before .before .before .before .before .before .before .before .before .before .args)) (Enter.lastsP (c .before .before .before .before .before .before .before .before .before .before .before .before .before .before .before .before .before .before .before .κs) 1 ps xs (dens (c .before .before .before .before .before .before .before .before .before .before .before .before .before .before .before .before .before .before .before .κs) (c .before .before .before .before .before .before .before .before .before .before .before .before .before .before .before .before .before .before .before .args)) (m41 (c .before) (c .lines .given) .1)))
 
-      module _ (examine-requires : Need-examine-requires) (enum-told : Need-enum-told) (refused-requires : Need-refused-requires) (returns : Need-returns) (tally-of-requires : Need-tally-of-requires) (settle-tallied-requires : Need-settle-tallied-requires) (enum-told-2 : Need-enum-told-2) (same-length : Need-same-length) (same-length-2 : Need-same-length-2) (same-length-3 : Need-same-length-3) (returns-2 : Need-returns-2) (put-lines-requires : Need-put-lines-requires) (same-length-4 : Need-same-length-4) (same-length-5 : Need-same-length-5) (same-length-6 : Need-same-length-6) (same-length-7 : Need-same-length-7) (returns-3 : Need-returns-3) where
+      module _ (examine-requires : Need-examine-requires) (enum-told : Need-enum-told) (refused-requires : Need-refused-requires) (returns : Need-returns) (tally-of-requires : Need-tally-of-requires) (settle-apart-requires : Need-settle-apart-requires) (enum-told-2 : Need-enum-told-2) (same-length : Need-same-length) (same-length-2 : Need-same-length-2) (same-length-3 : Need-same-length-3) (returns-2 : Need-returns-2) (put-lines-requires : Need-put-lines-requires) (same-length-4 : Need-same-length-4) (same-length-5 : Need-same-length-5) (same-length-6 : Need-same-length-6) (same-length-7 : Need-same-length-7) (returns-3 : Need-returns-3) where
         lay7 : (c : After-put-lines) → at29 (W0 (c .before .before .before .before .before .before .before .before .before .before .before .before .before .before .before .before .before .before .κs) (c .before .before .before .before .before .before .before .before .before .before .before .before .before .before .before .before .before .before .args)) (m33 (c .before) (After-put-lines·gave c))
         lay7 = λ c. (Path'.refl, λ g. ((Path'.refl, (MutSlice.fix-len (Row.get 2 (T62 .locals) (m41 record { before = c .before; put-lines = c .put-lines } g) .ptr) (Row.get 2 (T62 .locals) (m41 record { before = c .before; put-lines = c .put-lines } g) .name) (Row.get 2 (T62 .locals) (m41 record { before = c .before; put-lines = c .put-lines } g) .now) (dens (c .before .before .before .before .before .before .before .before .before .before .before .before .before .before .before .before .before .before .κs) (c .before .before .before .before .before .before .before .before .before .before .before .before .before .before .before .before .before .before .args) .1 .0 .now) (same-length-4 record { before = record { before = c .before; put-lines = c .put-lines }; lines = record { given = g } }), (MutSlice.fix-len (Row.get 3 (T62 .locals) (m41 record { before = c .before; put-lines = c .put-lines } g) .ptr) (Row.get 3 (T62 .locals) (m41 record { before = c .before; put-lines = c .put-lines } g) .name) (Row.get 3 (T62 .locals) (m41 record { before = c .before; put-lines = c .put-lines } g) .now) (dens (c .before .before .before .before .before .before .before .before .before .before .before .before .before .before .before .before .before .before .κs) (c .before .before .before .before .before .before .before .before .before .before .before .before .before .before .before .before .before .before .args) .1 .1 .0 .now) (same-length-5 record { before = record { before = c .before; put-lines = c .put-lines }; lines = record { given = g } }), (MutSlice.fix-len (Row.get 4 (T62 .locals) (m41 record { before = c .before; put-lines = c .put-lines } g) .ptr) (Row.get 4 (T62 .locals) (m41 record { before = c .before; put-lines = c .put-lines } g) .name) (Row.get 4 (T62 .locals) (m41 record { before = c .before; put-lines = c .put-lines } g) .now) (dens (c .before .before .before .before .before .before .before .before .before .before .before .before .before .before .before .before .before .before .κs) (c .before .before .before .before .before .before .before .before .before .before .before .before .before .before .before .before .before .before .args) .1 .1 .1 .0 .now) (same-length-6 record { before = record { before = c .before; put-lines = c .put-lines }; lines = record { given = g } }), (MutSlice.fix-len (Row.get 5 (T62 .locals) (m41 record { before = c .before; put-lines = c .put-lines } g) .ptr) (Row.get 5 (T62 .locals) (m41 record { before = c .before; put-lines = c .put-lines } g) .name) (Row.get 5 (T62 .locals) (m41 record { before = c .before; put-lines = c .put-lines } g) .now) (dens (c .before .before .before .before .before .before .before .before .before .before .before .before .before .before .before .before .before .before .κs) (c .before .before .before .before .before .before .before .before .before .before .before .before .before .before .before .before .before .before .args) .1 .1 .1 .1 .0 .now) (same-length-7 record { before = record { before = c .before; put-lines = c .put-lines }; lines = record { given = g } }), tt))))), returns-3 record { before = record { before = c .before; put-lines = c .put-lines }; lines = record { given = g } }))
 
         lay6 : (c : After-enum-told2) → at39 (W0 (c .before .before .before .before .before .before .before .before .before .before .before .before .before .before .κs) (c .before .before .before .before .before .before .before .before .before .before .before .before .before .before .args)) (m23 (c .before) (c .enum-told2 .given))
         lay6 = λ c. λ g. (Path'.refl, λ g'. (Path'.refl, λ g''. (Path'.refl, (put-lines-requires record { before = record { before = record { before = record { before = c .before; enum-told2 = c .enum-told2 }; put-lines-arg = record { given = g } }; put-lines-arg2 = record { given = g' } }; put-lines-arg3 = record { given = g'' } }, λ g'3. lay7 record { before = record { before = record { before = record { before = record { before = c .before; enum-told2 = c .enum-told2 }; put-lines-arg = record { given = g } }; put-lines-arg2 = record { given = g' } }; put-lines-arg3 = record { given = g'' } }; put-lines = Called.called ps·4 r·4 (claims· .9) T47 (record { pos = 1; ty = Syntax.tyRef (Syntax.named 0) Syntax.imm (Syntax.tyInt Syntax.w8); ref = λ x. x }, (record { pos = 19; ty = Syntax.tyRef Syntax.erased Syntax.imm (Syntax.tyInt Syntax.w64); ref = λ x. x }, (record { pos = 21; ty = Syntax.tyRef Syntax.erased Syntax.imm (Syntax.tyInt Syntax.w64); ref = λ x. x }, (record { pos = 23; ty = Syntax.tyRef Syntax.erased Syntax.mut LineKit.behind; ref = λ x. x }, tt)))) (m32 record { before = record { before = record { before = c .before; enum-told2 = c .enum-told2 }; put-lines-arg = record { given = g } }; put-lines-arg2 = record { given = g' } } g'') g'3 }))))
 
-        lay5 : (c : After-settle-tallied) → at52 (W0 (c .before .before .before .before .before .before .before .before .before .κs) (c .before .before .before .before .before .before .before .before .before .args)) (m15 (c .before) (After-settle-tallied·gave c))
-        lay5 = λ c. (Path'.refl, λ g. (Path'.refl, λ g'. (Path'.refl, λ g''. (λ k. (enum-told-2 record { before = record { before = record { before = record { before = record { before = c .before; settle-tallied = c .settle-tallied }; charges = record { given = g } }; shares = record { given = g' } }; deviations = record { given = g'' } }; match2 = record { keys1 = k } }, λ g'3. lay6 record { before = record { before = record { before = record { before = record { before = record { before = c .before; settle-tallied = c .settle-tallied }; charges = record { given = g } }; shares = record { given = g' } }; deviations = record { given = g'' } }; match2 = record { keys1 = k } }; enum-told2 = record { given = g'3 } }), (λ k. ((Path'.refl, (Path'.refl, (MutSlice.fix-len (Row.get 3 (T38 .locals) (m26 record { before = record { before = record { before = record { before = c .before; settle-tallied = c .settle-tallied }; charges = record { given = g } }; shares = record { given = g' } }; deviations = record { given = g'' } }) .ptr) (Row.get 3 (T38 .locals) (m26 record { before = record { before = record { before = record { before = c .before; settle-tallied = c .settle-tallied }; charges = record { given = g } }; shares = record { given = g' } }; deviations = record { given = g'' } }) .name) (Row.get 3 (T38 .locals) (m26 record { before = record { before = record { before = record { before = c .before; settle-tallied = c .settle-tallied }; charges = record { given = g } }; shares = record { given = g' } }; deviations = record { given = g'' } }) .now) (dens (c .before .before .before .before .before .before .before .before .before .κs) (c .before .before .before .before .before .before .before .before .before .args) .1 .1 .0 .now) (same-length record { before = record { before = record { before = record { before = record { before = c .before; settle-tallied = c .settle-tallied }; charges = record { given = g } }; shares = record { given = g' } }; deviations = record { given = g'' } }; match2 = record { keys2 = k } }), (MutSlice.fix-len (Row.get 4 (T38 .locals) (m26 record { before = record { before = record { before = record { before = c .before; settle-tallied = c .settle-tallied }; charges = record { given = g } }; shares = record { given = g' } }; deviations = record { given = g'' } }) .ptr) (Row.get 4 (T38 .locals) (m26 record { before = record { before = record { before = record { before = c .before; settle-tallied = c .settle-tallied }; charges = record { given = g } }; shares = record { given = g' } }; deviations = record { given = g'' } }) .name) (Row.get 4 (T38 .locals) (m26 record { before = record { before = record { before = record { before = c .before; settle-tallied = c .settle-tallied }; charges = record { given = g } }; shares = record { given = g' } }; deviations = record { given = g'' } }) .now) (dens (c .before .before .before .before .before .before .before .before .before .κs) (c .before .before .before .before .before .before .before .before .before .args) .1 .1 .1 .0 .now) (same-length-2 record { before = record { before = record { before = record { before = record { before = c .before; settle-tallied = c .settle-tallied }; charges = record { given = g } }; shares = record { given = g' } }; deviations = record { given = g'' } }; match2 = record { keys2 = k } }), (MutSlice.fix-len (Row.get 5 (T38 .locals) (m26 record { before = record { before = record { before = record { before = c .before; settle-tallied = c .settle-tallied }; charges = record { given = g } }; shares = record { given = g' } }; deviations = record { given = g'' } }) .ptr) (Row.get 5 (T38 .locals) (m26 record { before = record { before = record { before = record { before = c .before; settle-tallied = c .settle-tallied }; charges = record { given = g } }; shares = record { given = g' } }; deviations = record { given = g'' } }) .name) (Row.get 5 (T38 .locals) (m26 record { before = record { before = record { before = record { before = c .before; settle-tallied = c .settle-tallied }; charges = record { given = g } }; shares = record { given = g' } }; deviations = record { given = g'' } }) .now) (dens (c .before .before .before .before .before .before .before .before .before .κs) (c .before .before .before .before .before .before .before .before .before .args) .1 .1 .1 .1 .0 .now) (same-length-3 record { before = record { before = record { before = record { before = record { before = c .before; settle-tallied = c .settle-tallied }; charges = record { given = g } }; shares = record { given = g' } }; deviations = record { given = g'' } }; match2 = record { keys2 = k } }), tt))))), returns-2 record { before = record { before = record { before = record { before = record { before = c .before; settle-tallied = c .settle-tallied }; charges = record { given = g } }; shares = record { given = g' } }; deviations = record { given = g'' } }; match2 = record { keys2 = k } }), Match.each-below 12 (λ j. (Unit {0} × (Run.OneOf (List._∷_ 0 List.[]) j → ⊥)) × (Run.OneOf (List._∷_ 1 (List._∷_ 2 (List._∷_ 3 (List._∷_ 4 (List._∷_ 5 (List._∷_ 6 (List._∷_ 7 (List._∷_ 8 (List._∷_ 9 (List._∷_ 10 (List._∷_ 11 List.[]))))))))))) j → ⊥) → ⊥) (λ n. n .1 (Logic.inr (Logic.inr (Logic.inr (Logic.inr (Logic.inr (Logic.inr (Logic.inr (Logic.inr (Logic.inr (Logic.inr Path'.refl)))))))))), (λ n. n .1 (Logic.inr (Logic.inr (Logic.inr (Logic.inr (Logic.inr (Logic.inr (Logic.inr (Logic.inr (Logic.inr (Logic.inl Path'.refl)))))))))), (λ n. n .1 (Logic.inr (Logic.inr (Logic.inr (Logic.inr (Logic.inr (Logic.inr (Logic.inr (Logic.inr (Logic.inl Path'.refl))))))))), (λ n. n .1 (Logic.inr (Logic.inr (Logic.inr (Logic.inr (Logic.inr (Logic.inr (Logic.inr (Logic.inl Path'.refl)))))))), (λ n. n .1 (Logic.inr (Logic.inr (Logic.inr (Logic.inr (Logic.inr (Logic.inr (Logic.inl Path'.refl))))))), (λ n. n .1 (Logic.inr (Logic.inr (Logic.inr (Logic.inr (Logic.inr (Logic.inl Path'.refl)))))), (λ n. n .1 (Logic.inr (Logic.inr (Logic.inr (Logic.inr (Logic.inl Path'.refl))))), (λ n. n .1 (Logic.inr (Logic.inr (Logic.inr (Logic.inl Path'.refl)))), (λ n. n .1 (Logic.inr (Logic.inr (Logic.inl Path'.refl))), (λ n. n .1 (Logic.inr (Logic.inl Path'.refl)), (λ n. n .1 (Logic.inl Path'.refl), (λ n. n .0 .1 Path'.refl, tt)))))))))))) (Declared.tagOf Answer.the-type (Row.get 9 (T32 .locals) (m21 record { before = record { before = record { before = c .before; settle-tallied = c .settle-tallied }; charges = record { given = g } }; shares = record { given = g' } } g''))) (Match.tag-small Answer.the-type (Row.get 9 (T32 .locals) (m21 record { before = record { before = record { before = c .before; settle-tallied = c .settle-tallied }; charges = record { given = g } }; shares = record { given = g' } } g''))))))))
+        lay5 : (c : After-settle-apart) → at52 (W0 (c .before .before .before .before .before .before .before .before .before .κs) (c .before .before .before .before .before .before .before .before .before .args)) (m15 (c .before) (After-settle-apart·gave c))
+        lay5 = λ c. (Path'.refl, λ g. (Path'.refl, λ g'. (Path'.refl, λ g''. (λ k. (enum-told-2 record { before = record { before = record { before = record { before = record { before = c .before; settle-apart = c .settle-apart }; charges = record { given = g } }; shares = record { given = g' } }; deviations = record { given = g'' } }; match2 = record { keys1 = k } }, λ g'3. lay6 record { before = record { before = record { before = record { before = record { before = record { before = c .before; settle-apart = c .settle-apart }; charges = record { given = g } }; shares = record { given = g' } }; deviations = record { given = g'' } }; match2 = record { keys1 = k } }; enum-told2 = record { given = g'3 } }), (λ k. ((Path'.refl, (Path'.refl, (MutSlice.fix-len (Row.get 3 (T38 .locals) (m26 record { before = record { before = record { before = record { before = c .before; settle-apart = c .settle-apart }; charges = record { given = g } }; shares = record { given = g' } }; deviations = record { given = g'' } }) .ptr) (Row.get 3 (T38 .locals) (m26 record { before = record { before = record { before = record { before = c .before; settle-apart = c .settle-apart }; charges = record { given = g } }; shares = record { given = g' } }; deviations = record { given = g'' } }) .name) (Row.get 3 (T38 .locals) (m26 record { before = record { before = record { before = record { before = c .before; settle-apart = c .settle-apart }; charges = record { given = g } }; shares = record { given = g' } }; deviations = record { given = g'' } }) .now) (dens (c .before .before .before .before .before .before .before .before .before .κs) (c .before .before .before .before .before .before .before .before .before .args) .1 .1 .0 .now) (same-length record { before = record { before = record { before = record { before = record { before = c .before; settle-apart = c .settle-apart }; charges = record { given = g } }; shares = record { given = g' } }; deviations = record { given = g'' } }; match2 = record { keys2 = k } }), (MutSlice.fix-len (Row.get 4 (T38 .locals) (m26 record { before = record { before = record { before = record { before = c .before; settle-apart = c .settle-apart }; charges = record { given = g } }; shares = record { given = g' } }; deviations = record { given = g'' } }) .ptr) (Row.get 4 (T38 .locals) (m26 record { before = record { before = record { before = record { before = c .before; settle-apart = c .settle-apart }; charges = record { given = g } }; shares = record { given = g' } }; deviations = record { given = g'' } }) .name) (Row.get 4 (T38 .locals) (m26 record { before = record { before = record { before = record { before = c .before; settle-apart = c .settle-apart }; charges = record { given = g } }; shares = record { given = g' } }; deviations = record { given = g'' } }) .now) (dens (c .before .before .before .before .before .before .before .before .before .κs) (c .before .before .before .before .before .before .before .before .before .args) .1 .1 .1 .0 .now) (same-length-2 record { before = record { before = record { before = record { before = record { before = c .before; settle-apart = c .settle-apart }; charges = record { given = g } }; shares = record { given = g' } }; deviations = record { given = g'' } }; match2 = record { keys2 = k } }), (MutSlice.fix-len (Row.get 5 (T38 .locals) (m26 record { before = record { before = record { before = record { before = c .before; settle-apart = c .settle-apart }; charges = record { given = g } }; shares = record { given = g' } }; deviations = record { given = g'' } }) .ptr) (Row.get 5 (T38 .locals) (m26 record { before = record { before = record { before = record { before = c .before; settle-apart = c .settle-apart }; charges = record { given = g } }; shares = record { given = g' } }; deviations = record { given = g'' } }) .name) (Row.get 5 (T38 .locals) (m26 record { before = record { before = record { before = record { before = c .before; settle-apart = c .settle-apart }; charges = record { given = g } }; shares = record { given = g' } }; deviations = record { given = g'' } }) .now) (dens (c .before .before .before .before .before .before .before .before .before .κs) (c .before .before .before .before .before .before .before .before .before .args) .1 .1 .1 .1 .0 .now) (same-length-3 record { before = record { before = record { before = record { before = record { before = c .before; settle-apart = c .settle-apart }; charges = record { given = g } }; shares = record { given = g' } }; deviations = record { given = g'' } }; match2 = record { keys2 = k } }), tt))))), returns-2 record { before = record { before = record { before = record { before = record { before = c .before; settle-apart = c .settle-apart }; charges = record { given = g } }; shares = record { given = g' } }; deviations = record { given = g'' } }; match2 = record { keys2 = k } }), Match.each-below 12 (λ j. (Unit {0} × (Run.OneOf (List._∷_ 0 List.[]) j → ⊥)) × (Run.OneOf (List._∷_ 1 (List._∷_ 2 (List._∷_ 3 (List._∷_ 4 (List._∷_ 5 (List._∷_ 6 (List._∷_ 7 (List._∷_ 8 (List._∷_ 9 (List._∷_ 10 (List._∷_ 11 List.[]))))))))))) j → ⊥) → ⊥) (λ n. n .1 (Logic.inr (Logic.inr (Logic.inr (Logic.inr (Logic.inr (Logic.inr (Logic.inr (Logic.inr (Logic.inr (Logic.inr Path'.refl)))))))))), (λ n. n .1 (Logic.inr (Logic.inr (Logic.inr (Logic.inr (Logic.inr (Logic.inr (Logic.inr (Logic.inr (Logic.inr (Logic.inl Path'.refl)))))))))), (λ n. n .1 (Logic.inr (Logic.inr (Logic.inr (Logic.inr (Logic.inr (Logic.inr (Logic.inr (Logic.inr (Logic.inl Path'.refl))))))))), (λ n. n .1 (Logic.inr (Logic.inr (Logic.inr (Logic.inr (Logic.inr (Logic.inr (Logic.inr (Logic.inl Path'.refl)))))))), (λ n. n .1 (Logic.inr (Logic.inr (Logic.inr (Logic.inr (Logic.inr (Logic.inr (Logic.inl Path'.refl))))))), (λ n. n .1 (Logic.inr (Logic.inr (Logic.inr (Logic.inr (Logic.inr (Logic.inl Path'.refl)))))), (λ n. n .1 (Logic.inr (Logic.inr (Logic.inr (Logic.inr (Logic.inl Path'.refl))))), (λ n. n .1 (Logic.inr (Logic.inr (Logic.inr (Logic.inl Path'.refl)))), (λ n. n .1 (Logic.inr (Logic.inr (Logic.inl Path'.refl))), (λ n. n .1 (Logic.inr (Logic.inl Path'.refl)), (λ n. n .1 (Logic.inl Path'.refl), (λ n. n .0 .1 Path'.refl, tt)))))))))))) (Declared.tagOf Answer.the-type (Row.get 9 (T32 .locals) (m21 record { before = record { before = record { before = c .before; settle-apart = c .settle-apart }; charges = record { given = g } }; shares = record { given = g' } } g''))) (Match.tag-small Answer.the-type (Row.get 9 (T32 .locals) (m21 record { before = record { before = record { before = c .before; settle-apart = c .settle-apart }; charges = record { given = g } }; shares = record { given = g' } } g''))))))))
 
         lay4 : (c : After-tally-of) → at63 (W0 (c .before .before .before .before .before .κs) (c .before .before .before .before .before .args)) (m7 (c .before) (After-tally-of·gave c))
-        lay4 = λ c. λ g. (Path'.refl, λ g'. (Path'.refl, λ g''. (Path'.refl, (settle-tallied-requires record { before = record { before = record { before = record { before = c .before; tally-of = c .tally-of }; settle-tallied-arg = record { given = g } }; settle-tallied-arg2 = record { given = g' } }; settle-tallied-arg3 = record { given = g'' } }, λ g'3. lay5 record { before = record { before = record { before = record { before = record { before = c .before; tally-of = c .tally-of }; settle-tallied-arg = record { given = g } }; settle-tallied-arg2 = record { given = g' } }; settle-tallied-arg3 = record { given = g'' } }; settle-tallied = Called.called ps·3 r·3 (claims· .7) T19 (record { pos = 1; ty = Syntax.tyRef (Syntax.named 0) Syntax.imm (Syntax.tyInt Syntax.w8); ref = λ x. x }, (record { pos = 7; st = List.[]; d = 0; at = λ x. x }, (Num.vAt 10 λ x. x, (record { pos = 12; ty = Syntax.tyRef Syntax.erased Syntax.mut (Syntax.tyInt Syntax.w64); ref = λ x. x }, (record { pos = 14; ty = Syntax.tyRef Syntax.erased Syntax.mut (Syntax.tyInt Syntax.w64); ref = λ x. x }, (record { pos = 16; ty = Syntax.tyRef Syntax.erased Syntax.mut (Syntax.tyInt Syntax.w64); ref = λ x. x }, tt)))))) (m14 record { before = record { before = record { before = c .before; tally-of = c .tally-of }; settle-tallied-arg = record { given = g } }; settle-tallied-arg2 = record { given = g' } } g'') g'3 }))))
+        lay4 = λ c. λ g. (Path'.refl, λ g'. (Path'.refl, λ g''. (Path'.refl, (settle-apart-requires record { before = record { before = record { before = record { before = c .before; tally-of = c .tally-of }; settle-apart-arg = record { given = g } }; settle-apart-arg2 = record { given = g' } }; settle-apart-arg3 = record { given = g'' } }, λ g'3. lay5 record { before = record { before = record { before = record { before = record { before = c .before; tally-of = c .tally-of }; settle-apart-arg = record { given = g } }; settle-apart-arg2 = record { given = g' } }; settle-apart-arg3 = record { given = g'' } }; settle-apart = Called.called ps·3 r·3 (claims· .7) T19 (record { pos = 1; ty = Syntax.tyRef (Syntax.named 0) Syntax.imm (Syntax.tyInt Syntax.w8); ref = λ x. x }, (record { pos = 7; st = List.[]; d = 0; at = λ x. x }, (Num.vAt 10 λ x. x, (record { pos = 12; ty = Syntax.tyRef Syntax.erased Syntax.mut (Syntax.tyInt Syntax.w64); ref = λ x. x }, (record { pos = 14; ty = Syntax.tyRef Syntax.erased Syntax.mut (Syntax.tyInt Syntax.w64); ref = λ x. x }, (record { pos = 16; ty = Syntax.tyRef Syntax.erased Syntax.mut (Syntax.tyInt Syntax.w64); ref = λ x. x }, tt)))))) (m14 record { before = record { before = record { before = c .before; tally-of = c .tally-of }; settle-apart-arg = record { given = g } }; settle-apart-arg2 = record { given = g' } } g'') g'3 }))))
 
         lay3 : (c : After-enum-told) → at64 (W0 (c .before .before .before .before .κs) (c .before .before .before .before .args)) (m4 (c .before) (c .enum-told .given))
         lay3 = λ c. (tally-of-requires record { before = c .before; enum-told = c .enum-told }, λ g. lay4 record { before = record { before = c .before; enum-told = c .enum-told }; tally-of = Called.called ps·2 r·2 (claims· .5) T4 (record { pos = 1; ty = Syntax.tyRef (Syntax.named 0) Syntax.imm (Syntax.tyInt Syntax.w8); ref = λ x. x }, tt) (m4 (c .before) (c .enum-told .given)) g })
@@ -1750,6 +1750,6 @@ module _ (claims· : Claims) where
           pub asked : (a : Kinds.Dens κs ps) → (good : Kinds.GoodsP κs ps a) → (pre : Pre· κs a) → (bs : List.List Nat.ℕ) → Φ (Any.wantQ 5 ps r xs m κs qs a (Post· κs a)) (Function.init 5 ps r xs m κs qs a)
           asked = λ a good pre bs. laid record { κs = κs; args = record { file = a .0; lines = a .1 .0; charges = a .1 .1 .0; shares = a .1 .1 .1 .0; deviations = a .1 .1 .1 .1 .0 }; good = good; pre = pre }
 
-        module _ {M : Type 1} (𝓤 : URA.URA M) (H : Wp.Heap 𝓤) (A : Atoms.Atoms 𝓤) (W : Kit.Given 𝓤 H A) (𝓣 : Wp.Tables 𝓤 H) (known0 : Plain.Known 𝓤 H A W 𝓣 1 ps·0 r·0 (claims· .0) (claims· .1) "examine::examine") (known1 : Plain.Known 𝓤 H A W 𝓣 0 ps·1 r·1 (claims· .2) (claims· .3) "pool::refused") (known2 : Plain.Known 𝓤 H A W 𝓣 1 ps·2 r·2 (claims· .4) (claims· .5) "pool::tally_of") (known3 : Plain.Known 𝓤 H A W 𝓣 4 ps·3 r·3 (claims· .6) (claims· .7) "pool::settle_tallied") (known4 : Plain.Known 𝓤 H A W 𝓣 4 ps·4 r·4 (claims· .8) (claims· .9) "pool::put_lines") where
+        module _ {M : Type 1} (𝓤 : URA.URA M) (H : Wp.Heap 𝓤) (A : Atoms.Atoms 𝓤) (W : Kit.Given 𝓤 H A) (𝓣 : Wp.Tables 𝓤 H) (known0 : Plain.Known 𝓤 H A W 𝓣 1 ps·0 r·0 (claims· .0) (claims· .1) "examine::examine") (known1 : Plain.Known 𝓤 H A W 𝓣 0 ps·1 r·1 (claims· .2) (claims· .3) "answer::refused") (known2 : Plain.Known 𝓤 H A W 𝓣 1 ps·2 r·2 (claims· .4) (claims· .5) "pool::tally_of") (known3 : Plain.Known 𝓤 H A W 𝓣 4 ps·3 r·3 (claims· .6) (claims· .7) "pool::settle_apart") (known4 : Plain.Known 𝓤 H A W 𝓣 4 ps·4 r·4 (claims· .8) (claims· .9) "pool::put_lines") where
           pub spec : Statement.Triple 𝓤 (Wp.WpFn 𝓤 H (𝓣 .C) (𝓣 .Λ) (Function.fnOf 5 ps r xs m hs body)) (Function.plainOf 𝓤 H A 5 ps r Pre· Post·)
           spec = Plain.t-fn-plain 𝓤 H A W 𝓣 5 ps r xs m hs body (λ κs qs bs. Φ) (λ κs qs bs bd. typed κs qs 𝓤 H A W 𝓣 (known0, known1, known2, known3, known4) bs bd) Pre· Post· asked

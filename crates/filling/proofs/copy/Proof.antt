@@ -1,4 +1,4 @@
--- `settle::copy` meets its contract. The loop's invariant: the places passed hold what is held there.
+-- `filling::copy` meets its contract. The loop's invariant: the places passed hold what is held there.
 use mathlib.Core.Path.{_≡_, sym, _∙_, ap}
 use Prim.Native.Nat.{_-_, _≤_}
 use native.Mathlib.Omega.{arith}
@@ -9,8 +9,8 @@ use mir.ValLaws.{toZ-ofZ}
 use borrow.Author.Needs.{sfits-of}
 use Rattle.whole.specs.Below.{replacingFirst}
 use Rattle.whole.proofs.Buffers.{replacing-none, written-length, written-next}
-use Rattle.settle.proofs.copy.Statement.{statement}
-use Rattle.settle.proofs.copy.Tie as tie
+use Rattle.filling.proofs.copy.Statement.{statement}
+use Rattle.filling.proofs.copy.Tie as tie
 
 abbrev Inv-loop : tie.InvT-loop
 Inv-loop held out₀ i₀ out i = (i ≤ length held) × (out ≡ replacingFirst (λ k. getD held k (pos 0)) i out₀)
@@ -40,7 +40,11 @@ loop-less : tie.Need-loop-less Inv-loop μ-loop
 loop-less c = omega arith
 
 loop-again : tie.Need-loop-again Inv-loop μ-loop
-loop-again c = (omega arith, written-next _ _ _ _ (c .before .before .loop .inv .1) _ (omega arith) (toZ-ofZ w64 (getD (c .before .before .before .args .held .now) (c .before .before .loop .i) (pos 0)) (sfits-of (c .out .given))))
+loop-again c =
+    let at = c .before .before in
+    let held = at .before .args .held .now in
+    let same = toZ-ofZ w64 (getD held (at .loop .i) (pos 0)) (sfits-of (c .out .given)) in
+    (omega arith, written-next _ _ _ _ (at .loop .inv .1) _ (omega arith) same)
 
 same-length : tie.Need-same-length Inv-loop μ-loop
 same-length c = written-length _ _ _ _ (c .before .loop .inv .1) (omega arith)

@@ -1,12 +1,12 @@
--- `settle::copy_counts` meets its contract. The loop's invariant: the places passed hold what is held there.
+-- `filling::copy_counts` meets its contract. The loop's invariant: the places passed hold what is held there.
 use mathlib.Core.Path.{_≡_, refl, sym, _∙_, ap}
 use Prim.Native.Nat.{_-_, _≤_}
 use native.Mathlib.Omega.{arith}
 use lib.ListN.{length, getD}
 use Rattle.whole.specs.Below.{replacingFirst}
 use Rattle.whole.proofs.Buffers.{replacing-none, written-length, written-next}
-use Rattle.settle.proofs.copy_counts.Statement.{statement}
-use Rattle.settle.proofs.copy_counts.Tie as tie
+use Rattle.filling.proofs.copy_counts.Statement.{statement}
+use Rattle.filling.proofs.copy_counts.Tie as tie
 
 abbrev Inv-loop : tie.InvT-loop
 Inv-loop held out₀ m₀ out m = (m ≤ length held) × (out ≡ replacingFirst (λ k. getD held k 0) m out₀)

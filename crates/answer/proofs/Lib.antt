@@ -1,0 +1,2 @@
+-- Laws of answers, for whoever tells acceptance from refusal.
+pub mod Refusing

@@ -1,0 +1,2 @@
+-- The laws behind the end of settling.
+pub mod Handed
