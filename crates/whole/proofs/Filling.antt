@@ -1,0 +1,44 @@
+-- A loop that fills the first n places of a buffer with f's values, one place a turn: its invariant, and what a turn and the end make of it.
+use mathlib.Core.Path.{_≡_, refl, sym, _∙_, ap}
+use mathlib.Core.List.{List}
+use Prim.Native.Nat.{ℕ, _+_, _≤_, _<_, zero-le}
+use native.Mathlib.Omega.{arith}
+use lib.ListN.{length, getD, set}
+use Rattle.whole.specs.Below.{valuesBelow, replacingFirst}
+use Rattle.whole.proofs.Buffers.{replacing-none, written-length, written-next, unwritten, all-written}
+
+-- i of the n places are filled, and the others are as they were
+pub record Filled {ℓ} {A : Type ℓ} (f : ℕ → A) (n i : ℕ) (old out : List A) : Type ℓ where
+  pub reached : i ≤ n
+  pub room : n ≤ length old
+  pub holds : out ≡ replacingFirst f i old
+
+module _ {ℓ} {A : Type ℓ} {f : ℕ → A} {n : ℕ} {old : List A} where
+  pub none-filled : n ≤ length old → Filled f n 0 old old
+  none-filled room = record { reached = zero-le; room = room; holds = sym (replacing-none f old) }
+
+  module _ {i : ℕ} {out : List A} (filled : Filled f n i old out) where
+    pub filled-length : length out ≡ length old
+    filled-length = written-length f i old out (filled .holds) (omega arith)
+
+    pub place-there : i < n → i < length out
+    place-there l = omega (arith, filled-length)
+
+    pub next-filled : {v : A} → i < n → v ≡ f i → Filled f n (i + 1) old (set out i v)
+    next-filled {v} l e = record { reached = omega arith; room = filled .room; holds = written-next f i old out (filled .holds) v (omega arith) e }
+
+    -- what the coming turns will fill is as it was
+    pub not-yet-filled : (k : ℕ) (d : A) → i ≤ k → getD out k d ≡ getD old k d
+    not-yet-filled = unwritten f i old out (filled .holds)
+
+    -- the loop has ended
+    module _ (ended : n ≤ i) where
+      all-reached : i ≡ n
+      all-reached = omega arith
+
+      pub first-filled : out ≡ replacingFirst f n old
+      first-filled = filled .holds ∙ ap (λ k. replacingFirst f k old) all-reached
+
+      -- of a buffer with no further place nothing is left
+      pub whole-filled : n ≡ length old → out ≡ valuesBelow f (length old)
+      whole-filled e = all-written f i old out (filled .holds) (all-reached ∙ e)
