@@ -3,82 +3,77 @@ use mathlib.Core.Path.{_≡_, _∙_, ap}
 use mathlib.Core.List.{List}
 use Prim.Native.Nat.{ℕ}
 use native.Mathlib.Omega.{arith}
-use lib.IntN.{pos, natAbs}
-use lib.ListN.{length, getD}
-use mir.Syntax.{w64}
-use mir.ValLaws.{toZ-ofZ}
+use lib.IntN.{natAbs}
 use borrow.Author.Needs.{sfits-of, needs}
-use Rattle.whole.specs.Below.{valuesBelow, replacingFirst}
-use Rattle.whole.proofs.Buffers.{replacing-ext}
+use Rattle.whole.specs.Below.{valuesBelow}
+use Rattle.whole.proofs.Machine.{read-back}
 use Rattle.rules.specs.Record.{Hour}
 use Rattle.rules.specs.Ufe.{ufe}
-use Rattle.rules.specs.Kept.{HourKept}
 use Rattle.share.specs.Shareable.{sharesIn}
 use Rattle.hour.specs.Hour.{hourIn}
-use Rattle.sharing.specs.Shared.{demandIn, withSizes}
-use Rattle.sharing.proofs.Areas.{shareable, got-length, got-small, one-more-area, area-place, figure-is}
+use Rattle.sharing.specs.Shared.{demandIn}
+use Rattle.sharing.proofs.Areas.{Asked, shareable, sized, area-shared, area-place, figure-is}
 use Rattle.sharing.proofs.share_over.Statement.{statement}
 use Rattle.sharing.proofs.share_over.Tie as tie
 
 put-demands-requires : tie.Need-put-demands-requires
 put-demands-requires c κs = let start = c .before .before .before .before in (start .pre .0 .sharing .kept, start .pre .1)
 
-mul-size-of : tie.Need-mul-size-of
-mul-size-of c = omega (arith, area-place (c .before .before .before .before .before .before .before .before .pre .0))
-
-array-copy-out-size-of : tie.Need-array-copy-out-size-of
-array-copy-out-size-of c = area-place (c .before .before .before .before .before .before .before .before .pre .0)
-
-size-of-requires : tie.Need-size-of-requires
-size-of-requires c κs = tt
-
-module _ (c : tie.After-shares-arg2) where
+-- the demands are put
+module _ (c : tie.After-put-demands) where
   abbrev start : tie.Start
-  start = c .before .before .before .before .before .before .before .before .before .before .before
+  start = c .before .before .before .before .before
 
   abbrev h : Hour
   h = hourIn (start .args .file .now)
 
-  abbrev kept : HourKept h
-  kept = start .pre .0 .sharing .kept .hour-kept
+  abbrev a : ℕ
+  a = start .args .a
 
-  -- the demands as they were put
   abbrev put : List ℕ
-  put = c .before .before .before .before .before .before .put-demands .last .1 .1 .0
+  put = c .put-demands .last .1 .1 .0
 
-  demands-are : put ≡ valuesBelow (demandIn h (start .args .a)) (h .count)
-  demands-are = c .before .before .before .before .before .before .put-demands .ensures ∙ ap (valuesBelow (demandIn h (start .args .a))) (start .pre .1)
+  asked : Asked (start .args .file .now) (start .args .t2) a (start .args .out .now) put (start .args .sizes .now)
+  asked = record {
+    up-to = start .pre .0;
+    demands-are = c .put-demands .ensures ∙ ap (valuesBelow (demandIn h a)) (start .pre .1);
+    places = start .pre .2;
+  }
 
-  size-is : c .before .size-of .result ≡ natAbs (ufe h (start .args .a))
-  size-is = c .before .size-of .ensures ∙ ap natAbs (toZ-ofZ w64 (getD (start .args .t2) (start .args .a) (pos 0)) (sfits-of (c .before .before .size-of-arg .given)) ∙ figure-is (start .pre .0))
+-- that moment, as it is seen before the engine is called and once it has answered
+abbrev put-before : tie.After-shares-arg2 → tie.After-put-demands
+put-before c = c .before .before .before .before .before .before
 
--- the sizes as they were shared
-module _ (c : tie.After-put-area-arg2) where
-  abbrev asked : tie.After-shares-arg2
-  asked = c .before .before .before .before .before
+abbrev put-earlier : tie.After-shares → tie.After-put-demands
+put-earlier c = put-before (c .before)
 
-  abbrev got : List ℕ
-  got = c .before .before .before .before .shares .last .1 .1 .0
+mul-size-of : tie.Need-mul-size-of
+mul-size-of c = omega (arith, area-place (start (c .before .before .before) .pre .0))
 
-  shared : got ≡ sharesIn (put asked) (natAbs (ufe (h asked) (start asked .args .a))) (start asked .args .sizes .now)
-  shared = c .before .before .before .before .shares .ensures ∙ ap (λ u. sharesIn (put asked) u (start asked .args .sizes .now)) (size-is asked)
+array-copy-out-size-of : tie.Need-array-copy-out-size-of
+array-copy-out-size-of c = area-place (start (c .before .before .before) .pre .0)
 
-  as-many : length got ≡ h asked .count
-  as-many = got-length (kept asked) (start asked .args .a) (start asked .pre .0 .there) (put asked) (start asked .args .sizes .now) (demands-are asked) (start asked .pre .2) got shared
+size-of-requires : tie.Need-size-of-requires
+size-of-requires c κs = tt
+
+size-is : (c : tie.After-shares-arg2) → c .before .size-of .result ≡ natAbs (ufe (h (put-before c)) (a (put-before c)))
+size-is c =
+    c .before .size-of .ensures
+    ∙ ap natAbs (read-back (sfits-of (c .before .before .size-of-arg .given)) ∙ figure-is (start (put-before c) .pre .0))
 
 shares-requires : tie.Need-shares-requires
-shares-requires c κs = rw (size-is c) (shareable (kept c) (start c .args .a) (start c .pre .0 .there) (put c) (start c .args .sizes .now) (demands-are c) (start c .pre .2))
+shares-requires c κs = rw (size-is c) (shareable (asked (put-before c)))
+
+-- the engine has answered
+module _ (c : tie.After-shares) where
+  abbrev got : List ℕ
+  got = c .shares .last .1 .1 .0
+
+  shared : got ≡ sharesIn (put (put-earlier c)) (natAbs (ufe (h (put-earlier c)) (a (put-earlier c)))) (start (put-earlier c) .args .sizes .now)
+  shared = c .shares .ensures ∙ ap (λ u. sharesIn (put (put-earlier c)) u (start (put-earlier c) .args .sizes .now)) (size-is (c .before))
 
 put-area-requires : tie.Need-put-area-requires
-put-area-requires c κs =
-    let k = asked c in
-    record {
-      kept = start k .pre .0 .sharing .kept;
-      area-place = area-place (start k .pre .0);
-      as-many = as-many c;
-      room = omega (arith, as-many c, start k .pre .0 .sharing .room);
-      small = got-small (kept k) (start k .args .a) (start k .pre .0 .there) (put k) (start k .args .sizes .now) (demands-are k) (start k .pre .2) (got c) (shared c);
-    }
+put-area-requires c κs = let answered = c .before .before .before .before in sized (asked (put-earlier answered)) (shared answered)
 
 same-length : tie.Need-same-length
 same-length c = search needs
@@ -91,14 +86,9 @@ same-length-3 c = search needs
 
 returns : tie.Need-returns
 returns c =
-    let d = c .before .before in
-    let k = asked d in
-    let out = start k .args .out .now in
-    let a = start k .args .a in
-    c .before .put-area .ensures
-    ∙ ap (λ n. replacingFirst (withSizes (h k) a (getD (start k .args .t2) a (pos 0)) (got d) out) n out) (as-many d)
-    ∙ ap (λ u. replacingFirst (withSizes (h k) a u (got d) out) (h k .count) out) (figure-is (start k .pre .0))
-    ∙ replacing-ext _ _ (h k .count) out (one-more-area (kept k) a (start k .pre .0 .there) (put k) (start k .args .sizes .now) (demands-are k) (start k .pre .2) (got d) (shared d) out (start k .pre .0 .shared))
+    let asking = c .before .before in
+    let answered = asking .before .before .before .before in
+    c .before .put-area .ensures ∙ area-shared (asked (put-earlier answered)) (shared answered)
 
 pub share-over-spec : {M : Type 1} → statement M
 share-over-spec =
