@@ -1,5 +1,5 @@
-// The deviation of each record, by document 01's formula for its kind: each is worked once, and `lines` takes it from the buffer. No area is
-// looked at here and no price; the buffers are the caller's own or settling's room, so that all checks may come before they are filled.
+// The deviation of each record, by document 01's formula for its kind. Each is worked once: `lines` takes it from the buffer that is filled
+// here. No area and no price is looked at, and nothing is refused.
 ghost use mathlib.Core.Path.{_≡_};
 ghost use Prim.Native.Nat.{_≤_, _<_};
 ghost use lib.ListN.{length};
@@ -21,7 +21,8 @@ pub fn deviation_of(file: &[u8], i: usize) -> i64
 pub fn put_deviations(file: &[u8], out: &mut [i64])
     requires { ⌜ FileKept (now file) × (hourIn (now file) .count ≤ length (now out)) ⌝ }
     ensures { λ _. ⌜ now (out .exit)
-        ≡ replacingFirst (λ i. deviation (entryOf (hourIn (now (file .entry))) i)) (hourIn (now (file .entry)) .count) (now (out .entry)) ⌝ }
+        ≡ replacingFirst (λ i. deviation (entryOf (hourIn (now (file .entry))) i)) (hourIn (now (file .entry)) .count)
+        (now (out .entry)) ⌝ }
 {
     let n = hourfile::records(file);
     let mut i = 0;

@@ -2,7 +2,7 @@
 use mathlib.Core.Path.{_≡_, sym, _∙_, ap, ap₂}
 use mathlib.Core.Bool.{Bool, cond}
 use mathlib.Core.List.{List}
-use Prim.Native.Nat.{ℕ, _+_, _≤_, _<_}
+use Prim.Native.Nat.{ℕ, _+_, _≤_, _<_, zero-le}
 use native.Mathlib.Omega.{arith}
 use lib.Dec.{ltb, eqb}
 use lib.IntN.{ℤ, pos, natAbs}
@@ -123,7 +123,8 @@ module _ {s : List ℕ} {figures : List ℤ} {a : ℕ} {out : List ℤ} {demands
 
   demand-small : (i : ℕ) → i < n → demandIn h a i ≤ 100000
   unfolding demandIn
-  demand-small i m = cond-ind (inArea h a isLoad i) (demand h i) 0 (λ d. d ≤ 100000) (λ t. kept .record-kept i m .demand-most) (λ f. omega arith)
+  demand-small i m =
+      cond-ind (inArea h a isLoad i) (demand h i) 0 (λ d. d ≤ 100000) (λ t. kept .record-kept i m .demand-most) (λ f. zero-le)
 
   U-most : U ≤ 1000000000000
   U-most = ufe-under kept a (q .up-to .there) .under
@@ -165,5 +166,6 @@ module _ {s : List ℕ} {figures : List ℤ} {a : ℕ} {out : List ℤ} {demands
         (λ t. let e = eqb-true (areaOf h i) a t in rw (t, got-at i m) (sym (own-after h a i e ∙ own-share h a i e)))
         (λ f. rw f (q .up-to .shared i m ∙ other-after h a i (eqb-false (areaOf h i) a f)))
 
-    pub area-shared : replacingFirst (withSizes h a (getD figures a (pos 0)) got out) (length got) out ≡ replacingFirst (sharesBelow h (a + 1)) n out
+    pub area-shared :
+        replacingFirst (withSizes h a (getD figures a (pos 0)) got out) (length got) out ≡ replacingFirst (sharesBelow h (a + 1)) n out
     area-shared = rw (got-length, figure-is (q .up-to)) (replacing-ext _ _ n out one-more)

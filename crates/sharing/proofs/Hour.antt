@@ -54,8 +54,12 @@ module _ {s : List ℕ} {figures lent cleared : List ℤ} (z : Cleared s figures
       shared = λ i l. rw (w .holds) (getD-replacing (shared a) count cleared i (pos 0) l);
     }
 
-    pub next-area : {next : List ℤ} → a < areas (hourIn s) → next ≡ replacingFirst (shared (a + 1)) count out → AreasShared s (a + 1) cleared next
-    next-area there e = record { reached = omega arith; holds = e ∙ rw (w .holds) (replacing-twice (shared a) (shared (a + 1)) count cleared) }
+    pub next-area : {next : List ℤ} → a < areas (hourIn s) → next ≡ replacingFirst (shared (a + 1)) count out →
+        AreasShared s (a + 1) cleared next
+    next-area there e = record {
+      reached = omega arith;
+      holds = e ∙ rw (w .holds) (replacing-twice (shared a) (shared (a + 1)) count cleared);
+    }
 
     pub all-shared : areas (hourIn s) ≤ a → out ≡ replacingFirst (shareOf (hourIn s)) count lent
     unfolding sharesBelow

@@ -75,7 +75,9 @@ module _ (h : Hour) (few : areas h ≤ 8) where
       let figure = getD-values _ 8 a (pos 0) m in
       split (ltb a (areas h))
       (λ t. getD-replacing (ufe h) (areas h) zeros a (pos 0) (ltb-true a (areas h) t) ∙ sym (figure ∙ rw t))
-      (λ f. getD-kept (ufe h) (areas h) zeros a (pos 0) (ltb-false a (areas h) f) ∙ getD-replicate 8 a (pos 0) (pos 0) m ∙ sym (figure ∙ rw f)))
+      (λ f. getD-kept (ufe h) (areas h) zeros a (pos 0) (ltb-false a (areas h) f)
+      ∙ getD-replicate 8 a (pos 0) (pos 0) m
+      ∙ sym (figure ∙ rw f)))
 
   pub figure-at : (a : ℕ) → a < areas h → getD (ufeFigures h) a (pos 0) ≡ ufe h a
   figure-at a l = rw (← figures-are) (getD-replacing (ufe h) (areas h) zeros a (pos 0) l)

@@ -31,7 +31,9 @@ module _ (c : tie.After-out Inv-loop μ-loop) where
   cleared : Cleared (start .args .file .now) (start .args .figures) (start .args .out .now) (c .before .clear .last .0)
   cleared = record {
     sharing = start .pre;
-    zeros = c .before .clear .ensures ∙ ap (λ n. replacingFirst (λ i. pos 0) n (start .args .out .now)) (c .before .before .records .ensures);
+    zeros =
+        c .before .clear .ensures
+        ∙ ap (λ n. replacingFirst (λ i. pos 0) n (start .args .out .now)) (c .before .before .records .ensures);
   }
 
 -- that moment, as it is seen at the head of a turn; the head of a turn, as it is seen where its area is to be shared

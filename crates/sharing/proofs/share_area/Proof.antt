@@ -1,5 +1,5 @@
 -- `sharing::share_area` meets its contract: an area without UFE changes nothing, and for any other there is room for 250 records.
-use mathlib.Core.Path.{_≡_, sym, _∙_}
+use mathlib.Core.Path.{sym, _∙_}
 use Prim.Native.Nat.{_≤_}
 use native.Mathlib.Omega.{arith}
 use lib.Seq.{length-take-le}
@@ -43,8 +43,8 @@ slice-aggregate-share-over-2 c = sym (length-take-le (c .before .before .records
 share-over-requires : tie.Need-share-over-requires
 share-over-requires c κs =
     let counted = c .before .before .before in
-    let n = counted .records .result in
-    (start counted .pre, length-take-le n _ (few counted) ∙ counted .records .ensures, length-take-le n _ (few counted) ∙ counted .records .ensures)
+    let as-many = counted .records .ensures in
+    (start counted .pre, length-take-le _ _ (few counted) ∙ as-many, length-take-le _ _ (few counted) ∙ as-many)
 
 same-length : tie.Need-same-length
 same-length c = search needs

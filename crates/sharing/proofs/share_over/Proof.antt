@@ -40,12 +40,9 @@ module _ (c : tie.After-put-demands) where
     places = start .pre .2;
   }
 
--- that moment, as it is seen before the engine is called and once it has answered
-abbrev put-before : tie.After-shares-arg2 → tie.After-put-demands
-put-before c = c .before .before .before .before .before .before
-
-abbrev put-earlier : tie.After-shares → tie.After-put-demands
-put-earlier c = put-before (c .before)
+-- that moment, as it is seen where the engine is to be called
+abbrev asking : tie.After-shares-arg2 → tie.After-put-demands
+asking c = c .before .before .before .before .before .before
 
 mul-size-of : tie.Need-mul-size-of
 mul-size-of c = omega (arith, area-place (start (c .before .before .before) .pre .0))
@@ -56,24 +53,36 @@ array-copy-out-size-of c = area-place (start (c .before .before .before) .pre .0
 size-of-requires : tie.Need-size-of-requires
 size-of-requires c κs = tt
 
-size-is : (c : tie.After-shares-arg2) → c .before .size-of .result ≡ natAbs (ufe (h (put-before c)) (a (put-before c)))
-size-is c =
-    c .before .size-of .ensures
-    ∙ ap natAbs (read-back (sfits-of (c .before .before .size-of-arg .given)) ∙ figure-is (start (put-before c) .pre .0))
+-- the size that the engine is asked to share is the UFE's
+module _ (c : tie.After-shares-arg2) where
+  abbrev size : ℕ
+  size = natAbs (ufe (h (asking c)) (a (asking c)))
+
+  size-is : c .before .size-of .result ≡ size
+  size-is =
+      c .before .size-of .ensures
+      ∙ ap natAbs (read-back (sfits-of (c .before .before .size-of-arg .given)) ∙ figure-is (start (asking c) .pre .0))
 
 shares-requires : tie.Need-shares-requires
-shares-requires c κs = rw (size-is c) (shareable (asked (put-before c)))
+shares-requires c κs = rw (size-is c) (shareable (asked (asking c)))
 
 -- the engine has answered
 module _ (c : tie.After-shares) where
+  abbrev asked-at : tie.After-put-demands
+  asked-at = asking (c .before)
+
   abbrev got : List ℕ
   got = c .shares .last .1 .1 .0
 
-  shared : got ≡ sharesIn (put (put-earlier c)) (natAbs (ufe (h (put-earlier c)) (a (put-earlier c)))) (start (put-earlier c) .args .sizes .now)
-  shared = c .shares .ensures ∙ ap (λ u. sharesIn (put (put-earlier c)) u (start (put-earlier c) .args .sizes .now)) (size-is (c .before))
+  shared : got ≡ sharesIn (put asked-at) (size (c .before)) (start asked-at .args .sizes .now)
+  shared = c .shares .ensures ∙ ap (λ u. sharesIn (put asked-at) u (start asked-at .args .sizes .now)) (size-is (c .before))
+
+-- that moment, as it is seen where the area is to be put
+abbrev answered : tie.After-put-area-arg2 → tie.After-shares
+answered c = c .before .before .before .before
 
 put-area-requires : tie.Need-put-area-requires
-put-area-requires c κs = let answered = c .before .before .before .before in sized (asked (put-earlier answered)) (shared answered)
+put-area-requires c κs = sized (asked (asked-at (answered c))) (shared (answered c))
 
 same-length : tie.Need-same-length
 same-length c = search needs
@@ -86,9 +95,8 @@ same-length-3 c = search needs
 
 returns : tie.Need-returns
 returns c =
-    let asking = c .before .before in
-    let answered = asking .before .before .before .before in
-    c .before .put-area .ensures ∙ area-shared (asked (put-earlier answered)) (shared answered)
+    let engine = answered (c .before .before) in
+    c .before .put-area .ensures ∙ area-shared (asked (asked-at engine)) (shared engine)
 
 pub share-over-spec : {M : Type 1} → statement M
 share-over-spec =
