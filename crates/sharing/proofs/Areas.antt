@@ -27,7 +27,7 @@ use Rattle.rules.proofs.Bounds.{ufe-under}
 use Rattle.share.specs.Shareable.{at, everyone, Shareable, sharesIn}
 use Rattle.share.proofs.Uses.{ufe-shareable}
 use Rattle.hour.specs.Hour.{hourIn}
-use Rattle.tally.proofs.Tallies.{figure-at}
+use Rattle.hour.proofs.Figures.{figure-at}
 use Rattle.sharing.specs.Shared.{demandIn, sharesBelow, withSizes, SharedUpTo, Sized}
 
 -- ---- a record's share before and after its area's turn

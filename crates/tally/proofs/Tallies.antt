@@ -32,6 +32,7 @@ use Rattle.rules.proofs.Bounds.{energy-running, ufe-under}
 use Rattle.formula.specs.Room.{TallyRoom}
 use Rattle.formula.proofs.Room.{tally-room}
 use Rattle.hour.specs.Hour.{hourIn}
+use Rattle.hour.proofs.Figures.{figure-at}
 use Rattle.tally.specs.Posted.{TalliedUpTo, Tallied}
 
 -- a record's area, demand and energy, as they were read
@@ -78,9 +79,6 @@ module _ (h : Hour) (few : areas h ≤ 8) where
       (λ f. getD-kept (ufe h) (areas h) zeros a (pos 0) (ltb-false a (areas h) f)
       ∙ getD-replicate 8 a (pos 0) (pos 0) m
       ∙ sym (figure ∙ rw f)))
-
-  pub figure-at : (a : ℕ) → a < areas h → getD (ufeFigures h) a (pos 0) ≡ ufe h a
-  figure-at a l = rw (← figures-are) (getD-replacing (ufe h) (areas h) zeros a (pos 0) l)
 
 -- ---- refusal 6, by the code's two tests: of a number, and of a number's bits
 
