@@ -7,6 +7,7 @@ use lib.Dec.{eqb}
 use lib.IntN.{ℤ, pos, _+ℤ_}
 use lib.ListN.{length, getD}
 use Rattle.whole.specs.Below.{replacingFirst}
+use Rattle.whole.proofs.Buffers.{replacing-twice}
 use Rattle.whole.proofs.Sums.{counted-if, count-none, count-add-one}
 use Rattle.whole.proofs.Totals.{added-if, total-none, total-add-one}
 use Rattle.whole.proofs.Filling.{Held, held-already, held-room, held-at, held-changed}
@@ -100,3 +101,8 @@ cleared-lines p q = record {
   amounts-so-far = λ m l. held-at p m (pos 0) l ∙ sym (total-none _);
   counts-so-far = λ m l. held-at q m 0 l ∙ sym (count-none _);
 }
+
+-- and what stood in their places is replaced once more
+pub replaced-again : {A : Type 0} {f : ℕ → A} {n : ℕ} {old cleared out : List A} (g : ℕ → A) →
+    Held f n old cleared → out ≡ replacingFirst g n cleared → out ≡ replacingFirst g n old
+replaced-again {f = f} {n = n} {old = old} g held e = e ∙ rw (held .is) (replacing-twice f g n old)

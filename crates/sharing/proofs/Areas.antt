@@ -166,6 +166,7 @@ module _ {s : List ℕ} {figures : List ℤ} {a : ℕ} {out : List ℤ} {demands
         (λ t. let e = eqb-true (areaOf h i) a t in rw (t, got-at i m) (sym (own-after h a i e ∙ own-share h a i e)))
         (λ f. rw f (q .up-to .shared i m ∙ other-after h a i (eqb-false (areaOf h i) a f)))
 
-    pub area-shared :
-        replacingFirst (withSizes h a (getD figures a (pos 0)) got out) (length got) out ≡ replacingFirst (sharesBelow h (a + 1)) n out
-    area-shared = rw (got-length, figure-is (q .up-to)) (replacing-ext _ _ n out one-more)
+    pub area-shared : {next : List ℤ} →
+        next ≡ replacingFirst (withSizes h a (getD figures a (pos 0)) got out) (length got) out →
+        next ≡ replacingFirst (sharesBelow h (a + 1)) n out
+    area-shared put = put ∙ rw (got-length, figure-is (q .up-to)) (replacing-ext _ _ n out one-more)

@@ -5,12 +5,11 @@ use Prim.Native.Nat.{ℕ}
 use lib.IntN.{ℤ, pos}
 use borrow.Author.Needs.{needs}
 use Rattle.whole.specs.Below.{replacingFirst}
-use Rattle.whole.proofs.Buffers.{replacing-twice}
 use Rattle.whole.proofs.Filling.{Held}
 use Rattle.rules.specs.Record.{Hour, members}
 use Rattle.rules.specs.Charge.{amount, recordsOf}
 use Rattle.hour.specs.Hour.{hourIn}
-use Rattle.lines.proofs.Postings.{cleared-lines}
+use Rattle.lines.proofs.Postings.{cleared-lines, replaced-again}
 use Rattle.lines.proofs.put_lines.Statement.{statement}
 use Rattle.lines.proofs.put_lines.Tie as tie
 
@@ -60,20 +59,11 @@ same-length c = search needs
 same-length-2 : tie.Need-same-length-2
 same-length-2 c = search needs
 
--- all are posted: what was cleared is replaced once more
 returns : tie.Need-returns
 returns c =
-    let called = c .before .before .before in
-    let posted = called .post-all .ensures in
-    let d = cleared (called .before) in
-    let owners = members (h d) in (
-      posted .0
-          ∙ ap (replacingFirst (amount (h d)) owners) (amounts-cleared d .is)
-          ∙ replacing-twice (λ m. pos 0) (amount (h d)) owners (amounts d),
-      posted .1
-          ∙ ap (replacingFirst (recordsOf (h d)) owners) (counts-cleared d .is)
-          ∙ replacing-twice (λ m. 0) (recordsOf (h d)) owners (counts d),
-    )
+    let posted = c .before .before .before .post-all .ensures in
+    let d = cleared (c .before .before .before .before) in
+    (replaced-again (amount (h d)) (amounts-cleared d) (posted .0), replaced-again (recordsOf (h d)) (counts-cleared d) (posted .1))
 
 pub put-lines-spec : {M : Type 1} → statement M
 put-lines-spec =

@@ -2,16 +2,17 @@
 -- they held.
 use mathlib.Core.Path.{_≡_, _∙_, ap₂}
 use mathlib.Core.Bool.{cond}
-use Prim.Native.Nat.{_-_}
+use mathlib.Core.List.{List}
+use Prim.Native.Nat.{ℕ, _-_}
 use native.Mathlib.Omega.{arith}
 use lib.Dec.{eqb}
-use lib.IntN.{pos}
+use lib.IntN.{ℤ, pos}
 use lib.ListN.{getD, length}
 use borrow.Author.Needs.{sfits-of}
 use Rattle.whole.specs.Signed.{withSignOf}
 use Rattle.whole.proofs.Machine.{back, read-back}
 use Rattle.whole.proofs.Filling.{Filled, none-filled, filled-length, place-there, next-filled, not-yet-filled, first-filled}
-use Rattle.rules.specs.Record.{areaOf}
+use Rattle.rules.specs.Record.{Hour, areaOf}
 use Rattle.sharing.specs.Shared.{withSizes}
 use Rattle.hour.specs.Hour.{hourIn}
 use Rattle.sharing.proofs.put_area.Statement.{statement}
@@ -69,21 +70,44 @@ add-i c = omega arith
 loop-less : tie.Need-loop-less Inv-loop μ-loop
 loop-less c = omega arith
 
+-- the turn has its share
+module _ (c : tie.After-share-in Inv-loop μ-loop) where
+  abbrev asked : tie.After-share-in-arg2 Inv-loop μ-loop
+  asked = c .before
+
+  abbrev i : ℕ
+  i = turn asked .loop .i
+
+  abbrev out : List ℤ
+  out = start (turn asked) .args .out .now
+
+  abbrev sizes : List ℕ
+  sizes = start (turn asked) .args .sizes .now
+
+  abbrev a : ℕ
+  a = start (turn asked) .args .a
+
+  abbrev h : Hour
+  h = hourIn (start (turn asked) .args .file .now)
+
+  abbrev figure : ℤ
+  figure = getD (start (turn asked) .args .t2) a (pos 0)
+
+  figure-is : back figure ≡ figure
+  figure-is = read-back (sfits-of (asked .before .before .share-in-arg .given))
+
+  held-is : back (getD (turn asked .loop .out) i (pos 0)) ≡ getD out i (pos 0)
+  held-is = read-back (sfits-of (asked .share-in-arg2 .given)) ∙ not-yet-filled (turn asked .loop .inv) i (pos 0) (omega arith)
+
+  share-is : back (c .share-in .result) ≡ withSizes h a figure sizes out i
+  unfolding withSizes
+  share-is =
+      read-back (sfits-of (c .share-in .ok))
+      ∙ c .share-in .ensures
+      ∙ ap₂ (λ u x. cond (eqb (areaOf h i) a) (withSignOf u (getD sizes i 0)) x) figure-is held-is
+
 loop-again : tie.Need-loop-again Inv-loop μ-loop
-unfolding withSizes
-loop-again c =
-    let asked = c .before in
-    let at = turn asked .loop in
-    let args = start (turn asked) .args in
-    let own = eqb (areaOf (hourIn (args .file .now)) (at .i)) (args .a) in
-    let figure : back (getD (args .t2) (args .a) (pos 0)) ≡ getD (args .t2) (args .a) (pos 0) =
-    read-back (sfits-of (asked .before .before .share-in-arg .given)) in
-    let held : back (getD (at .out) (at .i) (pos 0)) ≡ getD (args .out .now) (at .i) (pos 0) =
-    read-back (sfits-of (asked .share-in-arg2 .given)) ∙ not-yet-filled (at .inv) (at .i) (pos 0) (omega arith) in
-    next-filled (at .inv) (omega arith) (
-    read-back (sfits-of (c .share-in .ok))
-    ∙ c .share-in .ensures
-    ∙ ap₂ (λ u x. cond own (withSignOf u (getD (args .sizes .now) (at .i) 0)) x) figure held)
+loop-again c = next-filled (turn (c .before) .loop .inv) (omega arith) (share-is c)
 
 same-length : tie.Need-same-length Inv-loop μ-loop
 same-length c = filled-length (c .before .loop .inv)

@@ -96,7 +96,7 @@ same-length-3 c = search needs
 returns : tie.Need-returns
 returns c =
     let engine = answered (c .before .before) in
-    c .before .put-area .ensures ∙ area-shared (asked (asked-at engine)) (shared engine)
+    area-shared (asked (asked-at engine)) (shared engine) (c .before .put-area .ensures)
 
 pub share-over-spec : {M : Type 1} → statement M
 share-over-spec =
