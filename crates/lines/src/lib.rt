@@ -1,6 +1,6 @@
 // The members' lines: each record's grains posted to its member's amount and count, in file order; refusal 7; charges in cents. A line is a
 // place in two slices side by side, lent by the caller; `pool` lends `&mut [Line]` instead, and takes `grains` from here. No deviation and
-// no share is worked here, and nothing is stored into a buffer of the customer's before all checks: `settle` calls with room of its own.
+// no share is worked here, and which slices are lent, and when, is the caller's.
 ghost use mathlib.Core.Path.{_≡_};
 ghost use Prim.Native.Nat.{ℕ, _≤_, _<_};
 ghost use lib.IntN.{pos};

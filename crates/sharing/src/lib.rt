@@ -1,6 +1,6 @@
 // The share of each record: an area's UFE over its loads, area by area; a record that is no load has 0. The sharing itself is the engine's,
 // `share::shares`, which knows no hours: here its demands are taken from the file and its sizes given the UFE's sign. The UFE figures come
-// from the caller and are not worked again, and refusal 6 is behind us. An area without UFE costs nothing.
+// from the caller and are not worked again, and refusal 6 was checked before. An area without UFE costs nothing.
 ghost use mathlib.Core.Path.{_≡_};
 ghost use mathlib.Core.Bool.{cond};
 ghost use Prim.Native.Nat.{_+_, _≤_, _<_};
