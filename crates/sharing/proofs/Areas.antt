@@ -1,6 +1,6 @@
 -- An area's UFE over its loads: what is asked of the engine, and that its sizes, with the UFE's sign, are the shares of the area's records.
 use mathlib.Core.Path.{_≡_, sym, _∙_, ap, ap₂}
-use mathlib.Core.Bool.{Bool, cond}
+use mathlib.Core.Bool.{Bool, true, false, cond}
 use mathlib.Core.List.{List}
 use Prim.Native.Nat.{ℕ, _+_, _≤_, _<_, zero-le}
 use native.Mathlib.Omega.{arith}
@@ -9,7 +9,7 @@ use lib.IntN.{ℤ, pos, natAbs}
 use lib.ListN.{length, getD}
 use mir.Syntax.{w64}
 use mir.Val.{ofZ}
-use borrow.Author.Tests.{lt-ltb, le-ltb, eq-eqb, eqb-true, eqb-false, ltb-true, ltb-false}
+use borrow.Author.Tests.{lt-ltb, le-ltb, eq-eqb, ne-eqb, eqb-true, eqb-false, ltb-true, ltb-false}
 use Rattle.whole.specs.Below.{valuesBelow, replacingFirst}
 use Rattle.whole.specs.Signed.{withSignOf}
 use Rattle.whole.proofs.Tests.{split, cond-ind}
@@ -20,6 +20,7 @@ use Rattle.rules.specs.Record.{Hour, areaOf, isLoad}
 use Rattle.rules.specs.Ufe.{inArea, ufe, demand}
 use Rattle.rules.specs.Share.{shareSize}
 use Rattle.rules.specs.Charge.{shareOf}
+use Rattle.rules.specs.HourFile.{word}
 use Rattle.rules.specs.Kept.{HourKept}
 use Rattle.rules.proofs.Shares.{size-ext, size-at-most}
 use Rattle.rules.proofs.Fair.{share-in}
@@ -27,6 +28,7 @@ use Rattle.rules.proofs.Bounds.{ufe-under}
 use Rattle.share.specs.Shareable.{at, everyone, Shareable, sharesIn}
 use Rattle.share.proofs.Uses.{ufe-shareable}
 use Rattle.hour.specs.Hour.{hourIn}
+use Rattle.hour.proofs.Rows.{PartOf, part-area}
 use Rattle.hour.proofs.Figures.{figure-at}
 use Rattle.sharing.specs.Shared.{demandIn, sharesBelow, withSizes, SharedUpTo, Sized}
 
@@ -57,6 +59,15 @@ module _ (h : Hour) (a i : ℕ) where
   other-after : (areaOf h i ≡ a → ⊥) → sharesBelow h a i ≡ sharesBelow h (a + 1) i
   unfolding sharesBelow
   other-after e = ap (λ (b : Bool). cond b (shareOf h i) (pos 0)) (passed e)
+
+-- ---- a record's area, as the code reads and tests it
+
+module _ {s row : List ℕ} {i r : ℕ} (own : PartOf s i row) (told : r ≡ word row 2) {a : ℕ} where
+  pub in-area : r ≡ a → eqb (areaOf (hourIn s) i) a ≡ true
+  in-area e = eq-eqb _ _ (sym (told ∙ part-area own) ∙ e)
+
+  pub elsewhere : (r ≡ a → ⊥) → eqb (areaOf (hourIn s) i) a ≡ false
+  elsewhere n = ne-eqb _ _ (λ e. n (told ∙ part-area own ∙ e))
 
 -- ---- the turn of area a
 

@@ -1,15 +1,11 @@
 -- `sharing::share_in` meets its contract: the size with the UFE's sign where the record is the area's own, and what it had elsewhere.
-use mathlib.Core.Path.{_≡_, sym, _∙_, ap}
-use mathlib.Core.Bool.{Bool, true, false}
-use lib.Dec.{eqb}
+use mathlib.Core.Path.{_∙_, ap}
 use borrow.Author.Needs.{sfits-of}
-use borrow.Author.Tests.{eq-eqb, ne-eqb}
 use Rattle.whole.specs.Signed.{withSignOf}
 use Rattle.whole.proofs.Machine.{read-back}
-use Rattle.rules.specs.Record.{areaOf}
 use Rattle.hourfile.proofs.Rows.{record-inside}
-use Rattle.hour.specs.Hour.{hourIn}
-use Rattle.hour.proofs.Rows.{PartOf, part-length, part-area}
+use Rattle.hour.proofs.Rows.{PartOf, part-length}
+use Rattle.sharing.proofs.Areas.{in-area, elsewhere}
 use Rattle.sharing.proofs.share_in.Statement.{statement}
 use Rattle.sharing.proofs.share_in.Tie as tie
 
@@ -26,17 +22,6 @@ module _ (c : tie.After-record) where
 area-in-requires : tie.Need-area-in-requires
 area-in-requires c κs = part-length (own c)
 
--- the code's test of the area is the definition's
-module _ (c : tie.After-area-in) where
-  abbrev in-area : Bool
-  in-area = eqb (areaOf (hourIn (start (c .before) .args .file .now)) (start (c .before) .args .i)) (start (c .before) .args .a)
-
-  its-own : c .area-in .result ≡ start (c .before) .args .a → in-area ≡ true
-  its-own e = eq-eqb _ _ (sym (c .area-in .ensures ∙ part-area (own (c .before))) ∙ e)
-
-  another : (c .area-in .result ≡ start (c .before) .args .a → ⊥) → in-area ≡ false
-  another n = ne-eqb _ _ (λ e. n (c .area-in .ensures ∙ part-area (own (c .before)) ∙ e))
-
 with-sign-of-requires : tie.Need-with-sign-of-requires
 with-sign-of-requires c κs = start (c .before .before) .pre .2
 
@@ -44,13 +29,15 @@ returns : tie.Need-returns
 returns c =
     let tested = c .before .before in
     let begun = start (tested .before) in
-    rw (its-own tested (c .before .if1 .taken)) (
+    rw (in-area (own (tested .before)) (tested .area-in .ensures) (c .before .if1 .taken)) (
     read-back (sfits-of (c .with-sign-of .ok))
     ∙ c .with-sign-of .ensures
     ∙ ap (λ u. withSignOf u (begun .args .size)) (read-back (begun .fits .ufe)))
 
 returns-2 : tie.Need-returns-2
-returns-2 c = rw (another (c .before) (c .if1 .left)) (read-back (start (c .before .before) .fits .before))
+returns-2 c =
+    let read = c .before .before in
+    rw (elsewhere (own read) (c .before .area-in .ensures) (c .if1 .left)) (read-back (start read .fits .before))
 
 pub share-in-spec : {M : Type 1} → statement M
 share-in-spec =
