@@ -3,33 +3,43 @@ use mathlib.Core.Path.{_≡_, ap}
 use mathlib.Core.List.{List}
 use Prim.Native.Nat.{ℕ, _<_}
 use native.Mathlib.Omega.{arith}
+use lib.ListN.{length}
 use Rattle.rules.specs.Record.{memberOf, areaOf, entry, entryOf, kindOf}
 use Rattle.rules.specs.HourFile.{word}
 use Rattle.rules.specs.Posting.{demandOf}
-use Rattle.rules.specs.Kept.{FileKept}
+use Rattle.rules.specs.Kept.{FileKept, EntryKept}
 use Rattle.hourfile.specs.Part.{recordPart}
-use Rattle.hourfile.proofs.Rows.{row-word}
+use Rattle.hourfile.proofs.Rows.{row-length, row-word}
 use Rattle.hour.specs.Hour.{hourIn, demandBy}
 
-module _ {s row : List ℕ} {i : ℕ} (kept : FileKept s) (there : i < hourIn s .count) (part : row ≡ recordPart s i) where
+-- row is record i's part of a file that keeps its ranges
+pub record PartOf (s : List ℕ) (i : ℕ) (row : List ℕ) : Type 0 where
+  pub kept : FileKept s
+  pub there : i < hourIn s .count
+  pub part : row ≡ recordPart s i
+
+module _ {s row : List ℕ} {i : ℕ} (p : PartOf s i row) where
+  pub part-length : length row ≡ 48
+  part-length = row-length (p .kept) (p .there) (p .part)
+
   says : (w : ℕ) → w < 12 → word row w ≡ hourIn s .rec i w
-  says = row-word kept there part
+  says = row-word (p .kept) (p .there) (p .part)
 
-  pub row-kind : kindOf (word row 0) ≡ entryOf (hourIn s) i .kind
+  pub part-kind : kindOf (word row 0) ≡ entryOf (hourIn s) i .kind
   unfolding entryOf entry
-  row-kind = ap kindOf (says 0 (omega arith))
+  part-kind = ap kindOf (says 0 (omega arith))
 
-  pub row-member : word row 1 ≡ memberOf (hourIn s) i
+  pub part-member : word row 1 ≡ memberOf (hourIn s) i
   unfolding memberOf
-  row-member = says 1 (omega arith)
+  part-member = says 1 (omega arith)
 
-  pub row-area : word row 2 ≡ areaOf (hourIn s) i
+  pub part-area : word row 2 ≡ areaOf (hourIn s) i
   unfolding areaOf
-  row-area = says 2 (omega arith)
+  part-area = says 2 (omega arith)
 
-  pub row-entry : entry (word row) ≡ entryOf (hourIn s) i
+  pub part-entry : entry (word row) ≡ entryOf (hourIn s) i
   unfolding entryOf entry
-  row-entry = rw (
+  part-entry = rw (
     says 0 (omega arith),
     says 3 (omega arith),
     says 4 (omega arith),
@@ -41,6 +51,10 @@ module _ {s row : List ℕ} {i : ℕ} (kept : FileKept s) (there : i < hourIn s 
     says 10 (omega arith),
   )
 
-  pub row-demand : demandBy (word row) ≡ demandOf (hourIn s) i
+  -- so that the formulas may be worked of it
+  pub part-entry-kept : EntryKept (entry (word row))
+  part-entry-kept = rw part-entry (p .kept .hour-kept .record-kept i (p .there) .entry-kept)
+
+  pub part-demand : demandBy (word row) ≡ demandOf (hourIn s) i
   unfolding demandBy demandOf entryOf entry
-  row-demand = rw (says 0 (omega arith), says 4 (omega arith))
+  part-demand = rw (says 0 (omega arith), says 4 (omega arith))

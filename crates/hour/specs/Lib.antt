@@ -1,2 +1,2 @@
--- What the contracts of `hour` cite beside `rules`.
+-- What the contracts of `hour`, and of the crates that sum over an hour, cite beside `rules`.
 pub mod Hour

@@ -1,5 +1,6 @@
-// The numbers of an hour file as the sums take them. Those of a record are read from its part of the file, as `hourfile::record` hands it
-// out, without a test: a word costs one load.
+// An hour file's numbers as the sums take them, each under its name: the head's counts and prices, and a record's kind, member, area,
+// entry and demand. Those of a record are read from its part of the file, as `hourfile::record` hands it out, without a test: a word costs
+// one load. Nothing is summed here, and nothing is refused: the file was examined before.
 ghost use mathlib.Core.Path.{_≡_};
 ghost use Prim.Native.Nat.{_<_};
 ghost use lib.ListN.{length};

@@ -1,4 +1,6 @@
-// The members' lines: each record's grains posted to its member's amount and count, in file order; refusal 7; charges in cents.
+// The members' lines: each record's grains posted to its member's amount and count, in file order; refusal 7; charges in cents. A line is a
+// place in two slices side by side, lent by the caller; `pool` lends `&mut [Line]` instead, and takes `grains` from here. No deviation and
+// no share is worked here, and which slices are lent, and when, is the caller's.
 ghost use mathlib.Core.Path.{_≡_};
 ghost use Prim.Native.Nat.{ℕ, _≤_, _<_};
 ghost use lib.IntN.{pos};
@@ -64,8 +66,12 @@ fn post_all(
     counts: &mut [u32],
 )
     requires { ⌜ AllWorked (now file) (now deviations) (now shares) × PostedUpTo (now file) 0 (now amounts) (now counts) ⌝ }
-    ensures of_amounts { λ _. ⌜ now (amounts .exit) ≡ replacingFirst (Charge.amount (hourIn (now (file .entry)))) (Record.members (hourIn (now (file .entry)))) (now (amounts .entry)) ⌝ }
-    ensures of_counts { λ _. ⌜ now (counts .exit) ≡ replacingFirst (Charge.recordsOf (hourIn (now (file .entry)))) (Record.members (hourIn (now (file .entry)))) (now (counts .entry)) ⌝ }
+    ensures of_amounts { λ _. ⌜ now (amounts .exit)
+        ≡ replacingFirst (Charge.amount (hourIn (now (file .entry)))) (Record.members (hourIn (now (file .entry))))
+        (now (amounts .entry)) ⌝ }
+    ensures of_counts { λ _. ⌜ now (counts .exit)
+        ≡ replacingFirst (Charge.recordsOf (hourIn (now (file .entry)))) (Record.members (hourIn (now (file .entry))))
+        (now (counts .entry)) ⌝ }
 {
     let n = hourfile::records(file);
     let mut i = 0;
@@ -84,8 +90,12 @@ pub fn put_lines(
     counts: &mut [u32],
 )
     requires { ⌜ AllWorked (now file) (now deviations) (now shares) × LinesRoom (now file) (now amounts) (now counts) ⌝ }
-    ensures of_amounts { λ _. ⌜ now (amounts .exit) ≡ replacingFirst (Charge.amount (hourIn (now (file .entry)))) (Record.members (hourIn (now (file .entry)))) (now (amounts .entry)) ⌝ }
-    ensures of_counts { λ _. ⌜ now (counts .exit) ≡ replacingFirst (Charge.recordsOf (hourIn (now (file .entry)))) (Record.members (hourIn (now (file .entry)))) (now (counts .entry)) ⌝ }
+    ensures of_amounts { λ _. ⌜ now (amounts .exit)
+        ≡ replacingFirst (Charge.amount (hourIn (now (file .entry)))) (Record.members (hourIn (now (file .entry))))
+        (now (amounts .entry)) ⌝ }
+    ensures of_counts { λ _. ⌜ now (counts .exit)
+        ≡ replacingFirst (Charge.recordsOf (hourIn (now (file .entry)))) (Record.members (hourIn (now (file .entry))))
+        (now (counts .entry)) ⌝ }
 {
     clear_lines(amounts, counts, hour::members(file));
     post_all(file, deviations, shares, amounts, counts);
@@ -107,11 +117,15 @@ pub fn member_over(amounts: &[i64]) -> Found
 
 // The amounts in cents, into the first places; the places past them are unchanged.
 pub fn put_charges(amounts: &[i64], charges: &mut [i64])
-    requires { ⌜ (length (now amounts) ≤ length (now charges)) × ((m : ℕ) → m < length (now amounts) → Under (getD (now amounts) m (pos 0)) 4000000000000000000) ⌝ }
-    ensures { λ _. ⌜ now (charges .exit) ≡ replacingFirst (λ m. Charge.cents (getD (now (amounts .entry)) m (pos 0))) (length (now (amounts .entry))) (now (charges .entry)) ⌝ }
+    requires { ⌜ (length (now amounts) ≤ length (now charges))
+        × ((m : ℕ) → m < length (now amounts) → Under (getD (now amounts) m (pos 0)) 4000000000000000000) ⌝ }
+    ensures { λ _. ⌜ now (charges .exit)
+        ≡ replacingFirst (λ m. Charge.cents (getD (now (amounts .entry)) m (pos 0))) (length (now (amounts .entry)))
+        (now (charges .entry)) ⌝ }
 {
+    let n = amounts.len();
     let mut m = 0;
-    while m < amounts.len() {
+    while m < n {
         charges[m] = formula::cents::cents(amounts[m]);
         m += 1;
     }

@@ -1,2 +1,3 @@
--- The laws behind the shares of an area.
+-- The laws behind the shares: one area's shares, and the way from no area to all.
 mod Areas
+mod Hour

@@ -1,4 +1,6 @@
-// The share of each record: an area's UFE over its loads, area by area. An area without UFE costs nothing.
+// The share of each record: an area's UFE over its loads, area by area; a record that is no load has 0. The sharing itself is the engine's,
+// `share::shares`, which knows no hours: here its demands are taken from the file and its sizes given the UFE's sign. The UFE figures come
+// from the caller and are not worked again, and refusal 6 was checked before. An area without UFE costs nothing.
 ghost use mathlib.Core.Path.{_≡_};
 ghost use mathlib.Core.Bool.{cond};
 ghost use Prim.Native.Nat.{_+_, _≤_, _<_};
@@ -51,7 +53,9 @@ fn share_in(file: &[u8], a: usize, i: usize, ufe: i64, size: u64, before: i64) -
 // An area's sizes, with the UFE's sign, to its own records.
 fn put_area(file: &[u8], figures: [i64; 8], a: usize, sizes: &[u64], out: &mut [i64])
     requires { ⌜ Sized (now file) a (now sizes) (now out) ⌝ }
-    ensures { λ _. ⌜ now (out .exit) ≡ replacingFirst (withSizes (hourIn (now (file .entry))) a (getD figures a (pos 0)) (now (sizes .entry)) (now (out .entry))) (length (now (sizes .entry))) (now (out .entry)) ⌝ }
+    ensures { λ _. ⌜ now (out .exit)
+        ≡ replacingFirst (withSizes (hourIn (now (file .entry))) a (getD figures a (pos 0)) (now (sizes .entry)) (now (out .entry)))
+        (length (now (sizes .entry))) (now (out .entry)) ⌝ }
 {
     let mut i = 0;
     while i < sizes.len() {
@@ -69,8 +73,11 @@ fn share_over(
     sizes: &mut [u64],
     out: &mut [i64],
 )
-    requires { ⌜ SharedUpTo (now file) figures a (now out) × (length (now demands) ≡ hourIn (now file) .count) × (length (now sizes) ≡ hourIn (now file) .count) ⌝ }
-    ensures { λ _. ⌜ now (out .exit) ≡ replacingFirst (sharesBelow (hourIn (now (file .entry))) (a + 1)) (hourIn (now (file .entry)) .count) (now (out .entry)) ⌝ }
+    requires { ⌜ SharedUpTo (now file) figures a (now out)
+        × (length (now demands) ≡ hourIn (now file) .count)
+        × (length (now sizes) ≡ hourIn (now file) .count) ⌝ }
+    ensures { λ _. ⌜ now (out .exit)
+        ≡ replacingFirst (sharesBelow (hourIn (now (file .entry))) (a + 1)) (hourIn (now (file .entry)) .count) (now (out .entry)) ⌝ }
 {
     put_demands(file, a, demands);
     share::shares(demands, sign::size_of(figures[a]), sizes);
@@ -80,7 +87,8 @@ fn share_over(
 // One area more. This function only makes the room.
 fn share_area(file: &[u8], figures: [i64; 8], a: usize, out: &mut [i64])
     requires { ⌜ SharedUpTo (now file) figures a (now out) ⌝ }
-    ensures { λ _. ⌜ now (out .exit) ≡ replacingFirst (sharesBelow (hourIn (now (file .entry))) (a + 1)) (hourIn (now (file .entry)) .count) (now (out .entry)) ⌝ }
+    ensures { λ _. ⌜ now (out .exit)
+        ≡ replacingFirst (sharesBelow (hourIn (now (file .entry))) (a + 1)) (hourIn (now (file .entry)) .count) (now (out .entry)) ⌝ }
 {
     if figures[a] == 0 {
         return;
@@ -106,7 +114,8 @@ fn clear(out: &mut [i64], n: usize)
 // One a record, into the first places; the places past them are unchanged.
 pub fn put_shares(file: &[u8], figures: [i64; 8], out: &mut [i64])
     requires { ⌜ Sharing (now file) figures (now out) ⌝ }
-    ensures { λ _. ⌜ now (out .exit) ≡ replacingFirst (shareOf (hourIn (now (file .entry)))) (hourIn (now (file .entry)) .count) (now (out .entry)) ⌝ }
+    ensures { λ _. ⌜ now (out .exit)
+        ≡ replacingFirst (shareOf (hourIn (now (file .entry)))) (hourIn (now (file .entry)) .count) (now (out .entry)) ⌝ }
 {
     clear(out, hourfile::records(file));
     let areas = hour::areas(file);

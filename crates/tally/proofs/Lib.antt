@@ -1,2 +1,2 @@
--- The laws behind tally and UFE.
+-- The laws behind the tally: room for each posting, an area's UFE, refusal 6. `pool` posts by them too.
 pub mod Tallies

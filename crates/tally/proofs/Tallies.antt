@@ -1,9 +1,10 @@
--- The tally of an hour that keeps its ranges: each posting has room, and the next record's posting is the next tally.
+-- The tally of an hour that keeps its ranges: it has room for the next record, whose posting is the next tally; and once all records are
+-- posted, what the tally gives of an area: its UFE, and whether it breaks refusal 6.
 use mathlib.Core.Path.{_≡_, sym, _∙_, ap}
 use mathlib.Core.Bool.{Bool, true, false, not, and-false, _&&_}
 use mathlib.Core.List.{List}
-use Prim.Native.Nat.{ℕ, _+_, _≤_, _<_, zero-le}
-use native.Mathlib.Nat.{le-refl, le-of-lt}
+use Prim.Native.Nat.{ℕ, _+_, _≤_, _<_}
+use native.Mathlib.Nat.{le-refl}
 use native.Mathlib.Numerals.{add-one}
 use native.Mathlib.Omega.{arith}
 use lib.Dec.{ltb, eqb}
@@ -15,39 +16,24 @@ use mir.Val.{ofZ}
 use borrow.Author.Tests.{ltb-true, ltb-false, eq-eqb, ne-eqb}
 use Rattle.whole.specs.Below.{replacingFirst}
 use Rattle.whole.specs.Signed.{Under}
-use Rattle.whole.proofs.Tests.{split, cond-ind}
+use Rattle.whole.proofs.Tests.{split}
 use Rattle.whole.proofs.Linear.{abs-zero}
 use Rattle.whole.proofs.Machine.{zero-bits}
-use Rattle.whole.proofs.Ranges.{_u+_, u-fits}
+use Rattle.whole.proofs.Ranges.{u-fits}
 use Rattle.whole.proofs.Buffers.{length-values, getD-values, length-replacing, getD-replacing, getD-kept}
 use Rattle.rules.specs.declared.Tally.{Tally}
-use Rattle.rules.specs.Record.{Hour, areas, tieIn, tieOut, areaOf, entryOf, isLoad}
+use Rattle.rules.specs.Record.{Hour, areas, tieIn, tieOut, areaOf, entryOf}
 use Rattle.rules.specs.Deviation.{unitsPerKWh}
-use Rattle.rules.specs.Ufe.{ufe, demand, demands}
+use Rattle.rules.specs.Ufe.{ufe, demands}
 use Rattle.rules.specs.Posting.{accounted, tallied, demandOf, tallyAfter}
 use Rattle.rules.specs.Settling.{ufeFigures}
-use Rattle.rules.specs.Kept.{HourKept}
-use Rattle.rules.proofs.Posting.{tally-records, tally-demand, tally-energy, tally-gives-demands, tally-gives-ufe}
-use Rattle.rules.proofs.Bounds.{accounted-under, demand-running, energy-running, ufe-under}
+use Rattle.rules.proofs.Posting.{tally-energy, tally-gives-demands, tally-gives-ufe}
+use Rattle.rules.proofs.Bounds.{energy-running, ufe-under}
 use Rattle.formula.specs.Room.{TallyRoom}
+use Rattle.formula.proofs.Room.{tally-room}
 use Rattle.hour.specs.Hour.{hourIn}
+use Rattle.hour.proofs.Figures.{figure-at}
 use Rattle.tally.specs.Posted.{TalliedUpTo, Tallied}
-
-module _ {h : Hour} (kept : HourKept h) (i : ℕ) (there : i < h .count) where
-  pub area-place : areaOf h i < 8
-  area-place = omega (arith, kept .record-kept i there .area-there, kept .areas-most)
-
-  pub demand-of-most : demandOf h i ≤ 100000
-  unfolding demandOf
-  demand-of-most = cond-ind (isLoad (entryOf h i .kind)) (demand h i) 0 (λ d. d ≤ 100000) (λ t. kept .record-kept i there .demand-most) (λ t. zero-le)
-
-  tally-room : TallyRoom (tallyAfter h i) (areaOf h i) (demandOf h i) (accounted (entryOf h i))
-  tally-room = record {
-    area-there = area-place;
-    records-fit = omega (arith, tally-records h i, kept .count-most);
-    demand-fits = omega (arith, tally-demand h (areaOf h i) area-place i, demand-running kept (areaOf h i) i (le-of-lt there), demand-of-most);
-    energy-fits = rw (tally-energy h (areaOf h i) area-place i) (u-fits (energy-running kept (areaOf h i) i (le-of-lt there) u+ accounted-under (kept .record-kept i there .entry-kept)) tt);
-  }
 
 -- a record's area, demand and energy, as they were read
 module _ {s : List ℕ} {t : Tally} {i : ℕ} (p : TalliedUpTo s t i) {a d : ℕ} {e : ℤ}
@@ -59,58 +45,69 @@ module _ {s : List ℕ} {t : Tally} {i : ℕ} (p : TalliedUpTo s t i) {a d : ℕ
   unfolding tallyAfter
   next-tally = rw (p .posted, area-is, demand-is, energy-is, add-one)
 
--- ---- once all records are posted
+-- ---- once all records are posted: an area's energy, and its UFE
 
-module _ {s : List ℕ} {t : Tally} (p : Tallied s t) where
+module _ {s : List ℕ} {t : Tally} (p : Tallied s t) (a : ℕ) (there : a < areas (hourIn s)) where
   abbrev hour : Hour
   hour = hourIn s
 
-  module _ (a : ℕ) (there : a < areas hour) where
-    place : a < 8
-    place = omega (arith, p .kept .hour-kept .areas-most)
+  place : a < 8
+  place = omega (arith, p .kept .hour-kept .areas-most)
 
-    -- an area's energy is at most 5×10^11 units in size
-    pub energy-under : Under (getD (t .energy) a (pos 0)) 500000000000
-    energy-under = rw (p .posted, tally-energy hour a place (hour .count)) (energy-running (p .kept .hour-kept) a (hour .count) (le-refl (hour .count)))
+  -- an area's energy is at most 5×10^11 units in size
+  pub energy-under : Under (getD (t .energy) a (pos 0)) 500000000000
+  energy-under =
+      rw (p .posted, tally-energy hour a place (hour .count)) (energy-running (p .kept .hour-kept) a (hour .count) (le-refl (hour .count)))
 
-    pub ufe-is : unitsPerKWh *ℤ (tieIn hour a -ℤ tieOut hour a) +ℤ getD (t .energy) a (pos 0) ≡ ufe hour a
-    ufe-is = rw (p .posted) (sym (tally-gives-ufe hour a place))
+  pub ufe-is : unitsPerKWh *ℤ (tieIn hour a -ℤ tieOut hour a) +ℤ getD (t .energy) a (pos 0) ≡ ufe hour a
+  ufe-is = rw (p .posted) (sym (tally-gives-ufe hour a place))
 
--- ---- the UFE figures, and refusal 6
+-- ---- the eight UFE figures
 
-module _ (h : Hour) where
-  -- an area whose loads demand nothing, and whose UFE isn't 0
-  abbrev pub noDemand : ℕ → Bool
-  noDemand a = eqb (demands h a) 0 && not (eqb (natAbs (ufe h a)) 0)
+module _ (h : Hour) (few : areas h ≤ 8) where
+  abbrev zeros : List ℤ
+  zeros = replicate 8 (pos 0)
 
-  module _ (few : areas h ≤ 8) where
-    -- eight zeros of which the areas' places are written
-    pub figures-are : replacingFirst (ufe h) (areas h) (replicate 8 (pos 0)) ≡ ufeFigures h
-    unfolding ufeFigures
-    figures-are = ext-getD (pos 0) _ _ (length-replacing (ufe h) (areas h) (replicate 8 (pos 0)) few ∙ sym (length-values _ 8)) (λ a l.
-        let m : a < 8 = omega (arith, length-replacing (ufe h) (areas h) (replicate 8 (pos 0)) few) in
-        split (ltb a (areas h))
-        (λ t. getD-replacing (ufe h) (areas h) (replicate 8 (pos 0)) a (pos 0) (ltb-true a (areas h) t) ∙ sym (getD-values _ 8 a (pos 0) m ∙ rw t))
-        (λ f. getD-kept (ufe h) (areas h) (replicate 8 (pos 0)) a (pos 0) (ltb-false a (areas h) f) ∙ getD-replicate 8 a (pos 0) (pos 0) m ∙ sym (getD-values _ 8 a (pos 0) m ∙ rw f)))
+  -- eight zeros of which the areas' places are written
+  pub figures-are : replacingFirst (ufe h) (areas h) zeros ≡ ufeFigures h
+  unfolding ufeFigures
+  figures-are = ext-getD (pos 0) _ _ (length-replacing (ufe h) (areas h) zeros few ∙ sym (length-values _ 8)) (λ a l.
+      let m : a < 8 = omega (arith, length-replacing (ufe h) (areas h) zeros few) in
+      let figure = getD-values _ 8 a (pos 0) m in
+      split (ltb a (areas h))
+      (λ t. getD-replacing (ufe h) (areas h) zeros a (pos 0) (ltb-true a (areas h) t) ∙ sym (figure ∙ rw t))
+      (λ f. getD-kept (ufe h) (areas h) zeros a (pos 0) (ltb-false a (areas h) f)
+      ∙ getD-replicate 8 a (pos 0) (pos 0) m
+      ∙ sym (figure ∙ rw f)))
 
-    pub figure-at : (a : ℕ) → a < areas h → getD (ufeFigures h) a (pos 0) ≡ ufe h a
-    figure-at a l = ap (λ (u : List ℤ). getD u a (pos 0)) (sym figures-are) ∙ getD-replacing (ufe h) (areas h) (replicate 8 (pos 0)) a (pos 0) l
+-- ---- refusal 6, by the code's two tests: of a number, and of a number's bits
 
-module _ {s : List ℕ} {t : Tally} {figures : List ℤ} (p : Tallied s t) (figures-of : figures ≡ ufeFigures (hourIn s)) (a : ℕ) (there : a < areas (hourIn s)) where
-  demand-at : getD (t .demand) a 0 ≡ demands (hourIn s) a
+-- an area whose loads demand nothing, and whose UFE isn't 0
+abbrev pub noDemand : Hour → ℕ → Bool
+noDemand h a = eqb (demands h a) 0 && not (eqb (natAbs (ufe h a)) 0)
+
+module _ {s : List ℕ} {t : Tally} {figures : List ℤ}
+    (p : Tallied s t) (figures-of : figures ≡ ufeFigures (hourIn s)) (a : ℕ) (there : a < areas (hourIn s)) where
+  abbrev demanded : ℕ
+  demanded = demands (hourIn s) a
+
+  abbrev U : ℤ
+  U = ufe (hourIn s) a
+
+  demand-at : getD (t .demand) a 0 ≡ demanded
   demand-at = rw (p .posted) (tally-gives-demands (hourIn s) a (place p a there))
 
-  ufe-at : getD figures a (pos 0) ≡ ufe (hourIn s) a
+  ufe-at : getD figures a (pos 0) ≡ U
   ufe-at = rw figures-of (figure-at (hourIn s) (p .kept .hour-kept .areas-most) a there)
 
-  -- the code's two tests, of a number and of a number's bits
   pub nobody-demands : getD (t .demand) a 0 ≡ 0 → (ofZ w64 (getD figures a (pos 0)) ≡ 0 → ⊥) → noDemand (hourIn s) a ≡ true
-  nobody-demands z n = rw (eq-eqb (demands (hourIn s) a) 0 (sym demand-at ∙ z), ne-eqb (natAbs (ufe (hourIn s) a)) 0 (λ e. n (ap (ofZ w64) (ufe-at ∙ abs-zero (ufe (hourIn s) a) e))))
+  nobody-demands z n =
+      rw (eq-eqb demanded 0 (sym demand-at ∙ z), ne-eqb (natAbs U) 0 (λ e. n (ap (ofZ w64) (ufe-at ∙ abs-zero U e))))
 
   pub somebody-demands : (getD (t .demand) a 0 ≡ 0 → ⊥) → noDemand (hourIn s) a ≡ false
-  somebody-demands n = rw (ne-eqb (demands (hourIn s) a) 0 (λ e. n (demand-at ∙ e)))
+  somebody-demands n = rw (ne-eqb demanded 0 (λ e. n (demand-at ∙ e)))
 
   pub nothing-to-share : ofZ w64 (getD figures a (pos 0)) ≡ 0 → noDemand (hourIn s) a ≡ false
   nothing-to-share z =
-      let none : ufe (hourIn s) a ≡ pos 0 = zero-bits (u-fits (ufe-under (p .kept .hour-kept) a there) tt) (ap (ofZ w64) (sym ufe-at) ∙ z) in
+      let none : U ≡ pos 0 = zero-bits (u-fits (ufe-under (p .kept .hour-kept) a there) tt) (ap (ofZ w64) (sym ufe-at) ∙ z) in
       rw (none, and-false)

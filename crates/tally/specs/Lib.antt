@@ -1,2 +1,2 @@
--- What the contracts of `tally` cite beside `rules`.
+-- What the contracts of `tally`, and of the crates that go on from a tally, cite beside `rules`.
 pub mod Posted

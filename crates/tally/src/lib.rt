@@ -1,4 +1,5 @@
-// The hour's tally, posted in file order, and what it gives: each area's UFE, and refusal 6.
+// The hour's tally, posted in file order, and what it gives: each area's UFE, and refusal 6. The tally goes in and comes back by value, and
+// no caller's buffer is touched: `pool`, which lends its tally to each posting, calls the same formulas.
 ghost use mathlib.Core.Path.{_≡_};
 ghost use Prim.Native.Nat.{_+_, _<_};
 ghost use Rattle.rules.specs.Record as Record;

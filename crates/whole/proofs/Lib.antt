@@ -7,6 +7,7 @@ pub mod Totals
 pub mod Search
 pub mod Tables
 pub mod Buffers
+pub mod Filling
 pub mod Stores
 pub mod Division
 pub mod Rank

@@ -1,18 +1,25 @@
 -- `hour::area_of` meets its contract: the record's part has the record's numbers.
 use mathlib.Core.Path.{_∙_}
-use Rattle.hourfile.proofs.Rows.{record-inside, row-length}
-use Rattle.hour.proofs.Rows.{row-area}
+use Rattle.hourfile.proofs.Rows.{record-inside}
+use Rattle.hour.proofs.Rows.{PartOf, part-length, part-area}
 use Rattle.hour.proofs.area_of.Statement.{statement}
 use Rattle.hour.proofs.area_of.Tie as tie
 
 record-requires : tie.Need-record-requires
 record-requires c κs = record-inside (c .before .pre .0) (c .before .pre .1)
 
+module _ (c : tie.After-record) where
+  abbrev start : tie.Start
+  start = c .before .before
+
+  own : PartOf (start .args .file .now) (start .args .i) (c .record .result .now)
+  own = record { kept = start .pre .0; there = start .pre .1; part = c .record .ensures }
+
 area-in-requires : tie.Need-area-in-requires
-area-in-requires c κs = let start = c .before .before in row-length (start .pre .0) (start .pre .1) (c .record .ensures)
+area-in-requires c κs = part-length (own c)
 
 returns : tie.Need-returns
-returns c = let start = c .before .before .before in c .area-in .ensures ∙ row-area (start .pre .0) (start .pre .1) (c .before .record .ensures)
+returns c = c .area-in .ensures ∙ part-area (own (c .before))
 
 pub area-of-spec : {M : Type 1} → statement M
 area-of-spec = tie.close (tie.spec record-requires area-in-requires returns)

@@ -1,6 +1,5 @@
 -- `hour::demand_in` meets its contract: a load's word 4, and 0 for any other kind.
 use mathlib.Core.Path.{_≡_, sym, _∙_, ap}
-use mathlib.Core.Bool.{true, false}
 use native.Mathlib.Omega.{arith}
 use Rattle.rules.specs.Record.{kindOf, isLoad}
 use Rattle.rules.specs.HourFile.{word}
@@ -20,19 +19,17 @@ whole-word-requires c κs = omega arith
 cast-result : tie.Need-cast-result
 cast-result c = omega arith
 
+-- what the test answered of the kind is what the definition asks
+is-load : (c : tie.After-is-load) → isLoad (kindOf (word (c .before .before .before .args .row .now) 0)) ≡ c .is-load .result
+is-load c = sym (ap isLoad (c .before .kind-in .ensures)) ∙ sym (c .is-load .ensures)
+
 returns : tie.Need-returns
 unfolding demandBy
-returns c =
-    let row = c .before .before .before .before .before .args .row .now in
-    let load : isLoad (kindOf (word row 0)) ≡ true = sym (ap isLoad (c .before .before .before .kind-in .ensures)) ∙ sym (c .before .before .is-load .ensures) ∙ c .before .if1 .taken in
-    rw load (c .whole-word .ensures)
+returns c = rw (is-load (c .before .before) ∙ c .before .if1 .taken) (c .whole-word .ensures)
 
 returns-2 : tie.Need-returns-2
 unfolding demandBy
-returns-2 c =
-    let row = c .before .before .before .before .args .row .now in
-    let load : isLoad (kindOf (word row 0)) ≡ false = sym (ap isLoad (c .before .before .kind-in .ensures)) ∙ sym (c .before .is-load .ensures) ∙ c .if1 .left in
-    rw load
+returns-2 c = rw (is-load (c .before) ∙ c .if1 .left)
 
 pub demand-in-spec : {M : Type 1} → statement M
 demand-in-spec =

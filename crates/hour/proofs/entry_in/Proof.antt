@@ -1,9 +1,8 @@
 -- `hour::entry_in` meets its contract, letter by letter: each is one word of the part.
 use mathlib.Core.Path.{_∙_, ap}
 use native.Mathlib.Omega.{arith}
-use mir.Syntax.{w64}
-use mir.ValLaws.{toZ-ofZ}
 use borrow.Author.Needs.{sfits-of}
+use Rattle.whole.proofs.Machine.{read-back}
 use Rattle.rules.specs.Record.{entry, signed}
 use Rattle.hour.proofs.Wide.{word-is}
 use Rattle.hour.proofs.entry_in.Statement.{statement}
@@ -60,19 +59,28 @@ whole-word-requires-8 c κs = omega arith
 cast-t18 : tie.Need-cast-t18
 cast-t18 c = omega arith
 
+-- each letter names the moment when its word was read, the last word first
 returns : tie.Need-returns
 unfolding entry
-returns c = λ k. record {
-  kind = (c .before .before .before .before .before .before .before .before .before .kind-in .ensures) k;
-  S = (word-is (c .before .before .before .before .before .before .before .before .whole-word .ok) (c .before .before .before .before .before .before .before .before .whole-word .ensures)) k;
-  A = (word-is (c .before .before .before .before .before .before .before .whole-word2 .ok) (c .before .before .before .before .before .before .before .whole-word2 .ensures)) k;
-  J = (toZ-ofZ w64 _ (sfits-of (c .before .before .before .before .before .signed .ok)) ∙ c .before .before .before .before .before .signed .ensures ∙ ap signed (c .before .before .before .before .before .before .whole-word3 .ensures)) k;
-  N = (word-is (c .before .before .before .before .whole-word4 .ok) (c .before .before .before .before .whole-word4 .ensures)) k;
-  O = (word-is (c .before .before .before .whole-word5 .ok) (c .before .before .before .whole-word5 .ensures)) k;
-  M = (word-is (c .before .before .whole-word6 .ok) (c .before .before .whole-word6 .ensures)) k;
-  F = (word-is (c .before .whole-word7 .ok) (c .before .whole-word7 .ensures)) k;
-  H = (word-is (c .whole-word8 .ok) (c .whole-word8 .ensures)) k;
-}
+returns c =
+    let f = c .before in
+    let m = f .before in
+    let o = m .before in
+    let n = o .before in
+    let j = n .before in
+    let a = j .before .before in
+    let s = a .before in
+    λ k. record {
+      kind = s .before .kind-in .ensures k;
+      S = word-is (s .whole-word .ok) (s .whole-word .ensures) k;
+      A = word-is (a .whole-word2 .ok) (a .whole-word2 .ensures) k;
+      J = (read-back (sfits-of (j .signed .ok)) ∙ j .signed .ensures ∙ ap signed (j .before .whole-word3 .ensures)) k;
+      N = word-is (n .whole-word4 .ok) (n .whole-word4 .ensures) k;
+      O = word-is (o .whole-word5 .ok) (o .whole-word5 .ensures) k;
+      M = word-is (m .whole-word6 .ok) (m .whole-word6 .ensures) k;
+      F = word-is (f .whole-word7 .ok) (f .whole-word7 .ensures) k;
+      H = word-is (c .whole-word8 .ok) (c .whole-word8 .ensures) k;
+    }
 
 pub entry-in-spec : {M : Type 1} → statement M
 entry-in-spec =

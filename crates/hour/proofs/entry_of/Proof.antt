@@ -1,18 +1,25 @@
 -- `hour::entry_of` meets its contract: the record's part has the record's numbers.
 use mathlib.Core.Path.{_∙_}
-use Rattle.hourfile.proofs.Rows.{record-inside, row-length}
-use Rattle.hour.proofs.Rows.{row-entry}
+use Rattle.hourfile.proofs.Rows.{record-inside}
+use Rattle.hour.proofs.Rows.{PartOf, part-length, part-entry}
 use Rattle.hour.proofs.entry_of.Statement.{statement}
 use Rattle.hour.proofs.entry_of.Tie as tie
 
 record-requires : tie.Need-record-requires
 record-requires c κs = record-inside (c .before .pre .0) (c .before .pre .1)
 
+module _ (c : tie.After-record) where
+  abbrev start : tie.Start
+  start = c .before .before
+
+  own : PartOf (start .args .file .now) (start .args .i) (c .record .result .now)
+  own = record { kept = start .pre .0; there = start .pre .1; part = c .record .ensures }
+
 entry-in-requires : tie.Need-entry-in-requires
-entry-in-requires c κs = let start = c .before .before in row-length (start .pre .0) (start .pre .1) (c .record .ensures)
+entry-in-requires c κs = part-length (own c)
 
 returns : tie.Need-returns
-returns c = let start = c .before .before .before in c .entry-in .ensures ∙ row-entry (start .pre .0) (start .pre .1) (c .before .record .ensures)
+returns c = c .entry-in .ensures ∙ part-entry (own (c .before))
 
 pub entry-of-spec : {M : Type 1} → statement M
 entry-of-spec = tie.close (tie.spec record-requires entry-in-requires returns)

@@ -2,9 +2,8 @@
 use mathlib.Core.Path.{_≡_, _∙_, ap}
 use Prim.Native.Nat.{_+_, _*_, _<_}
 use native.Mathlib.Omega.{arith}
-use mir.Syntax.{w64}
-use mir.ValLaws.{toZ-ofZ}
 use borrow.Author.Needs.{sfits-of}
+use Rattle.whole.proofs.Machine.{read-back}
 use Rattle.rules.specs.Record.{price, zonePrice, zoneOf, signed}
 use Rattle.hourfile.proofs.Rows.{head-inside, head-there}
 use Rattle.hour.specs.Hour.{hourIn}
@@ -32,10 +31,13 @@ module _ (c : tie.After-whole-word) where
 
   zone-is : c .whole-word .result ≡ zoneOf (hourIn (start .args .file .now)) (start .args .a)
   unfolding zoneOf
-  zone-is = c .whole-word .ensures ∙ head-there (start .pre .0) (16 + 4 * start .args .a) (omega (arith, area-few start)) (omega arith)
+  zone-is =
+      c .whole-word .ensures ∙ head-there (start .pre .0) (16 + 4 * start .args .a) (omega (arith, area-few start)) (omega arith)
 
   zone-few : 12 + c .whole-word .result < 16
-  zone-few = omega (arith, zone-is, start .pre .0 .hour-kept .area-kept (start .args .a) (start .pre .1) .zone-there, start .pre .0 .hour-kept .zones-most)
+  zone-few =
+      let ranges = start .pre .0 .hour-kept in
+      omega (arith, zone-is, ranges .area-kept (start .args .a) (start .pre .1) .zone-there, ranges .zones-most)
 
 add-whole-word-2 : tie.Need-add-whole-word-2
 add-whole-word-2 c = omega (arith, zone-few c)
@@ -51,7 +53,7 @@ unfolding price zonePrice
 returns c =
     let zoned = c .before .before in
     let h = hourIn (start zoned .args .file .now) in
-    toZ-ofZ w64 (c .signed .result) (sfits-of (c .signed .ok))
+    read-back (sfits-of (c .signed .ok))
     ∙ c .signed .ensures
     ∙ ap signed (c .before .whole-word2 .ensures
     ∙ head-there (start zoned .pre .0) (12 + zoned .whole-word .result) (omega (arith, zone-few zoned)) (omega arith)

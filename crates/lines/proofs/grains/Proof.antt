@@ -1,23 +1,22 @@
 -- `lines::grains` meets its contract: price, deviation and share each keep their range, so that the product fits.
 use mathlib.Core.Path.{_≡_, _∙_, ap, ap₂}
 use Prim.Native.Nat.{ℕ}
-use mir.Syntax.{w64}
-use mir.ValLaws.{toZ-ofZ}
-use Rattle.whole.proofs.Machine.{Num, result, _:+_, _:*_, fits, stored, back}
+use Rattle.whole.proofs.Machine.{Num, result, _:+_, _:*_, fits, stored, back, read-back}
 use Rattle.rules.specs.Record.{Hour, price, entryOf, areaOf}
 use Rattle.rules.specs.Deviation.{deviation}
 use Rattle.rules.specs.Charge.{enteringAs, entering, grains}
 use Rattle.rules.specs.Kept.{RecordKept}
 use Rattle.rules.proofs.Bounds.{deviation-under, entering-under, share-under, price-under}
-use Rattle.hourfile.proofs.Rows.{record-inside, row-length}
+use Rattle.hourfile.proofs.Rows.{record-inside}
 use Rattle.hour.specs.Hour.{hourIn}
-use Rattle.hour.proofs.Rows.{row-kind, row-area}
+use Rattle.hour.proofs.Rows.{PartOf, part-length, part-kind, part-area}
 use Rattle.lines.proofs.grains.Statement.{statement}
 use Rattle.lines.proofs.grains.Tie as tie
 
 record-requires : tie.Need-record-requires
 record-requires c κs = record-inside (c .before .pre .kept) (c .before .pre .there)
 
+-- the record's part is read
 module _ (c : tie.After-record) where
   abbrev start : tie.Start
   start = c .before .before
@@ -28,38 +27,44 @@ module _ (c : tie.After-record) where
   abbrev i : ℕ
   i = start .args .i
 
-  abbrev kept : RecordKept h i
+  own : PartOf (start .args .file .now) i (c .record .result .now)
+  own = record { kept = start .pre .kept; there = start .pre .there; part = c .record .ensures }
+
+  kept : RecordKept h i
   kept = start .pre .kept .hour-kept .record-kept i (start .pre .there)
 
   deviation-is : back (start .args .deviation) ≡ deviation (entryOf h i)
-  deviation-is = toZ-ofZ w64 (start .args .deviation) (start .fits .deviation) ∙ start .pre .deviation-is
+  deviation-is = read-back (start .fits .deviation) ∙ start .pre .deviation-is
 
 kind-in-requires : tie.Need-kind-in-requires
-kind-in-requires c κs = row-length (start c .pre .kept) (start c .pre .there) (c .record .ensures)
+kind-in-requires c κs = part-length (own c)
 
 area-in-requires : tie.Need-area-in-requires
-area-in-requires c κs = let r = c .before in row-length (start r .pre .kept) (start r .pre .there) (r .record .ensures)
+area-in-requires c κs = part-length (own (c .before))
 
 area-is : (c : tie.After-area-in) → c .area-in .result ≡ areaOf (h (c .before .before)) (i (c .before .before))
-area-is c = let r = c .before .before in c .area-in .ensures ∙ row-area (start r .pre .kept) (start r .pre .there) (r .record .ensures)
+area-is c = c .area-in .ensures ∙ part-area (own (c .before .before))
 
 price-requires : tie.Need-price-requires
-price-requires c κs = let r = c .before .before in (start r .pre .kept, rw (area-is c) (kept r .area-there))
+price-requires c κs = let read = c .before .before in (start read .pre .kept, rw (area-is c) (kept read .area-there))
 
 entering-requires : tie.Need-entering-requires
-entering-requires c κs = let r = c .before .before .before in rw (deviation-is r) (deviation-under (kept r .entry-kept))
+entering-requires c κs = let read = c .before .before .before in rw (deviation-is read) (deviation-under (kept read .entry-kept))
 
+-- price, deviation and share, each as a number with its range
 module _ (c : tie.After-entering) where
+  abbrev areaed : tie.After-area-in
+  areaed = c .before .before
+
   abbrev read : tie.After-record
-  read = c .before .before .before .before
+  read = areaed .before .before
 
   price-is : c .before .price .result ≡ price (h read) (areaOf (h read) (i read))
-  price-is = c .before .price .ensures ∙ ap (price (h read)) (area-is (c .before .before))
+  price-is = c .before .price .ensures ∙ ap (price (h read)) (area-is areaed)
 
   entering-is : c .entering .result ≡ entering (entryOf (h read) (i read))
   unfolding entering
-  entering-is = c .entering .ensures
-      ∙ ap₂ enteringAs (c .before .before .before .kind-in .ensures ∙ row-kind (start read .pre .kept) (start read .pre .there) (read .record .ensures)) (deviation-is read)
+  entering-is = c .entering .ensures ∙ ap₂ enteringAs (areaed .before .kind-in .ensures ∙ part-kind (own read)) (deviation-is read)
 
   abbrev priced : Num
   priced = result price-is (price-under (start read .pre .kept .hour-kept) (areaOf (h read) (i read)) (kept read .area-there))

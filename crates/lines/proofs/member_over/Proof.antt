@@ -1,15 +1,17 @@
--- `lines::member_over` meets its contract. The loop's invariant: no amount passed is over the limit; the test of a size is the definition's.
+-- `lines::member_over` meets its contract. The loop's invariant: no amount passed is over the limit; the code's test of a size is the
+-- definition's.
 use mathlib.Core.Path.{_≡_, refl, sym, _∙_, ap}
+use mathlib.Core.Bool.{true, false}
+use mathlib.Core.List.{List}
 use mathlib.Core.Option.{none}
-use Prim.Native.Nat.{_-_, _≤_}
+use Prim.Native.Nat.{_-_, _≤_, _<_}
 use native.Mathlib.Omega.{arith}
-use lib.IntN.{pos, natAbs}
+use lib.IntN.{ℤ, pos, natAbs}
 use lib.ListN.{length, getD}
-use mir.Syntax.{w64}
-use mir.ValLaws.{toZ-ofZ}
 use borrow.Author.Needs.{sfits-of}
 use borrow.Author.Tests.{lt-ltb, le-ltb}
 use Rattle.whole.specs.Below.{firstBelow}
+use Rattle.whole.proofs.Machine.{read-back}
 use Rattle.whole.proofs.Search.{first-next, first-hit}
 use Rattle.lines.specs.Lined.{overLimit}
 use Rattle.lines.proofs.member_over.Statement.{statement}
@@ -34,14 +36,33 @@ shared-slice-copy-out-size-of c = omega arith
 size-of-requires : tie.Need-size-of-requires Inv-loop μ-loop
 size-of-requires c κs = tt
 
-size-is : (c : tie.After-size-of Inv-loop μ-loop) → c .size-of .result ≡ natAbs (getD (c .before .before .before .before .args .amounts .now) (c .before .before .before .loop .m) (pos 0))
-size-is c = c .size-of .ensures ∙ ap natAbs (toZ-ofZ w64 (getD (c .before .before .before .before .args .amounts .now) (c .before .before .before .loop .m) (pos 0)) (sfits-of (c .before .size-of-arg .given)))
+-- the size of the turn's amount is known
+module _ (c : tie.After-size-of Inv-loop μ-loop) where
+  abbrev turn : tie.At-loop Inv-loop μ-loop
+  turn = c .before .before .before
+
+  abbrev amounts : List ℤ
+  amounts = turn .before .args .amounts .now
+
+  abbrev amount : ℤ
+  amount = getD amounts (turn .loop .m) (pos 0)
+
+  size-is : c .size-of .result ≡ natAbs amount
+  size-is = c .size-of .ensures ∙ ap natAbs (read-back {z = amount} (sfits-of (c .before .size-of-arg .given)))
+
+  over : 4000000000000000000 < c .size-of .result → overLimit amounts (turn .loop .m) ≡ true
+  unfolding overLimit
+  over l = rw (← size-is) (lt-ltb 4000000000000000000 (c .size-of .result) l)
+
+  within : c .size-of .result ≤ 4000000000000000000 → overLimit amounts (turn .loop .m) ≡ false
+  unfolding overLimit
+  within l = rw (← size-is) (le-ltb 4000000000000000000 (c .size-of .result) l)
 
 returns : tie.Need-returns Inv-loop μ-loop
-unfolding overLimit
 returns c =
-    let at = c .before .before .before .before .loop in
-    sym (first-hit (overLimit (c .before .before .before .before .before .args .amounts .now)) (at .m) (length (c .before .before .before .before .before .args .amounts .now)) (at .inv .1) (lt-ltb 4000000000000000000 (natAbs (getD (c .before .before .before .before .before .args .amounts .now) (at .m) (pos 0))) (omega (arith, size-is (c .before)))) (omega arith))
+    let at = turn (c .before) .loop in
+    let held = amounts (c .before) in
+    sym (first-hit (overLimit held) (at .m) (length held) (at .inv .1) (over (c .before) (omega arith)) (omega arith))
 
 add-m : tie.Need-add-m Inv-loop μ-loop
 add-m c = omega arith
@@ -50,15 +71,15 @@ loop-less : tie.Need-loop-less Inv-loop μ-loop
 loop-less c = omega arith
 
 loop-again : tie.Need-loop-again Inv-loop μ-loop
-unfolding overLimit
 loop-again c =
-    let at = c .before .before .before .before .loop in
-    (omega arith, first-next (overLimit (c .before .before .before .before .before .args .amounts .now)) (at .m) (at .inv .1) (le-ltb 4000000000000000000 (natAbs (getD (c .before .before .before .before .before .args .amounts .now) (at .m) (pos 0))) (omega (arith, size-is (c .before)))))
+    let at = turn (c .before) .loop in
+    (omega arith, first-next (overLimit (amounts (c .before))) (at .m) (at .inv .1) (within (c .before) (omega arith)))
 
 returns-2 : tie.Need-returns-2 Inv-loop μ-loop
 returns-2 c =
-    let all : c .before .loop .m ≡ length (c .before .before .args .amounts .now) = omega arith in
-    sym (c .before .loop .inv .1) ∙ ap (firstBelow (overLimit (c .before .before .args .amounts .now))) all
+    let held = c .before .before .args .amounts .now in
+    let all : c .before .loop .m ≡ length held = omega arith in
+    sym (c .before .loop .inv .1) ∙ ap (firstBelow (overLimit held)) all
 
 pub member-over-spec : {M : Type 1} → statement M
 member-over-spec =

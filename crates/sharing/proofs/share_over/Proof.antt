@@ -3,82 +3,86 @@ use mathlib.Core.Path.{_≡_, _∙_, ap}
 use mathlib.Core.List.{List}
 use Prim.Native.Nat.{ℕ}
 use native.Mathlib.Omega.{arith}
-use lib.IntN.{pos, natAbs}
-use lib.ListN.{length, getD}
-use mir.Syntax.{w64}
-use mir.ValLaws.{toZ-ofZ}
+use lib.IntN.{natAbs}
 use borrow.Author.Needs.{sfits-of, needs}
-use Rattle.whole.specs.Below.{valuesBelow, replacingFirst}
-use Rattle.whole.proofs.Buffers.{replacing-ext}
+use Rattle.whole.specs.Below.{valuesBelow}
+use Rattle.whole.proofs.Machine.{read-back}
 use Rattle.rules.specs.Record.{Hour}
 use Rattle.rules.specs.Ufe.{ufe}
-use Rattle.rules.specs.Kept.{HourKept}
 use Rattle.share.specs.Shareable.{sharesIn}
 use Rattle.hour.specs.Hour.{hourIn}
-use Rattle.sharing.specs.Shared.{demandIn, withSizes}
-use Rattle.sharing.proofs.Areas.{shareable, got-length, got-small, one-more-area, area-place, figure-is}
+use Rattle.sharing.specs.Shared.{demandIn}
+use Rattle.sharing.proofs.Areas.{Asked, shareable, sized, area-shared, area-place, figure-is}
 use Rattle.sharing.proofs.share_over.Statement.{statement}
 use Rattle.sharing.proofs.share_over.Tie as tie
 
 put-demands-requires : tie.Need-put-demands-requires
 put-demands-requires c κs = let start = c .before .before .before .before in (start .pre .0 .sharing .kept, start .pre .1)
 
-mul-size-of : tie.Need-mul-size-of
-mul-size-of c = omega (arith, area-place (c .before .before .before .before .before .before .before .before .pre .0))
-
-array-copy-out-size-of : tie.Need-array-copy-out-size-of
-array-copy-out-size-of c = area-place (c .before .before .before .before .before .before .before .before .pre .0)
-
-size-of-requires : tie.Need-size-of-requires
-size-of-requires c κs = tt
-
-module _ (c : tie.After-shares-arg2) where
+-- the demands are put
+module _ (c : tie.After-put-demands) where
   abbrev start : tie.Start
-  start = c .before .before .before .before .before .before .before .before .before .before .before
+  start = c .before .before .before .before .before
 
   abbrev h : Hour
   h = hourIn (start .args .file .now)
 
-  abbrev kept : HourKept h
-  kept = start .pre .0 .sharing .kept .hour-kept
+  abbrev a : ℕ
+  a = start .args .a
 
-  -- the demands as they were put
   abbrev put : List ℕ
-  put = c .before .before .before .before .before .before .put-demands .last .1 .1 .0
+  put = c .put-demands .last .1 .1 .0
 
-  demands-are : put ≡ valuesBelow (demandIn h (start .args .a)) (h .count)
-  demands-are = c .before .before .before .before .before .before .put-demands .ensures ∙ ap (valuesBelow (demandIn h (start .args .a))) (start .pre .1)
+  asked : Asked (start .args .file .now) (start .args .t2) a (start .args .out .now) put (start .args .sizes .now)
+  asked = record {
+    up-to = start .pre .0;
+    demands-are = c .put-demands .ensures ∙ ap (valuesBelow (demandIn h a)) (start .pre .1);
+    places = start .pre .2;
+  }
 
-  size-is : c .before .size-of .result ≡ natAbs (ufe h (start .args .a))
-  size-is = c .before .size-of .ensures ∙ ap natAbs (toZ-ofZ w64 (getD (start .args .t2) (start .args .a) (pos 0)) (sfits-of (c .before .before .size-of-arg .given)) ∙ figure-is (start .pre .0))
+-- that moment, as it is seen where the engine is to be called
+abbrev asking : tie.After-shares-arg2 → tie.After-put-demands
+asking c = c .before .before .before .before .before .before
 
--- the sizes as they were shared
-module _ (c : tie.After-put-area-arg2) where
-  abbrev asked : tie.After-shares-arg2
-  asked = c .before .before .before .before .before
+mul-size-of : tie.Need-mul-size-of
+mul-size-of c = omega (arith, area-place (start (c .before .before .before) .pre .0))
 
-  abbrev got : List ℕ
-  got = c .before .before .before .before .shares .last .1 .1 .0
+array-copy-out-size-of : tie.Need-array-copy-out-size-of
+array-copy-out-size-of c = area-place (start (c .before .before .before) .pre .0)
 
-  shared : got ≡ sharesIn (put asked) (natAbs (ufe (h asked) (start asked .args .a))) (start asked .args .sizes .now)
-  shared = c .before .before .before .before .shares .ensures ∙ ap (λ u. sharesIn (put asked) u (start asked .args .sizes .now)) (size-is asked)
+size-of-requires : tie.Need-size-of-requires
+size-of-requires c κs = tt
 
-  as-many : length got ≡ h asked .count
-  as-many = got-length (kept asked) (start asked .args .a) (start asked .pre .0 .there) (put asked) (start asked .args .sizes .now) (demands-are asked) (start asked .pre .2) got shared
+-- the size that the engine is asked to share is the UFE's
+module _ (c : tie.After-shares-arg2) where
+  abbrev size : ℕ
+  size = natAbs (ufe (h (asking c)) (a (asking c)))
+
+  size-is : c .before .size-of .result ≡ size
+  size-is =
+      c .before .size-of .ensures
+      ∙ ap natAbs (read-back (sfits-of (c .before .before .size-of-arg .given)) ∙ figure-is (start (asking c) .pre .0))
 
 shares-requires : tie.Need-shares-requires
-shares-requires c κs = rw (size-is c) (shareable (kept c) (start c .args .a) (start c .pre .0 .there) (put c) (start c .args .sizes .now) (demands-are c) (start c .pre .2))
+shares-requires c κs = rw (size-is c) (shareable (asked (asking c)))
+
+-- the engine has answered
+module _ (c : tie.After-shares) where
+  abbrev asked-at : tie.After-put-demands
+  asked-at = asking (c .before)
+
+  abbrev got : List ℕ
+  got = c .shares .last .1 .1 .0
+
+  shared : got ≡ sharesIn (put asked-at) (size (c .before)) (start asked-at .args .sizes .now)
+  shared = c .shares .ensures ∙ ap (λ u. sharesIn (put asked-at) u (start asked-at .args .sizes .now)) (size-is (c .before))
+
+-- that moment, as it is seen where the area is to be put
+abbrev answered : tie.After-put-area-arg2 → tie.After-shares
+answered c = c .before .before .before .before
 
 put-area-requires : tie.Need-put-area-requires
-put-area-requires c κs =
-    let k = asked c in
-    record {
-      kept = start k .pre .0 .sharing .kept;
-      area-place = area-place (start k .pre .0);
-      as-many = as-many c;
-      room = omega (arith, as-many c, start k .pre .0 .sharing .room);
-      small = got-small (kept k) (start k .args .a) (start k .pre .0 .there) (put k) (start k .args .sizes .now) (demands-are k) (start k .pre .2) (got c) (shared c);
-    }
+put-area-requires c κs = sized (asked (asked-at (answered c))) (shared (answered c))
 
 same-length : tie.Need-same-length
 same-length c = search needs
@@ -91,14 +95,8 @@ same-length-3 c = search needs
 
 returns : tie.Need-returns
 returns c =
-    let d = c .before .before in
-    let k = asked d in
-    let out = start k .args .out .now in
-    let a = start k .args .a in
-    c .before .put-area .ensures
-    ∙ ap (λ n. replacingFirst (withSizes (h k) a (getD (start k .args .t2) a (pos 0)) (got d) out) n out) (as-many d)
-    ∙ ap (λ u. replacingFirst (withSizes (h k) a u (got d) out) (h k .count) out) (figure-is (start k .pre .0))
-    ∙ replacing-ext _ _ (h k .count) out (one-more-area (kept k) a (start k .pre .0 .there) (put k) (start k .args .sizes .now) (demands-are k) (start k .pre .2) (got d) (shared d) out (start k .pre .0 .shared))
+    let engine = answered (c .before .before) in
+    area-shared (asked (asked-at engine)) (shared engine) (c .before .put-area .ensures)
 
 pub share-over-spec : {M : Type 1} → statement M
 share-over-spec =

@@ -2,7 +2,7 @@
 use mathlib.Core.Path.{_≡_, refl, sym}
 use mathlib.Core.Logic.{⊎-elim}
 use mathlib.Core.Option.{none}
-use Prim.Native.Nat.{_-_, _≤_}
+use Prim.Native.Nat.{_-_, _≤_, _<_}
 use native.Mathlib.Omega.{arith}
 use Rattle.whole.specs.Below.{firstBelow}
 use Rattle.whole.proofs.Search.{first-next, first-hit}
@@ -19,6 +19,17 @@ Inv-loop file t ufe areas a₀ a = (a ≤ areas) × (firstBelow (noDemand (hourI
 abbrev μ-loop : tie.MeasureT-loop
 μ-loop file t ufe areas a₀ a = areas - a
 
+-- the start, as it is seen at the head of a turn; and the head of the turn, as it is seen where the tests of that turn have met
+abbrev start : tie.At-loop Inv-loop μ-loop → tie.Start Inv-loop μ-loop
+start c = c .before .before .before
+
+abbrev turn : tie.Joined1 Inv-loop μ-loop → tie.At-loop Inv-loop μ-loop
+turn c = c .before .before .before
+
+-- the area of a turn has its place among eight
+few : (c : tie.In-loop Inv-loop μ-loop) → c .before .loop .a < 8
+few c = omega (arith, start (c .before) .pre .0 .kept .hour-kept .areas-most)
+
 areas-requires : tie.Need-areas-requires Inv-loop μ-loop
 areas-requires c κs = tt
 
@@ -27,25 +38,26 @@ unfolding firstBelow
 loop-holds c = (omega arith, refl)
 
 mul-if1 : tie.Need-mul-if1 Inv-loop μ-loop
-mul-if1 c = omega (arith, c .before .before .before .before .pre .0 .kept .hour-kept .areas-most)
+mul-if1 c = omega (arith, few c)
 
 element-copy-out-if1 : tie.Need-element-copy-out-if1 Inv-loop μ-loop
-element-copy-out-if1 c = omega (arith, c .before .before .before .before .pre .0 .kept .hour-kept .areas-most)
+element-copy-out-if1 c = omega (arith, few c)
 
 mul-if2 : tie.Need-mul-if2 Inv-loop μ-loop
-mul-if2 c = omega (arith, c .before .before .before .before .before .before .pre .0 .kept .hour-kept .areas-most)
+mul-if2 c = omega (arith, few (c .before .before))
 
 array-copy-out-if2 : tie.Need-array-copy-out-if2 Inv-loop μ-loop
-array-copy-out-if2 c = omega (arith, c .before .before .before .before .before .before .pre .0 .kept .hour-kept .areas-most)
+array-copy-out-if2 c = omega (arith, few (c .before .before))
 
 returns : tie.Need-returns Inv-loop μ-loop
 unfolding badArea
 returns c =
-    let start = c .before .before .before .before .before .before .before .before in
-    let h = hourIn (start .args .file .now) in
-    let a = c .before .before .before .before .before .loop .a in
-    let broken = nobody-demands (start .pre .0) (start .pre .1) a (omega arith) (c .before .before .if1 .taken) (c .if2 .taken) in
-    sym (first-hit (noDemand h) a (Record.areas h) (c .before .before .before .before .before .loop .inv .1) broken (omega arith))
+    let demanded = c .before .before in
+    let at = demanded .before .before .before in
+    let h = hourIn (start at .args .file .now) in
+    let there : at .loop .a < Record.areas h = omega arith in
+    let broken = nobody-demands (start at .pre .0) (start at .pre .1) (at .loop .a) there (demanded .if1 .taken) (c .if2 .taken) in
+    sym (first-hit (noDemand h) (at .loop .a) (Record.areas h) (at .loop .inv .1) broken there)
 
 add-a : tie.Need-add-a Inv-loop μ-loop
 add-a c = omega arith
@@ -55,17 +67,20 @@ loop-less c = omega arith
 
 loop-again : tie.Need-loop-again Inv-loop μ-loop
 loop-again c =
-    let start = c .before .before .before .before .before .before in
-    let a = c .before .before .before .loop .a in
-    let whole = ⊎-elim
-    (λ w. nothing-to-share (start .pre .0) (start .pre .1) a (omega arith) (w .2 .left))
-    (λ w. somebody-demands (start .pre .0) (start .pre .1) a (omega arith) (w .left))
+    let at = turn c in
+    let p = start at .pre in
+    let whole =
+    ⊎-elim
+    (λ w. nothing-to-share (p .0) (p .1) (at .loop .a) (omega arith) (w .2 .left))
+    (λ w. somebody-demands (p .0) (p .1) (at .loop .a) (omega arith) (w .left))
     (c .if1 .came) in
-    (omega arith, first-next (noDemand (hourIn (start .args .file .now))) a (c .before .before .before .loop .inv .1) whole)
+    (omega arith, first-next (noDemand (hourIn (start at .args .file .now))) (at .loop .a) (at .loop .inv .1) whole)
 
 returns-2 : tie.Need-returns-2 Inv-loop μ-loop
 unfolding badArea
-returns-2 c = let all : Record.areas (hourIn (c .before .before .before .before .args .file .now)) ≡ c .before .loop .a = omega arith in rw all (sym (c .before .loop .inv .1))
+returns-2 c =
+    let all : Record.areas (hourIn (start (c .before) .args .file .now)) ≡ c .before .loop .a = omega arith in
+    rw all (sym (c .before .loop .inv .1))
 
 pub area-without-demand-spec : {M : Type 1} → statement M
 area-without-demand-spec =

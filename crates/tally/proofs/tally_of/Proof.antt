@@ -13,6 +13,10 @@ Inv-loop file n t₀ i₀ t i = (i ≤ n) × (t ≡ tallyAfter (hourIn file) i)
 abbrev μ-loop : tie.MeasureT-loop
 μ-loop file n t₀ i₀ t i = n - i
 
+-- the start, as it is seen at the head of a turn
+abbrev start : tie.At-loop Inv-loop μ-loop → tie.Start Inv-loop μ-loop
+start c = c .before .before .before .before
+
 records-requires : tie.Need-records-requires Inv-loop μ-loop
 records-requires c κs = tt
 
@@ -24,9 +28,7 @@ unfolding tallyAfter
 loop-holds c = (omega arith, c .empty-tally .ensures)
 
 tally-with-requires : tie.Need-tally-with-requires Inv-loop μ-loop
-tally-with-requires c κs =
-    let start = c .before .before .before .before .before in
-    record { kept = start .pre; there = omega arith; posted = c .before .loop .inv .1 }
+tally-with-requires c κs = record { kept = start (c .before) .pre; there = omega arith; posted = c .before .loop .inv .1 }
 
 add-i : tie.Need-add-i Inv-loop μ-loop
 add-i c = omega arith
@@ -39,9 +41,9 @@ loop-again c = (omega arith, c .tally-with .ensures)
 
 returns : tie.Need-returns Inv-loop μ-loop
 returns c =
-    let start = c .before .before .before .before .before in
-    let all : c .before .loop .i ≡ hourIn (start .args .file .now) .count = omega arith in
-    c .before .loop .inv .1 ∙ ap (tallyAfter (hourIn (start .args .file .now))) all
+    let h = hourIn (start (c .before) .args .file .now) in
+    let all : c .before .loop .i ≡ h .count = omega arith in
+    c .before .loop .inv .1 ∙ ap (tallyAfter h) all
 
 pub tally-of-spec : {M : Type 1} → statement M
 tally-of-spec =
