@@ -14,13 +14,20 @@ use Rattle.whole.specs.Below.{oneIf, countBelow, sumBelow, totalBelow, replacin
 use Rattle.whole.proofs.Totals.{added-if}
 use Rattle.whole.proofs.Buffers.{getD-changed, replacing-changed, replacing-ext}
 use Rattle.rules.specs.declared.Line.{Line}
-use Rattle.rules.specs.Record.{Hour, members, tieIn, tieOut, memberOf, areaOf, entryOf, isLoad}
+use Rattle.rules.specs.Record.{Hour, members, tieIn, tieOut, memberOf, areaOf, entry, entryOf, isLoad}
 use Rattle.rules.specs.Deviation.{unitsPerKWh}
 use Rattle.rules.specs.Ufe.{inArea, ufe, demand, demands}
 use Rattle.rules.specs.Charge.{grains, amount, recordsOf}
 use Rattle.rules.specs.Settling.{lineOf}
 use Rattle.rules.specs.Posting.{accounted, emptyTally, tallied, demandOf, tallyAfter, emptyLine, lineWith, linesWith, linesAfter}
 use Rattle.rules.proofs.Tariff.{ufe-by-record}
+
+-- ---- D
+
+-- what is demanded is A, word 4 of every kind's record
+pub demand-is-actual : (h : Hour) (i : ℕ) → pos (demand h i) ≡ entryOf h i .A
+unfolding entryOf entry
+demand-is-actual h i = refl
 
 -- ---- the tally
 

@@ -21,6 +21,20 @@ use Rattle.rules.specs.Settling.{Buffers, Settlement, isAccepted, buffer
 use Rattle.rules.specs.Settling.{write}
 use Rattle.rules.specs.Promises.{Accepts, AllWhole, FirstBrokenRow, OneResult}
 
+-- ---- the order: settling checks 1 to 7, then 11; writing 8, then 9
+
+unfoldable pub numbers : List Row → List ℕ
+numbers [] = []
+numbers (row n broken ∷ rows) = n ∷ numbers rows
+
+pub settling-in-order : (s : List ℕ) (b : Buffers) → numbers (settleRows s b) ≡ 1 ∷ 2 ∷ 3 ∷ 4 ∷ 5 ∷ 6 ∷ 7 ∷ 11 ∷ []
+unfolding numbers settleRows bufferRows hourRows fileRows layoutRows wordRows sumRows
+settling-in-order s b = refl
+
+pub writing-in-order : (width : ℕ) (z : ℤ) → numbers (writeRows width z) ≡ 8 ∷ 9 ∷ []
+unfolding numbers writeRows
+writing-in-order width z = refl
+
 -- ---- any table
 
 -- no row has the number of acceptance
