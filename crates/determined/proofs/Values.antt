@@ -22,11 +22,11 @@ use Rattle.formula.proofs.deviation.export_deviation.Reads as export-deviation
 use Rattle.formula.proofs.deviation.deviation.Reads as deviation
 use Rattle.formula.proofs.deviation.entering.Reads as entering
 use Rattle.formula.proofs.deviation.accounted.Reads as accounted
-use Rattle.formula.proofs.posting.empty_tally.Reads as empty-tally
-use Rattle.formula.proofs.posting.tallied.Reads as tallied
-use Rattle.formula.proofs.posting.empty_line.Reads as empty-line
-use Rattle.formula.proofs.posting.line_with.Reads as line-with
-use Rattle.formula.proofs.cents.cents.Reads as cents
+use Rattle.posting.proofs.empty_tally.Reads as empty-tally
+use Rattle.posting.proofs.tallied.Reads as tallied
+use Rattle.posting.proofs.empty_line.Reads as empty-line
+use Rattle.posting.proofs.line_with.Reads as line-with
+use Rattle.posting.proofs.cents.Reads as cents
 use Rattle.hourfile.proofs.signed.Reads as signed
 
 pub one-size-of : (κs : Lfts 0) → OneResult (size-of.Post κs)

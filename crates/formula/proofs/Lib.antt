@@ -1,3 +1,2 @@
--- What several proofs of `formula` share, and what its callers need to show that a posting has room.
-pub mod Terms
-pub mod Room
+-- What several proofs of `formula` share.
+mod Terms

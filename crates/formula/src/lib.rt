@@ -1,6 +1,4 @@
-// Document 01's sums, record by record and as values: deviations, what a record adds to its area, the tally and a member's line, cents.
+// Document 01's formulas, record by record and as values: what a record is, its deviation, and what it adds to its area.
 // No file and no buffer is read or written here.
-pub mod cents;
 pub mod deviation;
 pub mod entry;
-pub mod posting;

@@ -13,8 +13,8 @@ use Rattle.whole.proofs.Totals.{added-if, total-none, total-add-one}
 use Rattle.whole.proofs.Filling.{Held, held-already, held-room, held-at, held-changed}
 use Rattle.rules.specs.Record.{Hour, members, memberOf}
 use Rattle.rules.specs.Charge.{grains, amount, recordsOf}
-use Rattle.formula.specs.Room.{LineRoom}
-use Rattle.formula.proofs.Room as Room
+use Rattle.posting.specs.Room.{LineRoom}
+use Rattle.posting.proofs.Room as Room
 use Rattle.hour.specs.Hour.{hourIn}
 use Rattle.lines.specs.Lined.{amountAfter, countAfter, amountsWith, countsWith, Worked, PostedUpTo}
 

@@ -51,7 +51,7 @@ fn post(file: &[u8], i: usize, deviation: i64, share: i64, amounts: &mut [i64], 
         amount: amounts[m],
         records: counts[m],
     };
-    let line = formula::posting::line_with(before, grains(file, i, deviation, share));
+    let line = posting::line_with(before, grains(file, i, deviation, share));
     let amount = line.amount;
     amounts[m] = amount;
     counts[m] = line.records;
@@ -126,7 +126,7 @@ pub fn put_charges(amounts: &[i64], charges: &mut [i64])
     let n = amounts.len();
     let mut m = 0;
     while m < n {
-        charges[m] = formula::cents::cents(amounts[m]);
+        charges[m] = posting::cents(amounts[m]);
         m += 1;
     }
 }

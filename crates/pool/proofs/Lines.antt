@@ -18,7 +18,7 @@ use Rattle.rules.specs.Posting.{emptyLine, linesWith, linesAfter}
 use Rattle.rules.specs.Kept.{HourKept}
 use Rattle.rules.proofs.Posting.{lineAfter, lines-after}
 use Rattle.rules.proofs.Bounds.{amount-running, grains-under}
-use Rattle.formula.specs.Room.{LineRoom}
+use Rattle.posting.specs.Room.{LineRoom}
 
 module _ {h : Hour} (kept : HourKept h) (old : List Line) where
   member-before : (n : ℕ) → n ≤ h .count → (i : ℕ) → i < n → memberOf h i < members h

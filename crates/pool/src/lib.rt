@@ -10,7 +10,7 @@ ghost use Rattle.rules.specs.Refusals.{accepted, verdict, fileRows};
 ghost use Rattle.rules.specs.Settling as Settling;
 ghost use Rattle.rules.specs.Promises.{Fits};
 ghost use Rattle.rules.specs.Kept.{FileKept};
-ghost use Rattle.formula.specs.Room.{TallyRoom, LineRoom};
+ghost use Rattle.posting.specs.Room.{TallyRoom, LineRoom};
 ghost use Rattle.hour.specs.Hour.{hourIn};
 ghost use Rattle.lines.specs.Lined.{AllWorked};
 ghost use Rattle.tally.specs.Posted.{Tallied};
@@ -30,7 +30,7 @@ fn post(tally: &mut Tally, area: usize, demand: u64, energy: i64)
     ensures { λ _. ⌜ now (tally .exit) ≡ Posting.tallied (now (tally .entry)) area demand energy ⌝ }
 {
     let before = *tally;
-    *tally = formula::posting::tallied(before, area, demand, energy);
+    *tally = posting::tallied(before, area, demand, energy);
 }
 
 // Touches the member's line and no other.
@@ -39,7 +39,7 @@ fn post_line(lines: &mut [Line], member: usize, grains: i64)
     ensures { λ _. ⌜ now (lines .exit) ≡ Posting.linesWith (now (lines .entry)) member grains ⌝ }
 {
     let before = lines[member];
-    lines[member] = formula::posting::line_with(before, grains);
+    lines[member] = posting::line_with(before, grains);
 }
 
 // All records, in file order, to one tally that is lent to each posting.
@@ -48,7 +48,7 @@ fn tally_of(file: &[u8]) -> Tally
     ensures { λ r. ⌜ r ≡ Posting.tallyAfter (hourIn (now (file .entry))) (hourIn (now (file .entry)) .count) ⌝ }
 {
     let n = hourfile::records(file);
-    let mut tally = formula::posting::empty_tally();
+    let mut tally = posting::empty_tally();
     let mut i = 0;
     while i < n {
         let area = hour::area_of(file, i);
@@ -67,7 +67,7 @@ fn clear_lines(lines: &mut [Line], n: usize)
 {
     let mut m = 0;
     while m < n {
-        lines[m] = formula::posting::empty_line();
+        lines[m] = posting::empty_line();
         m += 1;
     }
 }

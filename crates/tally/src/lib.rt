@@ -22,7 +22,7 @@ pub fn tally_with(file: &[u8], t: Tally, i: usize) -> Tally
     let area = hour::area_in(row);
     let demand = hour::demand_in(row);
     let energy = formula::deviation::accounted(hour::entry_in(row));
-    formula::posting::tallied(t, area, demand, energy)
+    posting::tallied(t, area, demand, energy)
 }
 
 // All records, in file order.
@@ -31,7 +31,7 @@ pub fn tally_of(file: &[u8]) -> Tally
     ensures { λ r. ⌜ r ≡ tallyAfter (hourIn (now (file .entry))) (hourIn (now (file .entry)) .count) ⌝ }
 {
     let n = hourfile::records(file);
-    let mut t = formula::posting::empty_tally();
+    let mut t = posting::empty_tally();
     let mut i = 0;
     while i < n {
         t = tally_with(file, t, i);

@@ -13,7 +13,7 @@ use Rattle.rules.specs.Posting.{accounted, demandOf, tallyAfter}
 use Rattle.rules.specs.Kept.{HourKept}
 use Rattle.rules.proofs.Posting.{tally-records, tally-demand, tally-energy, lineAfter}
 use Rattle.rules.proofs.Bounds.{accounted-under, demand-running, energy-running, grains-under, amount-running}
-use Rattle.formula.specs.Room.{TallyRoom, LineRoom}
+use Rattle.posting.specs.Room.{TallyRoom, LineRoom}
 
 module _ {h : Hour} (kept : HourKept h) (n : ℕ) (there : n < h .count) where
   area-there : areaOf h n < 8

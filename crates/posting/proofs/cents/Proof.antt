@@ -1,4 +1,4 @@
--- `formula::cents::cents` meets its contract: half a cent away from zero, then the quotient toward it.
+-- `posting::cents` meets its contract: half a cent away from zero, then the quotient toward it.
 use mathlib.Core.Path.{_∙_}
 use lib.Dec.{lit<}
 use native.Mathlib.Omega.{arith}
@@ -6,8 +6,8 @@ use lib.IntN.{pos}
 use Rattle.whole.proofs.Division.{nearest-neg, nearest-pos}
 use Rattle.whole.proofs.Machine.{Num, #, at, _:+_, _:-_, _:/_, fits, stored, lt-yes, lt-no}
 use Rattle.rules.specs.Charge.{nearestCent, cents}
-use Rattle.formula.proofs.cents.cents.Statement.{statement}
-use Rattle.formula.proofs.cents.cents.Tie as tie
+use Rattle.posting.proofs.cents.Statement.{statement}
+use Rattle.posting.proofs.cents.Tie as tie
 
 module _ (c : tie.Start) where
   abbrev grains : Num

@@ -1,4 +1,4 @@
--- `formula::posting::tallied` meets its contract: both sums fit, by the room that is asked.
+-- `posting::tallied` meets its contract: both sums fit, by the room that is asked.
 use mir.Syntax.{w64}
 use mir.Val.{Fits, SFits}
 use Prim.Native.Nat.{_*_}
@@ -8,8 +8,8 @@ use lib.Dec.{lit<}
 use borrow.Author.Needs.{sfits-of, scaled-fits}
 use Rattle.whole.proofs.Machine.{sum-fits, sum-stored}
 use Rattle.rules.specs.Posting.{tallied}
-use Rattle.formula.proofs.posting.tallied.Statement.{statement}
-use Rattle.formula.proofs.posting.tallied.Tie as tie
+use Rattle.posting.proofs.tallied.Statement.{statement}
+use Rattle.posting.proofs.tallied.Tie as tie
 
 -- the place of an area in an array of 64-bit numbers
 place-fits : (c : tie.Start) → Fits w64 (c .args .area * 8)

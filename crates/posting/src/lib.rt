@@ -1,7 +1,10 @@
-// The hour's tally and a member's line, as values that go in and come back with one record more.
+// What a posting does, by value: the hour's tally and a member's line go in and come back with one record more; and a line's grains in cents.
+// No file and no buffer is read or written here.
 ghost use mathlib.Core.Path.{_≡_};
+ghost use Rattle.whole.specs.Signed.{Under};
+ghost use Rattle.rules.specs.Charge as Charge;
 ghost use Rattle.rules.specs.Posting as Posting;
-ghost use Rattle.formula.specs.Room.{TallyRoom, LineRoom};
+ghost use Rattle.posting.specs.Room.{TallyRoom, LineRoom};
 use rules::Line;
 use rules::Tally;
 
@@ -44,5 +47,17 @@ pub fn line_with(l: Line, grains: i64) -> Line
     Line {
         amount: l.amount + grains,
         records: l.records + 1,
+    }
+}
+
+// Grains to the nearest cent, halves away from zero: half a cent away from zero first, since `/` goes toward it.
+pub fn cents(grains: i64) -> i64
+    requires { ⌜ Under grains 4000000000000000000 ⌝ }
+    ensures { λ r. ⌜ r ≡ Charge.cents grains ⌝ }
+{
+    if grains < 0 {
+        (grains - 5000000) / 10000000
+    } else {
+        (grains + 5000000) / 10000000
     }
 }

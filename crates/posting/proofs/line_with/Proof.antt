@@ -1,11 +1,11 @@
--- `formula::posting::line_with` meets its contract: the sum fits, by the room that is asked.
+-- `posting::line_with` meets its contract: the sum fits, by the room that is asked.
 use mir.Syntax.{w64}
 use mir.Val.{SFits}
 use borrow.Author.Needs.{sfits-of}
 use Rattle.whole.proofs.Machine.{sum-fits, sum-stored}
 use Rattle.rules.specs.Posting.{lineWith}
-use Rattle.formula.proofs.posting.line_with.Statement.{statement}
-use Rattle.formula.proofs.posting.line_with.Tie as tie
+use Rattle.posting.proofs.line_with.Statement.{statement}
+use Rattle.posting.proofs.line_with.Tie as tie
 
 -- the line's amount is an i64
 amount-fits : (c : tie.After-struct-told) → SFits w64 (c .before .before .args .l .amount)

@@ -1,0 +1,2 @@
+-- What the callers need to show that a posting has room.
+pub mod Room

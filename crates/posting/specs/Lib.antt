@@ -1,0 +1,2 @@
+-- What the contracts of `posting` cite beside `rules`.
+pub mod Room
