@@ -52,6 +52,15 @@ HELPERS = naming.rows(SECTIONS["Definitions that render no sentence"])
 WITHOUT_AN_EDIT = naming.rows(SECTIONS["Sentences without an edit"])
 
 
+def under_headings(text):
+    """The lines of a program's output; one that is set in stands behind the heading above it, a line without a figure."""
+    heading = ""
+    for line in text.splitlines():
+        if line.replace(" ", "").isalpha():
+            heading = line
+        yield heading + line if line.startswith(" ") else line
+
+
 class PageTest(unittest.TestCase):
     def assert_named(self, cell, *kinds):
         """Everything that a cell names is there, as one of these kinds."""
@@ -149,12 +158,12 @@ class Whole(PageTest):
 
 class OtherTables(PageTest):
     def test_figures(self):
-        shown = [line for crate in ("figures", "amounts") for line in (naming.CRATES / crate / "stdout").read_text().splitlines()]
+        shown = [line for crate in ("figures", "amounts", "examined") for line in under_headings((naming.CRATES / crate / "stdout").read_text())]
         starred = (naming.CRATES / "rules" / "specs" / "Figures.antt").read_text().split("\nstarred =")[1]
         cases = []
         for row in rows_of("G"):
             with self.subTest(number(row)):
-                case, lines = row["case of the list"], naming.names(row["line of `figures` or `amounts`"])
+                case, lines = row["case of the list"], naming.names(row["line of `figures`, `amounts` or `examined`"])
                 self.assertEqual(case != "—", "** * " in row["figure"])
                 cases += [case] if case != "—" else []
                 self.assertTrue(lines)
