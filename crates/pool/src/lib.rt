@@ -1,5 +1,5 @@
 // The customer's library: the tally and the members' lines are lent to each posting, and settling writes into the caller's own buffers.
-// Structs are moved here, not computed with: the sums are worked by value in `formula`, `lines` and `settle`.
+// Structs are moved here, not computed with: the sums are worked by value in `formula`, `posting` and `settle`.
 ghost use mathlib.Core.Path.{_≡_};
 ghost use Prim.Native.Nat.{min, _≤_, _<_};
 ghost use lib.ListN.{length, getD};
