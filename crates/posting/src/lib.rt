@@ -1,5 +1,5 @@
-// What a posting does, by value: the hour's tally and a member's line go in and come back with one record more; and a line's grains in cents.
-// No file and no buffer is read or written here.
+// What a posting does, by value: the hour's tally and a member's line go in and come back with one record more. And a line's grains in
+// cents. No file and no buffer is read or written here.
 ghost use mathlib.Core.Path.{_≡_};
 ghost use Rattle.whole.specs.Signed.{Under};
 ghost use Rattle.rules.specs.Charge as Charge;

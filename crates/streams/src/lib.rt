@@ -10,8 +10,8 @@ use libc::STDERR_FILENO;
 use libc::STDOUT_FILENO;
 use rules::Answer;
 
-// Reads what `name` names until it ends, which a read of no bytes tells, or `file` is full. It answers as `libc::read` does: -1 where a read
-// failed, else how many bytes it put at the start of `file`.
+// Reads what `name` names until it ends, which a read of no bytes tells, or `file` is full. It answers as `libc::read` does: -1 where a
+// read failed, else how many bytes it put at the start of `file`.
 pub fn read_all(descriptor: i32, name: &[u8], file: &mut [u8]) -> isize
     ensures { λ r. ⌜ Moved (length (now (file .exit))) r ⌝ }
 {

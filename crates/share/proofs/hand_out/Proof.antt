@@ -16,19 +16,22 @@ abbrev μ-loop : tie.MeasureT-loop
 
 -- the round's largest remainder has its place, and its size can grow
 module _ (c : tie.After-largest Inv-loop μ-loop) where
-  best-in : c .largest .result < length (c .before .before .before .before .before .before .args .rests .now)
-  best-in =
-      best-there (c .before .before .before .before .before .before .pre) (c .before .before .before .loop .inv .1) (c .largest .result)
-      (c .largest .ensures)
+  -- where the round begins
+  abbrev turn : tie.At-loop Inv-loop μ-loop
+  turn = c .before .before .before
 
-  in-rests : c .largest .result < length (c .before .before .before .loop .rests)
-  in-rests =
-      omega (arith, best-in, rests-length (c .before .before .before .before .before .before .pre) (c .before .before .before .loop .inv .1))
+  -- where the function begins
+  abbrev start : tie.Start Inv-loop μ-loop
+  start = turn .before .before .before
 
-  in-out : c .largest .result < length (c .before .before .before .loop .out)
-  in-out =
-      let start = c .before .before .before .before .before .before in
-      omega (arith, best-in, out-length (start .pre) (c .before .before .before .loop .inv .1), start .pre .room)
+  best-in : c .largest .result < length (start .args .rests .now)
+  best-in = best-there (start .pre) (turn .loop .inv .1) (c .largest .result) (c .largest .ensures)
+
+  in-rests : c .largest .result < length (turn .loop .rests)
+  in-rests = omega (arith, best-in, rests-length (start .pre) (turn .loop .inv .1))
+
+  in-out : c .largest .result < length (turn .loop .out)
+  in-out = omega (arith, best-in, out-length (start .pre) (turn .loop .inv .1), start .pre .room)
 
 loop-holds : tie.Need-loop-holds Inv-loop μ-loop
 loop-holds c = (omega arith, none-yet (c .before .before .pre))
@@ -37,7 +40,7 @@ largest-requires : tie.Need-largest-requires Inv-loop μ-loop
 largest-requires c κs = some-place (c .before .before .before .before .before .pre) (c .before .before .loop .inv .1) (omega arith)
 
 mul-rests : tie.Need-mul-rests Inv-loop μ-loop
-mul-rests c = omega (arith, best-in c, c .before .before .before .before .before .before .good .0 .1)
+mul-rests c = omega (arith, best-in c, start c .good .0 .1)
 
 slice-write-rests : tie.Need-slice-write-rests Inv-loop μ-loop
 slice-write-rests c = in-rests c
@@ -50,12 +53,8 @@ slice-read-out c = in-out (c .before)
 
 add-out : tie.Need-add-out Inv-loop μ-loop
 add-out c =
-    let start = c .before .before .before .before .before .before .before in
-    omega (
-      arith,
-      grows (start .pre) (c .before .before .before .before .loop .inv .1) (c .before .largest .result)
-          (c .before .largest .ensures) (omega arith),
-    )
+    let after = c .before in
+    omega (arith, grows (start after .pre) (turn after .loop .inv .1) (after .largest .result) (after .largest .ensures) (omega arith))
 
 slice-write-out : tie.Need-slice-write-out Inv-loop μ-loop
 slice-write-out c = in-out (c .before)
@@ -68,10 +67,9 @@ loop-less c = omega arith
 
 loop-again : tie.Need-loop-again Inv-loop μ-loop
 loop-again c =
-    let start = c .before .before .before .before .before .before .before in (
+    let after = c .before in (
       omega arith,
-      handed-one (start .pre) (c .before .before .before .before .loop .inv .1) (c .before .largest .result)
-          (c .before .largest .ensures) (omega arith),
+      handed-one (start after .pre) (turn after .loop .inv .1) (after .largest .result) (after .largest .ensures) (omega arith),
     )
 
 same-length : tie.Need-same-length Inv-loop μ-loop

@@ -49,7 +49,9 @@ shared-slice-read-print-number : tie.Need-shared-slice-read-print-number Inv-loo
 shared-slice-read-print-number c = omega arith
 
 cast-print-number : tie.Need-cast-print-number Inv-loop μ-loop
-cast-print-number c = omega (arith, c .shared-slice-known2 .given (c .before .before .before .before .before .before .before .before .loop .m))
+cast-print-number c =
+    let turn = c .before .before .before .before .before .before .before .before in
+    omega (arith, c .shared-slice-known2 .given (turn .loop .m))
 
 print-number-requires : tie.Need-print-number-requires Inv-loop μ-loop
 print-number-requires c κs = tt

@@ -58,7 +58,9 @@ same-length-2 : tie.Need-same-length-2 Inv-loop μ-loop
 same-length-2 c = search needs
 
 returns-2 : tie.Need-returns-2 Inv-loop μ-loop
-returns-2 c = rw (toZ-pos w64 (c .before .before .before .before .before .before .before .before .before .before .loop .length) (omega arith)) (omega arith)
+returns-2 c =
+    let turn = c .before .before .before .before .before .before .before .before .before .before in
+    rw (toZ-pos w64 (turn .loop .length) (omega arith)) (omega arith)
 
 add-length : tie.Need-add-length Inv-loop μ-loop
 add-length c = search needs

@@ -13,7 +13,9 @@ deviation-requires-2 c κs = search needs
 
 sub-result : tie.Need-sub-result
 sub-result c =
-    fits (result (c .before .deviation .ensures) (deviation-under (c .before .before .pre)) :- result (c .deviation2 .ensures) (deviation-under (deviation-requires-2 (c .before) tt))) tt
+    let whole = result (c .before .deviation .ensures) (deviation-under (c .before .before .pre)) in
+    let less = result (c .deviation2 .ensures) (deviation-under (deviation-requires-2 (c .before) tt)) in
+    fits (whole :- less) tt
 
 returns : tie.Need-returns
 returns c = search needs

@@ -28,7 +28,9 @@ shared-slice-read-with-sign-of : tie.Need-shared-slice-read-with-sign-of Inv-loo
 shared-slice-read-with-sign-of c = omega arith
 
 with-sign-of-requires : tie.Need-with-sign-of-requires Inv-loop μ-loop
-with-sign-of-requires c κs = c .before .before .before .before .before .before .pre (c .before .before .before .before .loop .i) (omega arith)
+with-sign-of-requires c κs =
+    let turn = c .before .before .before .before in
+    turn .before .before .pre (turn .loop .i) (omega arith)
 
 print-signed-requires : tie.Need-print-signed-requires Inv-loop μ-loop
 print-signed-requires c κs = tt

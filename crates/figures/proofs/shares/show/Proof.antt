@@ -39,7 +39,8 @@ module _ (start : tie.Start) where
 
 show-into-requires : tie.Need-show-into-requires
 show-into-requires c κs = let start = c .before .before in
-    rw (toZ-ofZ w64 (start .args .u) (start .fits .u)) (small start, few start, start .pre .0, length-take-le (start .args .n) _ (start .pre .1) ∙ sym (counted start))
+    rw (toZ-ofZ w64 (start .args .u) (start .fits .u))
+    (small start, few start, start .pre .0, length-take-le (start .args .n) _ (start .pre .1) ∙ sym (counted start))
 
 returns : tie.Need-returns
 returns c = search needs

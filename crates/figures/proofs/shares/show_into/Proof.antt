@@ -49,7 +49,9 @@ print-requires-3 c κs = search needs
 print-sizes-requires-2 : tie.Need-print-sizes-requires-2
 print-sizes-requires-2 c κs = let d = c .before .before .before .before .before .before in
     let s = start d in
-    share-fits (s .args .demands .now) (s .pre .0) (s .pre .1) (d .before .size-of .result) (size-most d) (s .args .sizes .now) (s .pre .3) _ (c .before .before .before .before .before .shares .ensures)
+    let shared = c .before .before .before .before .before in
+    share-fits (s .args .demands .now) (s .pre .0) (s .pre .1) (d .before .size-of .result) (size-most d) (s .args .sizes .now) (s .pre .3) _
+    (shared .shares .ensures)
 
 slice-aggregate-print-4 : tie.Need-slice-aggregate-print-4
 slice-aggregate-print-4 c = search needs
