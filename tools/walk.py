@@ -143,8 +143,8 @@ def renamings(shape, kit):
          f"{kit}.lawful 𝓤 H A W"),
         (words(f"Copies.cArr (DenSigned.SInt Syntax.{w}) (Copies.cSInt Syntax.{w}) {n}"), f"{kit}.cp"),
         (words(f"Init.room-arr 𝓤 H A W {elem} 0 {n} Path'.refl"), f"{kit}.room 𝓤 H A W"),
-        (words(f"Whole.mem-arr 𝓤 H A W {elem}"), f"{kit}.mem 𝓤 H A W"),
-        (words(f"Whole.arr-mem 𝓤 H A W {elem} tt"), f"{kit}.of-mem 𝓤 H A W"),
+        (words(f"ArrayWhole.mem-arr 𝓤 H A W {elem}"), f"{kit}.mem 𝓤 H A W"),
+        (words(f"ArrayWhole.arr-mem 𝓤 H A W {elem} tt"), f"{kit}.of-mem 𝓤 H A W"),
         (words(f"Rows.arrF {elem} 0"), f"{kit}.row"),
         (words(f"Array'.Array {elem}"), f"{kit}.R"),
         (r"Syntax\.(mut|imm)\s+\(" + words(ty) + r"\)", rf"Syntax.\1 {kit}.behind"),
@@ -155,7 +155,7 @@ def renamings(shape, kit):
 # the names under which the renamings look for a module of the logic, whatever the generated text calls it
 NAMES = {'denote.Array': "Array'", 'borrow.Kind.Array': 'Array', 'borrow.Rule.Array.Rows': 'Rows', 'borrow.Table.Rows': "Rows'",
     'mathlib.Core.Path': "Path'", 'denote.Signed': 'DenSigned', 'mir.Syntax': 'Syntax', 'borrow.Table.Copies': 'Copies',
-    'borrow.Rule.Array.Whole': 'Whole',
+    'borrow.Rule.Array.Whole': 'ArrayWhole',
     'borrow.Rule.Array.Init': 'Init', 'borrow.Kind.Value': 'Value', 'borrow.Rule.Yields': 'Yields'}
 USE = re.compile(r"use (\S+?)(?: as (\S+))?$")
 

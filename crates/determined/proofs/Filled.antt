@@ -13,7 +13,7 @@ use Rattle.filling.specs.Lent.{Lent, lent}
 use Rattle.settle.specs.Parallel.{FitsParallel}
 use Rattle.pool.specs.declared.boundary.NumberedSettled.{NumberedSettled}
 use Rattle.pool.specs.HandedOut.{settlement}
-use Rattle.pool.specs.Apart.{buffers}
+use Rattle.pool.specs.Buffers.{buffers}
 use Rattle.rules.proofs.Rows.{one-result}
 use Rattle.pool.proofs.Demands as Pool
 use Rattle.determined.specs.Determined.{OneResult, OneOutcome}

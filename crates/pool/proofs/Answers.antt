@@ -1,148 +1,176 @@
--- Settling's ways out: refused by the file, by its sums or by the buffers, nothing is changed; accepted, the lines are posted last.
+-- Settling's answers, row by row, and what they leave: refused, nothing is changed; accepted, each buffer is filled with figures that are
+-- worked once.
 use mathlib.Core.Path.{_≡_, refl, sym, _∙_, ap}
-use mathlib.Core.List.{List, _++_}
-use Prim.Native.Nat.{ℕ, min, _≤_}
+use mathlib.Core.Bool.{Bool, true, false, _||_}
+use mathlib.Core.Option.{none, some}
+use mathlib.Core.List.{List, [], _∷_, _++_, append-assoc}
+use Prim.Native.Nat.{ℕ, _≤_, _<_}
 use native.Mathlib.Omega.{arith}
-use lib.ListN.{length}
+use lib.IntN.{ℤ}
+use lib.ListN.{length, getD}
 use lib.Dec.{ltb}
-use borrow.Author.Tests.{ltb-true, ltb-false, lt-ltb, le-ltb}
-use Rattle.whole.proofs.Tests.{split}
 use Rattle.whole.specs.Below.{replacingFirst}
+use Rattle.whole.specs.Signed.{Under}
+use Rattle.whole.proofs.Ranges.{u-le}
+use Rattle.whole.proofs.Buffers.{replacing-ext, getD-replacing, length-replacing}
 use Rattle.rules.specs.declared.Answer.{Answer}
-use Rattle.rules.specs.declared.Answer.the-variants.{Accepted}
+use Rattle.rules.specs.declared.Answer.the-variants.{Accepted, BadArea, TooShort}
 use Rattle.rules.specs.declared.Line.{Line}
 use Rattle.rules.specs.declared.Settled.{Settled}
 use Rattle.rules.specs.Record.{Hour, members, entryOf}
 use Rattle.rules.specs.Deviation.{deviation}
-use Rattle.rules.specs.Charge.{shareOf}
-use Rattle.rules.specs.Refusals.{accepted, verdictOf, verdict, tooShort, sumRows, fileRows, hourRows}
-use Rattle.rules.specs.Settling.{Buffers, Settlement, isAccepted, filled, bufferRows, settleRows, noFigures, settle}
-use Rattle.rules.specs.Posting.{linesAfter}
+use Rattle.rules.specs.Charge.{shareOf, cents, charge}
+use Rattle.rules.specs.Refusals.{Row, row, accepted, verdictOf, verdict, badArea, badAmount, tooShort, sumRows, fileRows, hourRows}
+use Rattle.rules.specs.Settling.{Buffers, Settlement, isAccepted, lineOf, filled, bufferRows, settleRows, ufeFigures, noFigures, settle}
+use Rattle.rules.specs.Posting.{emptyLine, linesAfter}
 use Rattle.rules.specs.Promises.{Accepts, Fits}
 use Rattle.rules.specs.Kept.{FileKept}
-use Rattle.rules.proofs.Rows.{whole-parts, refused-first, one-answer, settle-verdict, settle-accepts, settle-changes-nothing, settle-fills}
+use Rattle.rules.proofs.Rows.{accepts-when-whole, refused-first, passed-on, whole-parts, file-numbered, one-answer}
+use Rattle.rules.proofs.Rows.{settle-verdict, settle-accepts, settle-changes-nothing, settle-fills}
+use Rattle.rules.proofs.Kept.{passed-kept}
+use Rattle.rules.proofs.Bounds.{amount-under, row-7-never}
 use Rattle.rules.proofs.Demands.{Room, buffers-room}
 use Rattle.rules.proofs.Posting.{lines-are}
 use Rattle.hour.specs.Hour.{hourIn}
+use Rattle.sharing.specs.Shared.{Sharing}
 use Rattle.lines.specs.Lined.{AllWorked}
 use Rattle.lines.proofs.Worked.{all-worked}
-use Rattle.filling.specs.Lent.{Lent, lines, lentRow, filledLent}
-use Rattle.settle.specs.Parallel.{parallelRows, settleParallel, FitsParallel}
-use Rattle.pool.specs.Apart.{Apart, apart, withLines, FitsApart}
-
--- ---- refused by rows 1 to 5
+use Rattle.pool.specs.Answered.{Lengths, Says}
+use Rattle.pool.specs.Buffers.{buffers}
 
 module _ (s : List ℕ) (b : Buffers) where
-  file-decides : (verdict (fileRows s) ≡ accepted → ⊥) → verdict (settleRows s b) ≡ verdict (fileRows s)
-  unfolding settleRows hourRows
-  file-decides refused =
-      let by-file = refused-first (fileRows s) (sumRows (hourIn s)) refused in
-      refused-first (fileRows s ++ sumRows (hourIn s)) (bufferRows (hourIn s) b) (λ e. refused (sym by-file ∙ e)) ∙ by-file
+  abbrev h : Hour
+  h = hourIn s
+
+  -- ---- the answer
+
+  says : (a : Answer) (figures : List ℤ) → verdict (settleRows s b) ≡ verdictOf a → figures ≡ settle s b .ufe →
+      Says s b (record { answer = a; ufe = figures })
+  says a figures e f = record { verdict-is = sym (settle-verdict s b ∙ e); ufe-is = f }
+
+  refused-with : (a : Answer) → verdict (settleRows s b) ≡ verdictOf a → (a ≡ Accepted → ⊥) →
+      Says s b (record { answer = a; ufe = noFigures })
+  refused-with a e refused = says a noFigures e
+      (sym (settle-changes-nothing s b (λ yes. refused (one-answer a Accepted (sym e ∙ sym (settle-verdict s b) ∙ yes))) .1))
+
+  -- rows 1 to 5, then 6, 7 and 11
+  in-order : settleRows s b ≡ fileRows s ++ row 6 (badArea h) ∷ row 7 (badAmount h) ∷ bufferRows h b
+  unfolding settleRows hourRows sumRows
+  in-order = append-assoc (fileRows s) (row 6 (badArea h) ∷ row 7 (badAmount h) ∷ []) (bufferRows h b)
 
   pub file-refused : {a : Answer} → verdictOf a ≡ verdict (fileRows s) → (a ≡ Accepted → ⊥) →
-      Fits s b (record { answer = a; ufe = noFigures }) b
-  file-refused {a} examined refused =
-      let never : verdictOf a ≡ accepted → ⊥ = λ e. refused (one-answer a Accepted e) in
-      let decided : verdictOf a ≡ settle s b .verdict =
-      examined ∙ sym (settle-verdict s b ∙ file-decides (λ e. never (examined ∙ e))) in
-      let unchanged = settle-changes-nothing s b (λ e. never (decided ∙ e)) in
-      record { verdict-is = decided; ufe-is = sym (unchanged .1); buffers-are = sym (unchanged .0) }
+      Says s b (record { answer = a; ufe = noFigures })
+  file-refused {a} examined refused = refused-with a (ap verdict in-order ∙ first ∙ sym examined) refused
+    where
+      first : verdict (fileRows s ++ row 6 (badArea h) ∷ row 7 (badAmount h) ∷ bufferRows h b) ≡ verdict (fileRows s)
+      first = refused-first (fileRows s) _ (λ e. refused (one-answer a Accepted (examined ∙ e)))
 
--- ---- settled but for the lines: room for 32 of them decides rows 7 and 11 as the caller's lines would
+  -- once rows 1 to 5 are passed; row 7 is then whole
+  module _ (passed : verdict (fileRows s) ≡ accepted) (kept : FileKept s) where
+    rest : verdict (settleRows s b) ≡ verdict (row 6 (badArea h) ∷ row 7 none ∷ bufferRows h b)
+    rest = ap verdict in-order
+        ∙ passed-on (fileRows s) _ (accepts-when-whole (fileRows s) (file-numbered s) .0 passed)
+        ∙ ap (λ o. verdict (row 6 (badArea h) ∷ row 7 o ∷ bufferRows h b)) (row-7-never (kept .hour-kept))
 
-abbrev withoutLines : Lent → Apart
-withoutLines b = apart (b .charges) (b .shares) (b .deviations)
+    pub area-refused : {i : ℕ} → badArea h ≡ some i → Says s b (record { answer = BadArea i; ufe = noFigures })
+    unfolding verdict
+    area-refused {i} e = refused-with (BadArea i) (rest ∙ rw e) (λ z. let n : _≡_ {A = ℕ} 0 1 = cc z in omega arith)
 
-module _ (s : List ℕ) (few : members (hourIn s) ≤ 32) (n : ℕ) (b : Lent)
-    (amounts-room : length (b .amounts) ≡ min n 32) (counts-room : length (b .counts) ≡ min n 32) where
-  abbrev m : ℕ
-  m = members (hourIn s)
+    -- and row 6: what is left is whether a buffer is too short
+    module _ (areas-pass : badArea h ≡ none) {c l n d : ℕ} (lengths : Lengths b c l n d) where
+      abbrev short : Bool
+      short = ltb c (members h) || ltb l (members h) || ltb n (h .count) || ltb d (h .count)
 
-  as-short : ltb (lines b) m ≡ ltb n m
-  as-short = split (ltb n m)
-      (λ t. lt-ltb (lines b) m (omega (arith, few, ltb-true n m t, amounts-room, counts-room)) ∙ sym t)
-      (λ f. le-ltb (lines b) m (omega (arith, few, ltb-false n m f, amounts-room, counts-room)) ∙ sym f)
+      last : verdict (settleRows s b) ≡ verdict (row 11 (tooShort h c l n d) ∷ [])
+      unfolding verdict bufferRows
+      last = rest ∙ rw (areas-pass, lengths .of-charges, lengths .of-lines, lengths .of-shares, lengths .of-deviations)
 
-  module _ (ls : List Line) (so-many : length ls ≡ n) where
-    abbrev given : Buffers
-    given = withLines (withoutLines b) ls
+      pub some-short : short ≡ true → Says s b (record { answer = TooShort; ufe = noFigures })
+      unfolding verdict tooShort
+      some-short t = refused-with TooShort (last ∙ rw t) (λ z. let n : _≡_ {A = ℕ} 0 1 = cc z in omega arith)
 
-    same-rows : settleRows s given ≡ parallelRows s b
-    unfolding settleRows bufferRows parallelRows lentRow tooShort
-    same-rows = rw (so-many, as-short)
+      pub all-pass : short ≡ false → {figures : List ℤ} → figures ≡ ufeFigures h → Says s b (record { answer = Accepted; ufe = figures })
+      unfolding verdict tooShort
+      all-pass f {figures} e =
+          let passes : verdict (settleRows s b) ≡ accepted = last ∙ rw f in
+          says Accepted figures passes (e ∙ sym (settle-fills s b (settle-verdict s b ∙ passes) .1))
 
-    settles-alike : settle s given ≡ record {
-      verdict = settleParallel s b .verdict;
-      ufe = settleParallel s b .ufe;
-      buffers = withLines (withoutLines (settleParallel s b .buffers)) (settle s given .buffers .lines);
-    }
-    unfolding settle settleParallel filled filledLent
-    settles-alike = rw same-rows (split (isAccepted (verdict (parallelRows s b))) (λ t. rw t) (λ f. rw f))
+  -- ---- the buffers
 
-  pub without-lines : {r : Settled} {after : Lent} → FitsParallel s b r after → FitsApart s n (withoutLines b) r (withoutLines after)
-  without-lines {r} {after} f = record {
-    fits = λ ls l. record {
-      verdict-is = f .verdict-is ∙ sym (ap (λ (x : Settlement). x .verdict) (settles-alike ls l));
-      ufe-is = f .ufe-is ∙ sym (ap (λ (x : Settlement). x .ufe) (settles-alike ls l));
-      buffers-are = ap (λ (y : Lent). withLines (withoutLines y) (settle s (given ls l) .buffers .lines)) (f .buffers-are)
-          ∙ sym (ap (λ (x : Settlement). x .buffers) (settles-alike ls l));
-    };
-  }
+  module _ {r : Settled} (said : Says s b r) where
+    pub unchanged : (r .answer ≡ Accepted → ⊥) → Fits s b r b
+    unchanged refused =
+        let same = settle-changes-nothing s b (λ e. refused (one-answer (r .answer) Accepted (said .verdict-is ∙ e))) .0 in
+        record { verdict-is = said .verdict-is; ufe-is = said .ufe-is; buffers-are = sym same }
 
--- ---- the lines, last
+    module _ (accepts : r .answer ≡ Accepted) where
+      hour-accepted : Accepts s b
+      hour-accepted = sym (said .verdict-is) ∙ ap verdictOf accepts
 
-module _ (s : List ℕ) (b : Apart) (old : List Line) {r : Settled} {after : Apart} (f : FitsApart s (length old) b r after) where
-  abbrev lent : Buffers
-  lent = withLines b old
+      pub kept : FileKept s
+      unfolding settleRows
+      kept = passed-kept s (whole-parts (hourRows s) (bufferRows h b) .0 (settle-accepts s b .0 hour-accepted) .0)
 
-  so-far : Fits s lent r (withLines after (settle s lent .buffers .lines))
-  so-far = f .fits old refl
+      pub room : Room h b
+      unfolding settleRows
+      room = buffers-room h b (whole-parts (hourRows s) (bufferRows h b) .0 (settle-accepts s b .0 hour-accepted) .1)
 
-  pub still-refused : (r .answer ≡ Accepted → ⊥) → Fits s lent r (withLines after old)
-  still-refused refused =
-      let same = settle-changes-nothing s lent (λ e. refused (one-answer (r .answer) Accepted (so-far .verdict-is ∙ e))) .0 in
-      record {
-        verdict-is = so-far .verdict-is;
-        ufe-is = so-far .ufe-is;
-        buffers-are = ap (λ (x : Buffers). withLines after (x .lines)) (sym same) ∙ so-far .buffers-are;
-      }
+      pub can-share : Sharing s (r .ufe) (b .shares)
+      can-share = record { kept = kept; figures-of = said .ufe-is ∙ settle-fills s b hour-accepted .1; room = room .shares-room }
 
-  module _ (kept : FileKept s) (accepts : r .answer ≡ Accepted) where
-    abbrev h : Hour
-    h = hourIn s
+      -- deviations and shares are put
+      module _ {deviations shares : List ℤ}
+          (put-deviations : deviations ≡ replacingFirst (λ i. deviation (entryOf h i)) (h .count) (b .deviations))
+          (put-shares : shares ≡ replacingFirst (shareOf h) (h .count) (b .shares)) where
+        pub can-put-lines : AllWorked s deviations shares × (members h ≤ length (b .lines))
+        can-put-lines = (
+          all-worked kept (b .deviations) (b .shares) (room .deviations-room) (room .shares-room) put-deviations put-shares,
+          room .lines-room,
+        )
 
-    hour-accepted : Accepts s lent
-    hour-accepted = sym (so-far .verdict-is) ∙ ap verdictOf accepts
+        -- and the lines
+        module _ {lines : List Line} (put-lines : lines ≡ linesAfter h (b .lines) (h .count)) {n : ℕ} (all : n ≡ members h) where
+          lines-written : lines ≡ replacingFirst (lineOf h) (members h) (b .lines)
+          lines-written = put-lines ∙ lines-are h (b .lines) (λ i l. kept .hour-kept .record-kept i l .member-there)
 
-    fills : settle s lent .buffers ≡ filled h lent
-    fills = settle-fills s lent hour-accepted .0
+          line-at : (m : ℕ) → m < members h → getD lines m emptyLine ≡ lineOf h m
+          line-at m l = rw lines-written (getD-replacing (lineOf h) (members h) (b .lines) m emptyLine l)
 
-    room : Room h lent
-    unfolding settleRows
-    room = buffers-room h lent (whole-parts (hourRows s) (bufferRows h lent) .0 (settle-accepts s lent .0 hour-accepted) .1)
+          -- no line is too large for cents
+          line-small : (m : ℕ) → m < n → Under (getD lines m emptyLine .amount) 4000000000000000000
+          unfolding lineOf
+          line-small m l = rw (line-at m (omega (arith, all))) (u-le (amount-under (kept .hour-kept) m) (omega arith))
 
-    deviations-after : after .deviations ≡ replacingFirst (λ i. deviation (entryOf h i)) (h .count) (b .deviations)
-    unfolding filled
-    deviations-after = ap (λ (x : Buffers). x .deviations) (so-far .buffers-are ∙ fills)
+          pub can-put-charges : (n ≤ length lines) × (n ≤ length (b .charges))
+              × ((m : ℕ) → m < n → Under (getD lines m emptyLine .amount) 4000000000000000000)
+          can-put-charges = (
+            omega (
+              arith,
+              all,
+              room .lines-room,
+              ap length lines-written,
+              length-replacing (lineOf h) (members h) (b .lines) (room .lines-room),
+            ),
+            omega (arith, all, room .charges-room),
+            line-small,
+          )
 
-    shares-after : after .shares ≡ replacingFirst (shareOf h) (h .count) (b .shares)
-    unfolding filled
-    shares-after = ap (λ (x : Buffers). x .shares) (so-far .buffers-are ∙ fills)
+          charge-at : (m : ℕ) → m < members h → cents (getD lines m emptyLine .amount) ≡ charge h m
+          unfolding lineOf charge
+          charge-at m l = ap (λ (x : Line). cents (x .amount)) (line-at m l)
 
-    -- what the postings need
-    pub can-put-lines : AllWorked s (after .deviations) (after .shares) × (members h ≤ length old)
-    can-put-lines = (
-      all-worked kept (b .deviations) (b .shares) (room .deviations-room) (room .shares-room) deviations-after shares-after,
-      room .lines-room,
-    )
+          module _ {charges : List ℤ}
+              (put-charges : charges ≡ replacingFirst (λ m. cents (getD lines m emptyLine .amount)) n (b .charges)) where
+            charges-written : charges ≡ replacingFirst (charge h) (members h) (b .charges)
+            charges-written = put-charges
+                ∙ ap (λ k. replacingFirst (λ m. cents (getD lines m emptyLine .amount)) k (b .charges)) all
+                ∙ replacing-ext _ _ (members h) (b .charges) charge-at
 
-    line-by-line : linesAfter h old (h .count) ≡ settle s lent .buffers .lines
-    unfolding filled
-    line-by-line = lines-are h old (λ i l. kept .hour-kept .record-kept i l .member-there) ∙ sym (ap (λ (x : Buffers). x .lines) fills)
-
-    pub lines-posted : {lines : List Line} → lines ≡ linesAfter h old (h .count) → Fits s lent r (withLines after lines)
-    lines-posted {lines} posted = record {
-      verdict-is = so-far .verdict-is;
-      ufe-is = so-far .ufe-is;
-      buffers-are = ap (withLines after) (posted ∙ line-by-line) ∙ so-far .buffers-are;
-    }
+            pub all-filled : Fits s b r (buffers charges shares deviations lines)
+            unfolding filled
+            all-filled = record {
+              verdict-is = said .verdict-is;
+              ufe-is = said .ufe-is;
+              buffers-are = (λ k. buffers (charges-written k) (put-shares k) (put-deviations k) (lines-written k))
+                  ∙ sym (settle-fills s b hour-accepted .0);
+            }

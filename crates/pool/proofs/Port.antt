@@ -4,5 +4,6 @@ pub mod TallyKit
 pub mod clear_lines
 pub mod post
 pub mod post_line
+pub mod put_charges
 pub mod put_lines
 pub mod settle

@@ -1,3 +1,4 @@
--- What the contracts of `pool` cite beside `rules` and `settle`.
-pub mod Apart
+-- What the contracts of `pool` cite beside `rules`.
+pub mod Buffers
+pub mod Answered
 pub mod HandedOut

@@ -1,25 +1,29 @@
 // The customer's library: the tally and the members' lines are lent to each posting, and settling writes into the caller's own buffers.
-// Structs are moved here, not computed with: the sums are worked by value in `formula`, `posting` and `settle`.
+// Structs are moved here, not computed with: the sums are worked by value in `formula` and `posting`.
 ghost use mathlib.Core.Path.{_≡_};
-ghost use Prim.Native.Nat.{min, _≤_, _<_};
+ghost use mathlib.Core.Bool.{_||_};
+ghost use Prim.Native.Nat.{ℕ, _≤_, _<_};
 ghost use lib.ListN.{length, getD};
+ghost use lib.Dec.{ltb};
 ghost use Rattle.whole.specs.Below.{replacingFirst};
+ghost use Rattle.whole.specs.Signed.{Under};
 ghost use Rattle.rules.specs.Record as Record;
+ghost use Rattle.rules.specs.Charge as Charge;
 ghost use Rattle.rules.specs.Posting as Posting;
-ghost use Rattle.rules.specs.Refusals.{accepted, verdict, fileRows};
 ghost use Rattle.rules.specs.Settling as Settling;
 ghost use Rattle.rules.specs.Promises.{Fits};
 ghost use Rattle.rules.specs.Kept.{FileKept};
 ghost use Rattle.posting.specs.Room.{TallyRoom, LineRoom};
 ghost use Rattle.hour.specs.Hour.{hourIn};
 ghost use Rattle.lines.specs.Lined.{AllWorked};
-ghost use Rattle.tally.specs.Posted.{Tallied};
-ghost use Rattle.pool.specs.Apart.{apart, buffers, FitsApart};
+ghost use Rattle.pool.specs.Buffers.{buffers};
+ghost use Rattle.pool.specs.Answered.{Answered};
 ghost use Rattle.pool.specs.HandedOut.{settlement};
 
 pub mod boundary;
 
 use rules::Answer;
+use rules::Found;
 use rules::Line;
 use rules::Settled;
 use rules::Tally;
@@ -89,42 +93,66 @@ fn put_lines(file: &[u8], deviations: &[i64], shares: &[i64], lines: &mut [Line]
     }
 }
 
-// No hour has more than 32 members, so that more lines than that need no room.
-fn room_for(lines: usize) -> usize
-    ensures { λ r. ⌜ r ≡ min lines 32 ⌝ }
+// The first `n` members' charges, from their lines; the places past them are unchanged.
+fn put_charges(lines: &[Line], n: usize, charges: &mut [i64])
+    requires { ⌜ (n ≤ length (now lines)) × (n ≤ length (now charges))
+        × ((m : ℕ) → m < n → Under (getD (now lines) m Posting.emptyLine .amount) 4000000000000000000) ⌝ }
+    ensures { λ _. ⌜ now (charges .exit)
+        ≡ replacingFirst (λ m. Charge.cents (getD (now (lines .entry)) m Posting.emptyLine .amount)) n (now (charges .entry)) ⌝ }
 {
-    if lines < 32 { lines } else { 32 }
+    let mut m = 0;
+    while m < n {
+        charges[m] = posting::charge_of(lines[m]);
+        m += 1;
+    }
 }
 
-// Once the tally is made: all but the lines. This function only makes the room in which the amounts are worked for row 7.
-fn settle_apart(
-    file: &[u8],
-    tally: Tally,
-    lines: usize,
-    charges: &mut [i64],
-    shares: &mut [i64],
-    deviations: &mut [i64],
-) -> Settled
-    requires { ⌜ (verdict (fileRows (now file)) ≡ accepted) × Tallied (now file) tally ⌝ }
-    ensures { λ r. ⌜ FitsApart (now (file .entry)) lines
-        (apart (now (charges .entry)) (now (shares .entry)) (now (deviations .entry))) r
-        (apart (now (charges .exit)) (now (shares .exit)) (now (deviations .exit))) ⌝ }
+// Refusal 11: charges or lines shorter than the members, or shares or deviations shorter than the records.
+fn too_short(file: &[u8], charges: usize, lines: usize, shares: usize, deviations: usize) -> bool
+    ensures { λ r. ⌜ r ≡ (ltb charges (Record.members (hourIn (now (file .entry))))
+        || ltb lines (Record.members (hourIn (now (file .entry))))
+        || ltb shares (hourIn (now (file .entry)) .count)
+        || ltb deviations (hourIn (now (file .entry)) .count)) ⌝ }
 {
-    let room = room_for(lines);
-    let mut amounts = [0i64; 32];
-    let mut counts = [0u32; 32];
-    settle::settle_tallied(
-        file,
-        tally,
-        charges,
-        shares,
-        deviations,
-        &mut amounts[..room],
-        &mut counts[..room],
-    )
+    let members = hour::members(file);
+    let records = hourfile::records(file);
+    if charges < members {
+        return true;
+    }
+    if lines < members {
+        return true;
+    }
+    if shares < records {
+        return true;
+    }
+    deviations < records
 }
 
-// Settles an hour file: any bytes, any lengths of buffers. Every check runs before the first line is touched.
+// What settling answers, of buffers of these lengths: every check, in the table's order, and the UFE figures. Row 7 is not among them,
+// since no file that passes rows 1 to 5 breaks it.
+fn answered(file: &[u8], charges: usize, lines: usize, shares: usize, deviations: usize) -> Settled
+    ensures { λ r. ⌜ Answered (now (file .entry)) charges lines shares deviations r ⌝ }
+{
+    let answer = examine::examine(file);
+    let Answer::Accepted = answer else {
+        return answer::refused(answer);
+    };
+    let tally = tally_of(file);
+    let figures = tally::ufe_figures(file, tally);
+    if let Found::At(a) = tally::area_without_demand(file, tally, figures) {
+        return answer::refused(Answer::BadArea(a));
+    }
+    if too_short(file, charges, lines, shares, deviations) {
+        return answer::refused(Answer::TooShort);
+    }
+    Settled {
+        answer: Answer::Accepted,
+        ufe: figures,
+    }
+}
+
+// Settles an hour file: any bytes, any lengths of buffers. Every check runs before the first store, so that "unchanged" is the absence of
+// code; then each figure is worked once, in the caller's buffers.
 pub fn settle(
     file: &[u8],
     lines: &mut [Line],
@@ -136,17 +164,22 @@ pub fn settle(
         (buffers (now (charges .entry)) (now (shares .entry)) (now (deviations .entry)) (now (lines .entry))) r
         (buffers (now (charges .exit)) (now (shares .exit)) (now (deviations .exit)) (now (lines .exit))) ⌝ }
 {
-    let answer = examine::examine(file);
+    let settled = answered(
+        file,
+        charges.len(),
+        lines.len(),
+        shares.len(),
+        deviations.len(),
+    );
+    let answer = settled.answer;
     let Answer::Accepted = answer else {
-        return answer::refused(answer);
-    };
-    let tally = tally_of(file);
-    let settled = settle_apart(file, tally, lines.len(), charges, shares, deviations);
-    let last = settled.answer;
-    let Answer::Accepted = last else {
         return settled;
     };
+    deviations::put_deviations(file, deviations);
+    let figures = settled.ufe;
+    sharing::put_shares(file, figures, shares);
     put_lines(file, deviations, shares, lines);
+    put_charges(lines, hour::members(file), charges);
     settled
 }
 

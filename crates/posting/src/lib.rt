@@ -61,3 +61,11 @@ pub fn cents(grains: i64) -> i64
         (grains + 5000000) / 10000000
     }
 }
+
+// A member's charge: its line's grains in cents.
+pub fn charge_of(l: Line) -> i64
+    requires { ⌜ Under (l .amount) 4000000000000000000 ⌝ }
+    ensures { λ r. ⌜ r ≡ Charge.cents (l .amount) ⌝ }
+{
+    cents(l.amount)
+}

@@ -46,7 +46,7 @@ use Rattle.rules.proofs.Line as L
 use Rattle.rules.proofs.Settled as S
 use Rattle.rules.proofs.Settled.Laws as S′
 use Rattle.pool.specs.declared.boundary.NumberedSettled.{NumberedSettled}
-use Rattle.pool.specs.Apart.{buffers}
+use Rattle.pool.specs.Buffers.{buffers}
 use Rattle.pool.proofs.HandedOut.{numbered-fits}
 use Rattle.pool.proofs.boundary.NumberedSettled as N
 use Rattle.pool.proofs.boundary.NumberedSettled.Laws as N′

@@ -1,0 +1,8 @@
+-- The caller's buffers, as the contracts name them.
+use mathlib.Core.List.{List}
+use lib.IntN.{ℤ}
+use Rattle.rules.specs.declared.Line.{Line}
+use Rattle.rules.specs.Settling.{Buffers}
+
+abbrev pub buffers : (charges shares deviations : List ℤ) → List Line → Buffers
+buffers charges shares deviations lines = record { charges = charges; shares = shares; deviations = deviations; lines = lines }
