@@ -1,4 +1,5 @@
 -- What the contracts of `pool` cite beside `rules`.
 pub mod Buffers
 pub mod Answered
+pub mod Unlined
 pub mod HandedOut

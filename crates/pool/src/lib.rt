@@ -18,6 +18,7 @@ ghost use Rattle.hour.specs.Hour.{hourIn};
 ghost use Rattle.lines.specs.Lined.{AllWorked};
 ghost use Rattle.pool.specs.Buffers.{buffers};
 ghost use Rattle.pool.specs.Answered.{Answered};
+ghost use Rattle.pool.specs.Unlined.{unlined, FitsUnlined};
 ghost use Rattle.pool.specs.HandedOut.{settlement};
 
 pub mod boundary;
@@ -181,6 +182,21 @@ pub fn settle(
     put_lines(file, deviations, shares, lines);
     put_charges(lines, hour::members(file), charges);
     settled
+}
+
+// The same with lines of its own, one for each member that an hour can have: for callers that want charges, shares and deviations only. It
+// lends no struct to its caller, so that whoever calls it is covered.
+pub fn settle_unlined(
+    file: &[u8],
+    charges: &mut [i64],
+    shares: &mut [i64],
+    deviations: &mut [i64],
+) -> Settled
+    ensures { λ r. ⌜ FitsUnlined (now (file .entry)) (unlined (now (charges .entry)) (now (shares .entry)) (now (deviations .entry))) r
+        (unlined (now (charges .exit)) (now (shares .exit)) (now (deviations .exit))) ⌝ }
+{
+    let mut lines = [posting::empty_line(); 32];
+    settle(file, &mut lines, charges, shares, deviations)
 }
 
 // The same for programs in C: the answer goes out as its number and place.
