@@ -13,14 +13,14 @@ use Rattle.rules.specs.declared.Answer.the-variants.{Accepted}
 use Rattle.rules.specs.declared.Settled.{Settled}
 use Rattle.rules.specs.Record.{members}
 use Rattle.rules.specs.Charge.{charge}
-use Rattle.rules.specs.Refusals.{accepted, verdictOf, verdict, hourRows}
+use Rattle.rules.specs.Refusals.{verdictOf, verdict, hourRows}
+use Rattle.rules.specs.Settling.{Buffers, bufferRows, settleRows, filled}
 use Rattle.rules.specs.Statement.{acceptedLines, refusedLine, statement}
+use Rattle.rules.proofs.Rows.{settle-verdict, settle-fills}
 use Rattle.rules.proofs.Stated.{accepted-kept, room-for-all, statement-accepted, statement-refused}
 use Rattle.hour.specs.Hour.{hourIn}
 use Rattle.answer.proofs.Refusing.{numbered}
-use Rattle.filling.specs.Lent.{Lent, lentRow, filledLent}
-use Rattle.settle.specs.Parallel.{parallelRows, settleParallel, FitsParallel}
-use Rattle.settle.proofs.Answered.{parallel-verdict}
+use Rattle.pool.specs.Unlined.{Unlined, withLines, ownLines, FitsUnlined}
 use Rattle.report.specs.Stated.{Charged, Answered}
 
 -- the statement by the answer
@@ -33,27 +33,27 @@ module _ {s : List ℕ} {a : Answer} {charges : List ℤ} (f : Answered s a char
   accepted-statement e = sym (statement-accepted s (sym (f .verdict-is) ∙ ap verdictOf e))
 
 -- room for every hour
-pub record Rooms (b : Lent) : Type 0 where
+pub record Rooms (b : Unlined) : Type 0 where
   pub charges-room : 32 ≤ length (b .charges)
   pub shares-room : 250 ≤ length (b .shares)
   pub deviations-room : 250 ≤ length (b .deviations)
-  pub amounts-room : 32 ≤ length (b .amounts)
-  pub counts-room : 32 ≤ length (b .counts)
 
-module _ {s : List ℕ} {b after : Lent} {r : Settled} (rooms : Rooms b) (fits : FitsParallel s b r after) where
+module _ {s : List ℕ} {b after : Unlined} {r : Settled} (rooms : Rooms b) (settled : FitsUnlined s b r after) where
+  -- the buffers that were settled into
+  abbrev lent : Buffers
+  lent = withLines b ownLines
+
   -- settling answers as rows 1 to 7 do
   same-verdict : verdictOf (r .answer) ≡ verdict (hourRows s)
-  unfolding parallelRows lentRow
-  same-verdict = fits .verdict-is ∙ parallel-verdict s b
-      ∙ room-for-all s _ _ _ _ (rooms .charges-room) (omega (arith, rooms .amounts-room, rooms .counts-room)) (rooms .shares-room)
-      (rooms .deviations-room)
+  unfolding settleRows bufferRows
+  same-verdict = settled .fits .verdict-is ∙ settle-verdict s lent
+      ∙ room-for-all s _ _ _ _ (rooms .charges-room) (omega arith) (rooms .shares-room) (rooms .deviations-room)
 
   module _ (accepts : r .answer ≡ Accepted) where
     charges-filled : after .charges ≡ replacingFirst (charge (hourIn s)) (members (hourIn s)) (b .charges)
-    unfolding settleParallel filledLent
-    charges-filled =
-        let whole : verdict (parallelRows s b) ≡ accepted = sym (fits .verdict-is ∙ parallel-verdict s b) ∙ ap verdictOf accepts in
-        ap (λ (l : Lent). l .charges) (fits .buffers-are) ∙ rw whole
+    unfolding filled
+    charges-filled = ap (λ (x : Buffers). x .charges)
+        (settled .fits .buffers-are ∙ settle-fills s lent (sym (settled .fits .verdict-is) ∙ ap verdictOf accepts) .0)
 
     charged : Charged s (after .charges)
     charged =

@@ -70,16 +70,7 @@ fn settle_charges(file: &[u8], charges: &mut [i64]) -> Answer
 {
     let mut shares = [0i64; 250];
     let mut deviations = [0i64; 250];
-    let mut amounts = [0i64; 32];
-    let mut counts = [0u32; 32];
-    let settled = settle::settle(
-        file,
-        charges,
-        &mut shares,
-        &mut deviations,
-        &mut amounts,
-        &mut counts,
-    );
+    let settled = pool::settle_unlined(file, charges, &mut shares, &mut deviations);
     settled.answer
 }
 

@@ -4,44 +4,31 @@ use Rattle.report.proofs.Settled.{answered}
 use Rattle.report.proofs.settle_charges.Statement.{statement}
 use Rattle.report.proofs.settle_charges.Tie as tie
 
-slice-aggregate-settle : tie.Need-slice-aggregate-settle
-slice-aggregate-settle c = search needs
+slice-aggregate-settle-unlined : tie.Need-slice-aggregate-settle-unlined
+slice-aggregate-settle-unlined c = search needs
 
-slice-aggregate-settle-2 : tie.Need-slice-aggregate-settle-2
-slice-aggregate-settle-2 c = search needs
+slice-aggregate-settle-unlined-2 : tie.Need-slice-aggregate-settle-unlined-2
+slice-aggregate-settle-unlined-2 c = search needs
 
-slice-aggregate-settle-3 : tie.Need-slice-aggregate-settle-3
-slice-aggregate-settle-3 c = search needs
-
-slice-aggregate-settle-4 : tie.Need-slice-aggregate-settle-4
-slice-aggregate-settle-4 c = search needs
-
-settle-requires : tie.Need-settle-requires
-settle-requires c κs = search needs
+settle-unlined-requires : tie.Need-settle-unlined-requires
+settle-unlined-requires c κs = tt
 
 same-length : tie.Need-same-length
 same-length c = search needs
 
 returns : tie.Need-returns
 returns c =
-    let t = c .before .before .before .before .before in
-    let s = t .before .before .before .before .before .before .before in
-    answered (record {
-      charges-room = s .pre;
-      shares-room = search needs;
-      deviations-room = search needs;
-      amounts-room = search needs;
-      counts-room = search needs;
-    }) (t .settle .ensures)
+    let settled = c .before .before .before in
+    let start = settled .before .before .before .before .before in
+    answered (record { charges-room = start .pre; shares-room = search needs; deviations-room = search needs })
+    (settled .settle-unlined .ensures)
 
 pub settle-charges-spec : {M : Type 1} → statement M
 settle-charges-spec =
     tie.close
     (tie.spec
-    slice-aggregate-settle
-    slice-aggregate-settle-2
-    slice-aggregate-settle-3
-    slice-aggregate-settle-4
-    settle-requires
+    slice-aggregate-settle-unlined
+    slice-aggregate-settle-unlined-2
+    settle-unlined-requires
     same-length
     returns)
