@@ -27,13 +27,9 @@ use Rattle.hour.proofs.entry_in.Reads as entry-in
 use Rattle.hour.proofs.entry_of.Reads as entry-of
 use Rattle.deviations.proofs.deviation_of.Reads as deviation-of
 use Rattle.lines.proofs.grains.Reads as grains
-use Rattle.tally.proofs.tally_with.Reads as tally-with
-use Rattle.tally.proofs.tally_of.Reads as tally-of
 use Rattle.tally.proofs.ufe_of.Reads as ufe-of
 use Rattle.tally.proofs.ufe_figures.Reads as ufe-figures
 use Rattle.tally.proofs.area_without_demand.Reads as area-without-demand
-use Rattle.lines.proofs.member_over.Reads as member-over
-use Rattle.filling.proofs.too_short.Reads as too-short
 
 pub one-length-bad : (κs : Lfts 1) → OneResult (length-bad.Post κs)
 one-length-bad κs a x y s t = agree
@@ -107,12 +103,6 @@ one-deviation-of κs a x y s t = agree
 pub one-grains : (κs : Lfts 1) → OneResult (grains.Post κs)
 one-grains κs a x y s t = agree
 
-pub one-tally-with : (κs : Lfts 1) → OneResult (tally-with.Post κs)
-one-tally-with κs a x y s t = agree
-
-pub one-tally-of : (κs : Lfts 1) → OneResult (tally-of.Post κs)
-one-tally-of κs a x y s t = agree
-
 pub one-ufe-of : (κs : Lfts 1) → OneResult (ufe-of.Post κs)
 one-ufe-of κs a x y s t = agree
 
@@ -121,9 +111,3 @@ one-ufe-figures κs a x y s t = agree
 
 pub one-area-without-demand : (κs : Lfts 1) → OneResult (area-without-demand.Post κs)
 one-area-without-demand κs a x y s t = agree-found
-
-pub one-member-over : (κs : Lfts 1) → OneResult (member-over.Post κs)
-one-member-over κs a x y s t = agree-found
-
-pub one-too-short : (κs : Lfts 1) → OneResult (too-short.Post κs)
-one-too-short κs a x y s t = agree

@@ -1,19 +1,15 @@
 -- Functions that fill a caller's buffers.
-use mathlib.Core.Path.{_≡_, refl, ap₂}
+use mathlib.Core.Path.{_≡_, refl, ap}
 use mathlib.Core.List.{List}
 use Prim.Native.Nat.{ℕ}
-use lib.IntN.{ℤ}
 use contract.Lifetimes.{Lfts}
 use denote.Ref.{now}
-use Rattle.rules.specs.declared.Answer.{Answer}
-use Rattle.rules.specs.declared.Settled.{Settled}
 use Rattle.amount.proofs.RoundTrips.{one-reading}
 use Rattle.rules.specs.Settling.{Buffers, settle as settling}
-use Rattle.filling.specs.Lent.{Lent, lent}
-use Rattle.settle.specs.Parallel.{FitsParallel}
 use Rattle.pool.specs.declared.boundary.NumberedSettled.{NumberedSettled}
 use Rattle.pool.specs.HandedOut.{settlement}
 use Rattle.pool.specs.Buffers.{buffers}
+use Rattle.pool.specs.Unlined.{unlined}
 use Rattle.rules.proofs.Rows.{one-result}
 use Rattle.pool.proofs.Demands as Pool
 use Rattle.determined.specs.Determined.{OneResult, OneOutcome}
@@ -24,12 +20,8 @@ use Rattle.amount.proofs.decimal.put_digits.Reads as put-digits
 use Rattle.share.proofs.shares.Reads as shares
 use Rattle.deviations.proofs.put_deviations.Reads as put-deviations
 use Rattle.sharing.proofs.put_shares.Reads as put-shares
-use Rattle.lines.proofs.put_charges.Reads as put-charges
-use Rattle.lines.proofs.put_lines.Reads as put-lines
-use Rattle.filling.proofs.finish.Reads as finish
-use Rattle.settle.proofs.settle_tallied.Reads as settle-tallied
-use Rattle.settle.proofs.settle.Reads as settle
-use Rattle.pool.proofs.Port.settle.Reads as pool-settle
+use Rattle.pool.proofs.Port.settle.Reads as settle
+use Rattle.pool.proofs.settle_unlined.Reads as settle-unlined
 use Rattle.pool.proofs.boundary.numbered.Reads as numbered
 use Rattle.pool.proofs.boundary.sneupelaar_write.Reads as sneupelaar-write
 use Rattle.pool.proofs.boundary.sneupelaar_read.Reads as sneupelaar-read
@@ -58,9 +50,6 @@ one-put-deviations κs a x y s t p q = (refl, agree p q)
 pub one-put-shares : (κs : Lfts 2) → OneOutcome (put-shares.Post κs) (λ s. now (s .1 .1 .0))
 one-put-shares κs a x y s t p q = (refl, agree p q)
 
-pub one-put-charges : (κs : Lfts 2) → OneOutcome (put-charges.Post κs) (λ s. now (s .1 .0))
-one-put-charges κs a x y s t p q = (refl, agree p q)
-
 pub one-put-first-line : (κs : Lfts 1) → OneOutcome (put-first-line.Post κs) (λ s. now (s .0))
 one-put-first-line κs a x y s t p q = (agree (p .next-is) (q .next-is), agree (p .after-is) (q .after-is))
 
@@ -73,40 +62,17 @@ one-put-refusal κs a x y s t p q = (agree (p .next-is) (q .next-is), agree (p .
 pub one-statement : (κs : Lfts 2) → OneOutcome (statement.Post κs) (λ s. now (s .1 .0))
 one-statement κs a x y s t p q = (agree (p .0) (q .0), agree (p .1) (q .1))
 
-pub one-put-lines : (κs : Lfts 5) → OneOutcome (put-lines.Post κs) (λ s. now (s .1 .1 .1 .0))
-one-put-lines κs a x y s t p q = (refl, agree (p .0) (q .0))
+-- ---- settling's buffers
 
-pub one-put-counts : (κs : Lfts 5) → OneOutcome (put-lines.Post κs) (λ s. now (s .1 .1 .1 .1 .0))
-one-put-counts κs a x y s t p q = (refl, agree (p .1) (q .1))
+pub one-settle : (κs : Lfts 5) →
+    OneOutcome (settle.Post κs) (λ s. buffers (now (s .1 .1 .0)) (now (s .1 .1 .1 .0)) (now (s .1 .1 .1 .1 .0)) (now (s .1 .0)))
+one-settle κs a x y s t p q = one-result _ _ x y _ _ p q
 
--- ---- the five buffers of settling, as its contracts name them
-
-pub one-finish : (κs : Lfts 10) →
-    OneOutcome (finish.Post κs) (λ s. lent (now (s .1 .1 .1 .1 .1 .0)) (now (s .1 .1 .1 .1 .1 .1 .0)) (now (s .1 .1 .1 .1 .1 .1 .1 .0))
-    (now (s .1 .1 .1 .1 .1 .1 .1 .1 .0)) (now (s .1 .1 .1 .1 .1 .1 .1 .1 .1 .0)))
-one-finish κs a x y s t p q = (agree-answer (p .verdict-is) (q .verdict-is), agree (p .buffers-are) (q .buffers-are))
-
-agree-settled : {file : List ℕ} {before : Lent} {x y : Settled} {after other : Lent} →
-    FitsParallel file before x after → FitsParallel file before y other → (x ≡ y) × (after ≡ other)
-agree-settled p q = (
-  ap₂ (λ (a : Answer) (u : List ℤ). record { answer = a; ufe = u }) (agree-answer (p .verdict-is) (q .verdict-is))
-      (agree (p .ufe-is) (q .ufe-is)),
-  agree (p .buffers-are) (q .buffers-are),
-)
-
-pub one-settle-tallied : (κs : Lfts 6) →
-    OneOutcome (settle-tallied.Post κs) (λ s. lent (now (s .1 .1 .0)) (now (s .1 .1 .1 .0)) (now (s .1 .1 .1 .1 .0))
-    (now (s .1 .1 .1 .1 .1 .0)) (now (s .1 .1 .1 .1 .1 .1 .0)))
-one-settle-tallied κs a x y s t p q = agree-settled p q
-
-pub one-settle : (κs : Lfts 6) →
-    OneOutcome (settle.Post κs) (λ s. lent (now (s .1 .0)) (now (s .1 .1 .0)) (now (s .1 .1 .1 .0))
-    (now (s .1 .1 .1 .1 .0)) (now (s .1 .1 .1 .1 .1 .0)))
-one-settle κs a x y s t p q = agree-settled p q
-
-pub one-pool-settle : (κs : Lfts 5) →
-    OneOutcome (pool-settle.Post κs) (λ s. buffers (now (s .1 .1 .0)) (now (s .1 .1 .1 .0)) (now (s .1 .1 .1 .1 .0)) (now (s .1 .0)))
-one-pool-settle κs a x y s t p q = one-result _ _ x y _ _ p q
+pub one-settle-unlined : (κs : Lfts 4) →
+    OneOutcome (settle-unlined.Post κs) (λ s. unlined (now (s .1 .0)) (now (s .1 .1 .0)) (now (s .1 .1 .1 .0)))
+one-settle-unlined κs a x y s t p q =
+    let one = one-result _ _ x y _ _ (p .fits) (q .fits) in
+    (one .0, ap (λ (b : Buffers). unlined (b .charges) (b .shares) (b .deviations)) (one .1))
 
 -- ---- the functions for C
 

@@ -27,6 +27,7 @@ use Rattle.posting.proofs.tallied.Reads as tallied
 use Rattle.posting.proofs.empty_line.Reads as empty-line
 use Rattle.posting.proofs.line_with.Reads as line-with
 use Rattle.posting.proofs.cents.Reads as cents
+use Rattle.posting.proofs.charge_of.Reads as charge-of
 use Rattle.hourfile.proofs.signed.Reads as signed
 
 pub one-size-of : (κs : Lfts 0) → OneResult (size-of.Post κs)
@@ -103,6 +104,9 @@ one-line-with κs a x y s t = agree
 
 pub one-cents : (κs : Lfts 0) → OneResult (cents.Post κs)
 one-cents κs a x y s t = agree
+
+pub one-charge-of : (κs : Lfts 0) → OneResult (charge-of.Post κs)
+one-charge-of κs a x y s t = agree
 
 pub one-signed : (κs : Lfts 0) → OneResult (signed.Post κs)
 one-signed κs a x y s t = agree

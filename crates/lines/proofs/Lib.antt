@@ -1,3 +1,2 @@
--- The laws behind the members' lines: room for each record, and the way from empty lines to all records.
-mod Postings
+-- The law behind the members' lines: when deviations and shares are worked.
 pub mod Worked

@@ -5,11 +5,8 @@ use Prim.Native.Nat.{ℕ, _+_, _≤_, _<_}
 use native.Mathlib.Nat.{le-of-lt}
 use native.Mathlib.Numerals.{add-one}
 use native.Mathlib.Omega.{arith}
-use lib.Dec.{eqb}
 use lib.IntN.{ℤ}
 use lib.ListN.{length, getD}
-use Rattle.whole.proofs.Ranges.{_u+_, u-fits}
-use Rattle.whole.proofs.Sums.{count-most}
 use Rattle.whole.proofs.Buffers.{getD-replacing, length-replacing}
 use Rattle.rules.specs.declared.Line.{Line}
 use Rattle.rules.specs.Record.{Hour, members, memberOf}
@@ -17,8 +14,8 @@ use Rattle.rules.specs.Charge.{grains}
 use Rattle.rules.specs.Posting.{emptyLine, linesWith, linesAfter}
 use Rattle.rules.specs.Kept.{HourKept}
 use Rattle.rules.proofs.Posting.{lineAfter, lines-after}
-use Rattle.rules.proofs.Bounds.{amount-running, grains-under}
 use Rattle.posting.specs.Room.{LineRoom}
+use Rattle.posting.proofs.Room as Room
 
 module _ {h : Hour} (kept : HourKept h) (old : List Line) where
   member-before : (n : ℕ) → n ≤ h .count → (i : ℕ) → i < n → memberOf h i < members h
@@ -34,10 +31,7 @@ module _ {h : Hour} (kept : HourKept h) (old : List Line) where
         ∙ getD-replacing (lineAfter h i) (members h) old (memberOf h i) emptyLine (kept .record-kept i there .member-there)
 
     line-room : LineRoom (getD (linesAfter h old i) (memberOf h i) emptyLine) (grains h i)
-    line-room = rw line-at (record {
-      amount-fits = u-fits (amount-running kept (memberOf h i) i (le-of-lt there) u+ grains-under kept i there) tt;
-      records-fit = omega (arith, count-most (λ k. eqb (memberOf h k) (memberOf h i)) i, kept .count-most);
-    })
+    line-room = rw line-at (Room.line-room kept i there)
 
     -- the next posting, as its member and its grains were read
     module _ {ls : List Line} {m : ℕ} {g : ℤ} (posted : ls ≡ linesAfter h old i) (member-is : m ≡ memberOf h i)

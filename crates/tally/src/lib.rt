@@ -1,44 +1,14 @@
-// The hour's tally, posted in file order, and what it gives: each area's UFE, and refusal 6. The tally goes in and comes back by value, and
-// no caller's buffer is touched: `pool`, which lends its tally to each posting, calls the same formulas.
+// What the hour's tally gives: each area's UFE, and refusal 6.
 ghost use mathlib.Core.Path.{_≡_};
-ghost use Prim.Native.Nat.{_+_, _<_};
+ghost use Prim.Native.Nat.{_<_};
 ghost use Rattle.rules.specs.Record as Record;
 ghost use Rattle.rules.specs.Ufe.{ufe};
-ghost use Rattle.rules.specs.Posting.{tallyAfter};
 ghost use Rattle.rules.specs.Refusals.{foundAt, badArea};
 ghost use Rattle.rules.specs.Settling.{ufeFigures};
-ghost use Rattle.rules.specs.Kept.{FileKept};
 ghost use Rattle.hour.specs.Hour.{hourIn};
-ghost use Rattle.tally.specs.Posted.{TalliedUpTo, Tallied};
+ghost use Rattle.tally.specs.Posted.{Tallied};
 use rules::Found;
 use rules::Tally;
-
-// One record more: its demand and its energy go to its own area.
-pub fn tally_with(file: &[u8], t: Tally, i: usize) -> Tally
-    requires { ⌜ TalliedUpTo (now file) t i ⌝ }
-    ensures { λ r. ⌜ r ≡ tallyAfter (hourIn (now (file .entry))) (i + 1) ⌝ }
-{
-    let row = hourfile::record(file, i);
-    let area = hour::area_in(row);
-    let demand = hour::demand_in(row);
-    let energy = formula::deviation::accounted(hour::entry_in(row));
-    posting::tallied(t, area, demand, energy)
-}
-
-// All records, in file order.
-pub fn tally_of(file: &[u8]) -> Tally
-    requires { ⌜ FileKept (now file) ⌝ }
-    ensures { λ r. ⌜ r ≡ tallyAfter (hourIn (now (file .entry))) (hourIn (now (file .entry)) .count) ⌝ }
-{
-    let n = hourfile::records(file);
-    let mut t = posting::empty_tally();
-    let mut i = 0;
-    while i < n {
-        t = tally_with(file, t, i);
-        i += 1;
-    }
-    t
-}
 
 // An area's UFE: its ties, and what its records are accounted for.
 pub fn ufe_of(file: &[u8], t: Tally, a: usize) -> i64

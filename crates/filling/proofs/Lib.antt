@@ -1,2 +1,0 @@
--- The laws behind the end of settling.
-pub mod Handed
