@@ -27,6 +27,7 @@ use Rattle.hour.proofs.entry_in.Reads as entry-in
 use Rattle.hour.proofs.entry_of.Reads as entry-of
 use Rattle.deviations.proofs.deviation_of.Reads as deviation-of
 use Rattle.lines.proofs.grains.Reads as grains
+use Rattle.tally.proofs.tally_of.Reads as tally-of
 use Rattle.tally.proofs.ufe_of.Reads as ufe-of
 use Rattle.tally.proofs.ufe_figures.Reads as ufe-figures
 use Rattle.tally.proofs.area_without_demand.Reads as area-without-demand
@@ -102,6 +103,9 @@ one-deviation-of κs a x y s t = agree
 
 pub one-grains : (κs : Lfts 1) → OneResult (grains.Post κs)
 one-grains κs a x y s t = agree
+
+pub one-tally-of : (κs : Lfts 1) → OneResult (tally-of.Post κs)
+one-tally-of κs a x y s t = agree
 
 pub one-ufe-of : (κs : Lfts 1) → OneResult (ufe-of.Post κs)
 one-ufe-of κs a x y s t = agree

@@ -1,5 +1,5 @@
 // The customer's library: the tally and the members' lines are lent to each posting, and settling writes into the caller's own buffers.
-// Structs are moved here, not computed with: the sums are worked by value in `formula` and `posting`.
+// Structs are moved here, not computed with: the sums are worked by value in `posting`.
 ghost use mathlib.Core.Path.{_≡_};
 ghost use mathlib.Core.Bool.{_||_};
 ghost use Prim.Native.Nat.{ℕ, _≤_, _<_};
@@ -12,8 +12,7 @@ ghost use Rattle.rules.specs.Charge as Charge;
 ghost use Rattle.rules.specs.Posting as Posting;
 ghost use Rattle.rules.specs.Settling as Settling;
 ghost use Rattle.rules.specs.Promises.{Fits};
-ghost use Rattle.rules.specs.Kept.{FileKept};
-ghost use Rattle.posting.specs.Room.{TallyRoom, LineRoom};
+ghost use Rattle.posting.specs.Room.{LineRoom};
 ghost use Rattle.hour.specs.Hour.{hourIn};
 ghost use Rattle.lines.specs.Lined.{AllWorked};
 ghost use Rattle.pool.specs.Buffers.{buffers};
@@ -27,16 +26,6 @@ use rules::Answer;
 use rules::Found;
 use rules::Line;
 use rules::Settled;
-use rules::Tally;
-
-// Brings the lent tally up to date.
-fn post(tally: &mut Tally, area: usize, demand: u64, energy: i64)
-    requires { ⌜ TallyRoom (now tally) area demand energy ⌝ }
-    ensures { λ _. ⌜ now (tally .exit) ≡ Posting.tallied (now (tally .entry)) area demand energy ⌝ }
-{
-    let before = *tally;
-    *tally = posting::tallied(before, area, demand, energy);
-}
 
 // Touches the member's line and no other.
 fn post_line(lines: &mut [Line], member: usize, grains: i64)
@@ -45,24 +34,6 @@ fn post_line(lines: &mut [Line], member: usize, grains: i64)
 {
     let before = lines[member];
     lines[member] = posting::line_with(before, grains);
-}
-
-// All records, in file order, to one tally that is lent to each posting.
-fn tally_of(file: &[u8]) -> Tally
-    requires { ⌜ FileKept (now file) ⌝ }
-    ensures { λ r. ⌜ r ≡ Posting.tallyAfter (hourIn (now (file .entry))) (hourIn (now (file .entry)) .count) ⌝ }
-{
-    let n = hourfile::records(file);
-    let mut tally = posting::empty_tally();
-    let mut i = 0;
-    while i < n {
-        let area = hour::area_of(file, i);
-        let demand = hour::demand_of(file, i);
-        let energy = formula::deviation::accounted(hour::entry_of(file, i));
-        post(&mut tally, area, demand, energy);
-        i += 1;
-    }
-    tally
 }
 
 // The first `n` lines empty.
@@ -138,7 +109,7 @@ fn answered(file: &[u8], charges: usize, lines: usize, shares: usize, deviations
     let Answer::Accepted = answer else {
         return answer::refused(answer);
     };
-    let tally = tally_of(file);
+    let tally = tally::tally_of(file);
     let figures = tally::ufe_figures(file, tally);
     if let Found::At(a) = tally::area_without_demand(file, tally, figures) {
         return answer::refused(Answer::BadArea(a));

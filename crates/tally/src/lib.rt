@@ -1,14 +1,44 @@
-// What the hour's tally gives: each area's UFE, and refusal 6.
+// The hour's tally, lent to each posting in file order, and what it gives: each area's UFE, and refusal 6.
 ghost use mathlib.Core.Path.{_≡_};
 ghost use Prim.Native.Nat.{_<_};
 ghost use Rattle.rules.specs.Record as Record;
 ghost use Rattle.rules.specs.Ufe.{ufe};
+ghost use Rattle.rules.specs.Posting as Posting;
 ghost use Rattle.rules.specs.Refusals.{foundAt, badArea};
 ghost use Rattle.rules.specs.Settling.{ufeFigures};
+ghost use Rattle.rules.specs.Kept.{FileKept};
+ghost use Rattle.posting.specs.Room.{TallyRoom};
 ghost use Rattle.hour.specs.Hour.{hourIn};
 ghost use Rattle.tally.specs.Posted.{Tallied};
 use rules::Found;
 use rules::Tally;
+
+// Brings the lent tally up to date.
+fn post(tally: &mut Tally, area: usize, demand: u64, energy: i64)
+    requires { ⌜ TallyRoom (now tally) area demand energy ⌝ }
+    ensures { λ _. ⌜ now (tally .exit) ≡ Posting.tallied (now (tally .entry)) area demand energy ⌝ }
+{
+    let before = *tally;
+    *tally = posting::tallied(before, area, demand, energy);
+}
+
+// All records, in file order, to one tally that is lent to each posting.
+pub fn tally_of(file: &[u8]) -> Tally
+    requires { ⌜ FileKept (now file) ⌝ }
+    ensures { λ r. ⌜ r ≡ Posting.tallyAfter (hourIn (now (file .entry))) (hourIn (now (file .entry)) .count) ⌝ }
+{
+    let n = hourfile::records(file);
+    let mut tally = posting::empty_tally();
+    let mut i = 0;
+    while i < n {
+        let area = hour::area_of(file, i);
+        let demand = hour::demand_of(file, i);
+        let energy = formula::deviation::accounted(hour::entry_of(file, i));
+        post(&mut tally, area, demand, energy);
+        i += 1;
+    }
+    tally
+}
 
 // An area's UFE: its ties, and what its records are accounted for.
 pub fn ufe_of(file: &[u8], t: Tally, a: usize) -> i64

@@ -12,10 +12,10 @@ use borrow.Author.Needs.{sfits-of}
 use Rattle.rules.specs.Record.{entryOf, areaOf}
 use Rattle.rules.specs.Posting.{accounted, demandOf, tallyAfter}
 use Rattle.hour.specs.Hour.{hourIn}
 use Rattle.tally.specs.Posted.{TalliedUpTo}
 use Rattle.tally.proofs.Tallies.{has-room, next-tally}
-use Rattle.pool.proofs.tally_of.Statement.{statement}
-use Rattle.pool.proofs.tally_of.Proof.Tie as tie
+use Rattle.tally.proofs.tally_of.Statement.{statement}
+use Rattle.tally.proofs.tally_of.Proof.Tie as tie
 
 abbrev Inv-loop : tie.InvT-loop
 Inv-loop file n tally₀ i₀ tally i = (i ≤ n) × (tally ≡ tallyAfter (hourIn file) i)

@@ -52,10 +52,10 @@ use Rattle.posting.proofs.tallied as g
 use Rattle.posting.proofs.tallied.Symbol as g-def
 use Rattle.posting.proofs.tallied.Symbol.{name as #tallied}
 use Rattle.posting.proofs.tallied.Met as g-thm
-use Rattle.pool.proofs.post.Key.{name as #post}
-use Rattle.pool.proofs.post as f
-use Rattle.pool.proofs.post.Statement as stated
-use Rattle.pool.proofs.post.Code as code
+use Rattle.tally.proofs.post.Key.{name as #post}
+use Rattle.tally.proofs.post as f
+use Rattle.tally.proofs.post.Statement as stated
+use Rattle.tally.proofs.post.Code as code
 
 abbrev Arg : Type 0
 Arg = RefT Tally × (ℕ × (ℕ × (ℤ × Unit {0})))

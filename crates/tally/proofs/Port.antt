@@ -1,0 +1,3 @@
+-- Made by tools/walk.py.
+pub mod TallyKit
+pub mod post
