@@ -84,7 +84,7 @@ def close(s, i):
         i += 1
         if depth == 0 and s[i - 1] == '}': return i
 
-SIGNATURES = {}
+SIGNATURES, ELSEWHERE = {}, set() # this crate's functions; the other crates' that lend a struct
 def twin(crate, module, s, body_of):
     s = '\n'.join(
         l for l in s.splitlines()
@@ -111,6 +111,7 @@ def twin(crate, module, s, body_of):
         i = close(s, b)
         name = (module + '/' if module else '') + m.group(3)
         if crate == CRATE: SIGNATURES[name] = signature
+        elif LENT.search(signature): ELSEWHERE.add((crate, name))
         result = re.search(r'->\s*(.*)$', signature, flags=re.S)
         called = crate == CRATE or re.search(rf'\b{crate}::{name.replace("/", "::")}\(', MINE) and not (
             result and result.group(1).startswith('&'))
@@ -188,6 +189,9 @@ def carried(text):
         me = fn.replace('/', '.')
         if LENT.search(signature): text = re.sub(rf'{OWN}\.{me}\.(Kinds|Reads)\b', rf'{OWN}.Port.{me}.\1', text)
         text = re.sub(rf'{OWN}\.{me}\.(Lts|Tie)\b', rf'{OWN}.{me}.Proof.\1', text)
+    for home, fn in ELSEWHERE:
+        me = fn.replace('/', '.')
+        text = re.sub(rf'Rattle\.{home}\.proofs\.{me}\.(Kinds|Reads)\b', rf'Rattle.{home}.proofs.Port.{me}.\1', text)
     text = re.sub(r'^( *(?:pre|post)-read =(?:(?!\n\n).)*?)search Read\.reads', r'\1Read.r-top', text, flags=re.M | re.S)
     text = re.sub(r'search Read\.reads', 'Read.r-last _', text)
     text = re.sub(r'^ *-- antt refused .*\n|^-- the `use` lines.*\n', '', text, flags=re.M)

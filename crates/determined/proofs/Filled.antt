@@ -20,6 +20,8 @@ use Rattle.amount.proofs.decimal.put_digits.Reads as put-digits
 use Rattle.share.proofs.shares.Reads as shares
 use Rattle.deviations.proofs.put_deviations.Reads as put-deviations
 use Rattle.sharing.proofs.put_shares.Reads as put-shares
+use Rattle.lines.proofs.Port.put_lines.Reads as put-lines
+use Rattle.lines.proofs.Port.put_charges.Reads as put-charges
 use Rattle.pool.proofs.Port.settle.Reads as settle
 use Rattle.pool.proofs.settle_unlined.Reads as settle-unlined
 use Rattle.pool.proofs.boundary.numbered.Reads as numbered
@@ -49,6 +51,12 @@ one-put-deviations κs a x y s t p q = (refl, agree p q)
 
 pub one-put-shares : (κs : Lfts 2) → OneOutcome (put-shares.Post κs) (λ s. now (s .1 .1 .0))
 one-put-shares κs a x y s t p q = (refl, agree p q)
+
+pub one-put-lines : (κs : Lfts 4) → OneOutcome (put-lines.Post κs) (λ s. now (s .1 .1 .1 .0))
+one-put-lines κs a x y s t p q = (refl, agree p q)
+
+pub one-put-charges : (κs : Lfts 2) → OneOutcome (put-charges.Post κs) (λ s. now (s .1 .1 .0))
+one-put-charges κs a x y s t p q = (refl, agree p q)
 
 pub one-put-first-line : (κs : Lfts 1) → OneOutcome (put-first-line.Post κs) (λ s. now (s .0))
 one-put-first-line κs a x y s t p q = (agree (p .next-is) (q .next-is), agree (p .after-is) (q .after-is))

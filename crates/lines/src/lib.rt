@@ -1,8 +1,17 @@
-// What a record adds to its member's line, in grains. No deviation and no share is worked here: the caller has them.
+// The members' lines, lent by the caller: each record's grains posted to its member's line, in file order, and each member's charge from its
+// line. No deviation and no share is worked here: the caller has them. A line is moved whole; its sums are `posting`'s.
 ghost use mathlib.Core.Path.{_≡_};
+ghost use Prim.Native.Nat.{ℕ, _≤_, _<_};
+ghost use lib.ListN.{length, getD};
+ghost use Rattle.whole.specs.Below.{replacingFirst};
+ghost use Rattle.whole.specs.Signed.{Under};
+ghost use Rattle.rules.specs.Record as Record;
 ghost use Rattle.rules.specs.Charge as Charge;
+ghost use Rattle.rules.specs.Posting as Posting;
+ghost use Rattle.posting.specs.Room.{LineRoom};
 ghost use Rattle.hour.specs.Hour.{hourIn};
-ghost use Rattle.lines.specs.Lined.{Worked};
+ghost use Rattle.lines.specs.Lined.{Worked, AllWorked};
+use rules::Line;
 
 // A record in its member's amount: the zone price of its area times its deviation as it enters, plus its share.
 pub fn grains(file: &[u8], i: usize, deviation: i64, share: i64) -> i64
@@ -13,4 +22,56 @@ pub fn grains(file: &[u8], i: usize, deviation: i64, share: i64) -> i64
     let kind = hour::kind_in(row);
     let price = hour::price(file, hour::area_in(row));
     price * (formula::deviation::entering(kind, deviation) + share)
+}
+
+// Touches the member's line and no other.
+fn post_line(lines: &mut [Line], member: usize, grains: i64)
+    requires { ⌜ (member < length (now lines)) × LineRoom (getD (now lines) member Posting.emptyLine) grains ⌝ }
+    ensures { λ _. ⌜ now (lines .exit) ≡ Posting.linesWith (now (lines .entry)) member grains ⌝ }
+{
+    let before = lines[member];
+    lines[member] = posting::line_with(before, grains);
+}
+
+// The first `n` lines empty.
+fn clear_lines(lines: &mut [Line], n: usize)
+    requires { ⌜ n ≤ length (now lines) ⌝ }
+    ensures { λ _. ⌜ now (lines .exit) ≡ replacingFirst (λ m. Posting.emptyLine) n (now (lines .entry)) ⌝ }
+{
+    let mut m = 0;
+    while m < n {
+        lines[m] = posting::empty_line();
+        m += 1;
+    }
+}
+
+// Each record to its member's line, in file order. What a member's line held isn't read; the lines past the members' are unchanged.
+pub fn put_lines(file: &[u8], deviations: &[i64], shares: &[i64], lines: &mut [Line])
+    requires { ⌜ AllWorked (now file) (now deviations) (now shares) × (Record.members (hourIn (now file)) ≤ length (now lines)) ⌝ }
+    ensures { λ _. ⌜ now (lines .exit)
+        ≡ Posting.linesAfter (hourIn (now (file .entry))) (now (lines .entry)) (hourIn (now (file .entry)) .count) ⌝ }
+{
+    clear_lines(lines, hour::members(file));
+    let n = hourfile::records(file);
+    let mut i = 0;
+    while i < n {
+        let member = hour::member_of(file, i);
+        let grains = grains(file, i, deviations[i], shares[i]);
+        post_line(lines, member, grains);
+        i += 1;
+    }
+}
+
+// The first `n` members' charges, from their lines; the places past them are unchanged.
+pub fn put_charges(lines: &[Line], n: usize, charges: &mut [i64])
+    requires { ⌜ (n ≤ length (now lines)) × (n ≤ length (now charges))
+        × ((m : ℕ) → m < n → Under (getD (now lines) m Posting.emptyLine .amount) 4000000000000000000) ⌝ }
+    ensures { λ _. ⌜ now (charges .exit)
+        ≡ replacingFirst (λ m. Charge.cents (getD (now (lines .entry)) m Posting.emptyLine .amount)) n (now (charges .entry)) ⌝ }
+{
+    let mut m = 0;
+    while m < n {
+        charges[m] = posting::charge_of(lines[m]);
+        m += 1;
+    }
 }

@@ -1,7 +1,3 @@
 -- Made by tools/walk.py.
 pub mod LineKit
-pub mod clear_lines
-pub mod post_line
-pub mod put_charges
-pub mod put_lines
 pub mod settle

@@ -2,19 +2,11 @@
 // Structs are moved here, not computed with: the sums are worked by value in `posting`.
 ghost use mathlib.Core.Path.{_≡_};
 ghost use mathlib.Core.Bool.{_||_};
-ghost use Prim.Native.Nat.{ℕ, _≤_, _<_};
-ghost use lib.ListN.{length, getD};
 ghost use lib.Dec.{ltb};
-ghost use Rattle.whole.specs.Below.{replacingFirst};
-ghost use Rattle.whole.specs.Signed.{Under};
 ghost use Rattle.rules.specs.Record as Record;
-ghost use Rattle.rules.specs.Charge as Charge;
-ghost use Rattle.rules.specs.Posting as Posting;
 ghost use Rattle.rules.specs.Settling as Settling;
 ghost use Rattle.rules.specs.Promises.{Fits};
-ghost use Rattle.posting.specs.Room.{LineRoom};
 ghost use Rattle.hour.specs.Hour.{hourIn};
-ghost use Rattle.lines.specs.Lined.{AllWorked};
 ghost use Rattle.pool.specs.Buffers.{buffers};
 ghost use Rattle.pool.specs.Answered.{Answered};
 ghost use Rattle.pool.specs.Unlined.{unlined, FitsUnlined};
@@ -26,58 +18,6 @@ use rules::Answer;
 use rules::Found;
 use rules::Line;
 use rules::Settled;
-
-// Touches the member's line and no other.
-fn post_line(lines: &mut [Line], member: usize, grains: i64)
-    requires { ⌜ (member < length (now lines)) × LineRoom (getD (now lines) member Posting.emptyLine) grains ⌝ }
-    ensures { λ _. ⌜ now (lines .exit) ≡ Posting.linesWith (now (lines .entry)) member grains ⌝ }
-{
-    let before = lines[member];
-    lines[member] = posting::line_with(before, grains);
-}
-
-// The first `n` lines empty.
-fn clear_lines(lines: &mut [Line], n: usize)
-    requires { ⌜ n ≤ length (now lines) ⌝ }
-    ensures { λ _. ⌜ now (lines .exit) ≡ replacingFirst (λ m. Posting.emptyLine) n (now (lines .entry)) ⌝ }
-{
-    let mut m = 0;
-    while m < n {
-        lines[m] = posting::empty_line();
-        m += 1;
-    }
-}
-
-// Each record to its member's line, in file order. What a member's line held isn't read; the lines past the members' are unchanged.
-fn put_lines(file: &[u8], deviations: &[i64], shares: &[i64], lines: &mut [Line])
-    requires { ⌜ AllWorked (now file) (now deviations) (now shares) × (Record.members (hourIn (now file)) ≤ length (now lines)) ⌝ }
-    ensures { λ _. ⌜ now (lines .exit)
-        ≡ Posting.linesAfter (hourIn (now (file .entry))) (now (lines .entry)) (hourIn (now (file .entry)) .count) ⌝ }
-{
-    clear_lines(lines, hour::members(file));
-    let n = hourfile::records(file);
-    let mut i = 0;
-    while i < n {
-        let member = hour::member_of(file, i);
-        let grains = lines::grains(file, i, deviations[i], shares[i]);
-        post_line(lines, member, grains);
-        i += 1;
-    }
-}
-
-// The first `n` members' charges, from their lines; the places past them are unchanged.
-fn put_charges(lines: &[Line], n: usize, charges: &mut [i64])
-    requires { ⌜ (n ≤ length (now lines)) × (n ≤ length (now charges))
-        × ((m : ℕ) → m < n → Under (getD (now lines) m Posting.emptyLine .amount) 4000000000000000000) ⌝ }
-    ensures { λ _. ⌜ now (charges .exit)
-        ≡ replacingFirst (λ m. Charge.cents (getD (now (lines .entry)) m Posting.emptyLine .amount)) n (now (charges .entry)) ⌝ }
-{
-    let mut m = 0;
-    while m < n {
-        charges[m] = posting::charge_of(lines[m]);
-        m += 1;
-    }
-}
 
 // Refusal 11: charges or lines shorter than the members, or shares or deviations shorter than the records.
 fn too_short(file: &[u8], charges: usize, lines: usize, shares: usize, deviations: usize) -> bool
@@ -150,8 +90,8 @@ pub fn settle(
     deviations::put_deviations(file, deviations);
     let figures = settled.ufe;
     sharing::put_shares(file, figures, shares);
-    put_lines(file, deviations, shares, lines);
-    put_charges(lines, hour::members(file), charges);
+    lines::put_lines(file, deviations, shares, lines);
+    lines::put_charges(lines, hour::members(file), charges);
     settled
 }
 

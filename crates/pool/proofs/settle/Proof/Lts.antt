@@ -201,7 +201,7 @@ abbrev b23 : Syntax.Body
 b23 = Syntax.assign (Syntax.place 23 List.[]) (Syntax.aggregate (List._∷_ (Syntax.copy (Syntax.place 22 List.[])) (List._∷_ (Syntax.copy (Syntax.place 2 (List._∷_ (Syntax.field 1) List.[]))) List.[])))
 
 abbrev b24 : Syntax.Body
-b24 = Syntax.call "pool::put_lines" (List._∷_ (Syntax.copy (Syntax.place 1 List.[])) (List._∷_ (Syntax.copy (Syntax.place 19 List.[])) (List._∷_ (Syntax.copy (Syntax.place 21 List.[])) (List._∷_ (Syntax.copy (Syntax.place 23 List.[])) List.[])))) (Syntax.place 13 List.[])
+b24 = Syntax.call "lines::put_lines" (List._∷_ (Syntax.copy (Syntax.place 1 List.[])) (List._∷_ (Syntax.copy (Syntax.place 19 List.[])) (List._∷_ (Syntax.copy (Syntax.place 21 List.[])) (List._∷_ (Syntax.copy (Syntax.place 23 List.[])) List.[])))) (Syntax.place 13 List.[])
 
 abbrev b25 : Syntax.Body
 b25 = Syntax.assign (Syntax.place 24 List.[]) (Syntax.addrOf (Syntax.place 2 (List._∷_ (Syntax.field 0) (List._∷_ (Syntax.deref (LineKit.plain-ty)) List.[]))))
@@ -219,7 +219,7 @@ abbrev b29 : Syntax.Body
 b29 = Syntax.assign (Syntax.place 27 List.[]) (Syntax.aggregate (List._∷_ (Syntax.copy (Syntax.place 26 List.[])) (List._∷_ (Syntax.copy (Syntax.place 3 (List._∷_ (Syntax.field 1) List.[]))) List.[])))
 
 abbrev b30 : Syntax.Body
-b30 = Syntax.call "pool::put_charges" (List._∷_ (Syntax.copy (Syntax.place 25 List.[])) (List._∷_ (Syntax.copy (Syntax.place 9 List.[])) (List._∷_ (Syntax.copy (Syntax.place 27 List.[])) List.[]))) (Syntax.place 13 List.[])
+b30 = Syntax.call "lines::put_charges" (List._∷_ (Syntax.copy (Syntax.place 25 List.[])) (List._∷_ (Syntax.copy (Syntax.place 9 List.[])) (List._∷_ (Syntax.copy (Syntax.place 27 List.[])) List.[]))) (Syntax.place 13 List.[])
 
 abbrev b31 : Syntax.Body
 b31 = Syntax.assign (Syntax.place 0 List.[]) (Syntax.rvOpd (Syntax.copy (Syntax.place 6 List.[])))
@@ -822,7 +822,7 @@ module _ (claims· : Claims) where
   module _ (Pre· : (κs : Lifetimes.Lfts 5) → Kinds.Dens κs ps → Type 0) (Post· : (κs : Lifetimes.Lfts 5) → (a : Kinds.Dens κs ps) → Kinds.Plain 5 ps r κs) where
     module _ (M : Type 1) where
       abbrev pub Closed : Type 2
-      Closed = (𝓤 : URA.URA M) (H : Wp.Heap 𝓤) (A : Atoms.Atoms 𝓤) (W : Kit.Given 𝓤 H A) (𝓣 : Wp.Tables 𝓤 H) (known0 : Plain.Known 𝓤 H A W 𝓣 1 ps·0 r·0 (claims· .0) (claims· .1) "pool::answered") (known1 : Plain.Known 𝓤 H A W 𝓣 2 ps·1 r·1 (claims· .2) (claims· .3) "deviations::put_deviations") (known2 : Plain.Known 𝓤 H A W 𝓣 2 ps·2 r·2 (claims· .4) (claims· .5) "sharing::put_shares") (known3 : Plain.Known 𝓤 H A W 𝓣 4 ps·3 r·3 (claims· .6) (claims· .7) "pool::put_lines") (known4 : Plain.Known 𝓤 H A W 𝓣 1 ps·4 r·4 (claims· .8) (claims· .9) "hour::members") (known5 : Plain.Known 𝓤 H A W 𝓣 2 ps·5 r·5 (claims· .10) (claims· .11) "pool::put_charges") → Statement.Triple 𝓤 (Wp.WpFn 𝓤 H (𝓣 .C) (𝓣 .Λ) (Function.fnOf 5 ps r xs m hs body)) (Function.plainOf 𝓤 H A 5 ps r Pre· Post·)
+      Closed = (𝓤 : URA.URA M) (H : Wp.Heap 𝓤) (A : Atoms.Atoms 𝓤) (W : Kit.Given 𝓤 H A) (𝓣 : Wp.Tables 𝓤 H) (known0 : Plain.Known 𝓤 H A W 𝓣 1 ps·0 r·0 (claims· .0) (claims· .1) "pool::answered") (known1 : Plain.Known 𝓤 H A W 𝓣 2 ps·1 r·1 (claims· .2) (claims· .3) "deviations::put_deviations") (known2 : Plain.Known 𝓤 H A W 𝓣 2 ps·2 r·2 (claims· .4) (claims· .5) "sharing::put_shares") (known3 : Plain.Known 𝓤 H A W 𝓣 4 ps·3 r·3 (claims· .6) (claims· .7) "lines::put_lines") (known4 : Plain.Known 𝓤 H A W 𝓣 1 ps·4 r·4 (claims· .8) (claims· .9) "hour::members") (known5 : Plain.Known 𝓤 H A W 𝓣 2 ps·5 r·5 (claims· .10) (claims· .11) "lines::put_charges") → Statement.Triple 𝓤 (Wp.WpFn 𝓤 H (𝓣 .C) (𝓣 .Λ) (Function.fnOf 5 ps r xs m hs body)) (Function.plainOf 𝓤 H A 5 ps r Pre· Post·)
 
     module _ where
       abbrev at0 : (bs : List.List Nat.ℕ) → Typed.TF T15 O1
@@ -1070,7 +1070,7 @@ module _ (claims· : Claims) where
 
       module _ {M : Type 1} (𝓤 : URA.URA M) (H : Wp.Heap 𝓤) (A : Atoms.Atoms 𝓤) (W : Kit.Given 𝓤 H A) (𝓣 : Wp.Tables 𝓤 H) where
         abbrev Knowns : Type 1
-        Knowns = Plain.Known 𝓤 H A W 𝓣 1 ps·0 r·0 (claims· .0) (claims· .1) "pool::answered" × Plain.Known 𝓤 H A W 𝓣 2 ps·1 r·1 (claims· .2) (claims· .3) "deviations::put_deviations" × Plain.Known 𝓤 H A W 𝓣 2 ps·2 r·2 (claims· .4) (claims· .5) "sharing::put_shares" × Plain.Known 𝓤 H A W 𝓣 4 ps·3 r·3 (claims· .6) (claims· .7) "pool::put_lines" × Plain.Known 𝓤 H A W 𝓣 1 ps·4 r·4 (claims· .8) (claims· .9) "hour::members" × Plain.Known 𝓤 H A W 𝓣 2 ps·5 r·5 (claims· .10) (claims· .11) "pool::put_charges"
+        Knowns = Plain.Known 𝓤 H A W 𝓣 1 ps·0 r·0 (claims· .0) (claims· .1) "pool::answered" × Plain.Known 𝓤 H A W 𝓣 2 ps·1 r·1 (claims· .2) (claims· .3) "deviations::put_deviations" × Plain.Known 𝓤 H A W 𝓣 2 ps·2 r·2 (claims· .4) (claims· .5) "sharing::put_shares" × Plain.Known 𝓤 H A W 𝓣 4 ps·3 r·3 (claims· .6) (claims· .7) "lines::put_lines" × Plain.Known 𝓤 H A W 𝓣 1 ps·4 r·4 (claims· .8) (claims· .9) "hour::members" × Plain.Known 𝓤 H A W 𝓣 2 ps·5 r·5 (claims· .10) (claims· .11) "lines::put_charges"
 
       module _ (κs : Lifetimes.Lfts 5) (qs : Lifetimes.Shares 5) where
         abbrev g14 : List.List Row.Entry
@@ -1441,7 +1441,7 @@ module _ (claims· : Claims) where
           d19 = Typed.g-pre 𝓤 H A W 𝓣 E G66 G67 b33 Δ0 (Typed.pass T66 T67 (s64 bs)) (at18 bs) (Scalar.g-room 𝓤 H A W E G66 25 (Syntax.tyStruct (List._∷_ 38 (List._∷_ 91 (List._∷_ 93 List.[]))) (Syntax.tcons (Syntax.tyRef Syntax.erased Syntax.imm LineKit.behind) (Syntax.tcons (Syntax.tyInt Syntax.w64) Syntax.tnil))) (Shared.room-sslice 𝓤 H A W (LineKit.R) (Syntax.tyRef Syntax.erased Syntax.imm LineKit.behind) 10)) d18
 
           d20 : Typed.Typed 𝓤 H A 𝓣 E G65 b34 Δ0 (at20 bs)
-          d20 = Typed.s-seq 𝓤 H A W 𝓣 E G65 G66 b30 b33 Δ0 (Typed.both (s63 bs)) (at19 bs) (Plain.t-call-plain 𝓤 H A W 𝓣 2 ps·5 r·5 (claims· .10) (claims· .11) "pool::put_charges" (known .5) E (λ pos β. β) G65 (record { pos = 25; ty = Syntax.tyRef Syntax.erased Syntax.imm LineKit.behind; ref = λ x. x }, (Num.vAt 9 λ x. x, (record { pos = 27; ty = Syntax.tyRef Syntax.erased Syntax.mut (Syntax.tyInt Syntax.w64); ref = λ x. x }, tt))) 13 (List._∷_ 10 (List._∷_ 11 List.[])) (Call.sub-id 𝓤 H A W (G65 .slots)) (ShrSlice.spares-sslice 𝓤 H A W (LineKit.R) (Syntax.tyRef Syntax.erased Syntax.imm LineKit.behind) 10, Shared.reads-sslice 𝓤 H A W (LineKit.R) (Syntax.tyRef Syntax.erased Syntax.imm LineKit.behind) 10, Path'.refl, ((Scalar.reads-sc 𝓤 H A W (Row.sInt Syntax.w64), Path'.refl), (Reads'.as-is 𝓤 H A (Mut.mslice (DenSigned.SInt Syntax.w64) (Syntax.tyRef Syntax.erased Syntax.mut (Syntax.tyInt Syntax.w64)) 11), Mut.reads-mslice 𝓤 H A W (DenSigned.SInt Syntax.w64) (Syntax.tyRef Syntax.erased Syntax.mut (Syntax.tyInt Syntax.w64)) 11, Path'.refl, tt))) (Reads'.room-gone 𝓤 H A Syntax.tyUnit) (tt, (tt, tt)) Path'.refl) d19
+          d20 = Typed.s-seq 𝓤 H A W 𝓣 E G65 G66 b30 b33 Δ0 (Typed.both (s63 bs)) (at19 bs) (Plain.t-call-plain 𝓤 H A W 𝓣 2 ps·5 r·5 (claims· .10) (claims· .11) "lines::put_charges" (known .5) E (λ pos β. β) G65 (record { pos = 25; ty = Syntax.tyRef Syntax.erased Syntax.imm LineKit.behind; ref = λ x. x }, (Num.vAt 9 λ x. x, (record { pos = 27; ty = Syntax.tyRef Syntax.erased Syntax.mut (Syntax.tyInt Syntax.w64); ref = λ x. x }, tt))) 13 (List._∷_ 10 (List._∷_ 11 List.[])) (Call.sub-id 𝓤 H A W (G65 .slots)) (ShrSlice.spares-sslice 𝓤 H A W (LineKit.R) (Syntax.tyRef Syntax.erased Syntax.imm LineKit.behind) 10, Shared.reads-sslice 𝓤 H A W (LineKit.R) (Syntax.tyRef Syntax.erased Syntax.imm LineKit.behind) 10, Path'.refl, ((Scalar.reads-sc 𝓤 H A W (Row.sInt Syntax.w64), Path'.refl), (Reads'.as-is 𝓤 H A (Mut.mslice (DenSigned.SInt Syntax.w64) (Syntax.tyRef Syntax.erased Syntax.mut (Syntax.tyInt Syntax.w64)) 11), Mut.reads-mslice 𝓤 H A W (DenSigned.SInt Syntax.w64) (Syntax.tyRef Syntax.erased Syntax.mut (Syntax.tyInt Syntax.w64)) 11, Path'.refl, tt))) (Reads'.room-gone 𝓤 H A Syntax.tyUnit) (tt, (tt, tt)) Path'.refl) d19
 
           d21 : Typed.Typed 𝓤 H A 𝓣 E G64 b35 Δ0 (at21 bs)
           d21 = Typed.s-seq 𝓤 H A W 𝓣 E G64 G65 b29 b34 Δ0 (Typed.ask (s62 bs)) (at20 bs) (Relend.t-sl-aggregate 𝓤 H A W E (DenSigned.SInt Syntax.w64) 𝓣 (Relend.asMut (DenSigned.SInt Syntax.w64)) G64 26 27 11 (Syntax.tyRef Syntax.erased Syntax.mut (Syntax.tyInt Syntax.w64)) (Syntax.tyRef Syntax.erased Syntax.mut (Syntax.tyInt Syntax.w64)) (λ x. x) (Scalar.oFld 3 (List._∷_ (Syntax.field 1) List.[]) (Syntax.tyInt Syntax.w64) 8 λ v. Shared.lenV (v .0)) (Reads'.as-is 𝓤 H A (Relend.msptr (DenSigned.SInt Syntax.w64) (Syntax.tyRef Syntax.erased Syntax.mut (Syntax.tyInt Syntax.w64)) 11)) (Reads'.room-gone 𝓤 H A (Syntax.tyStruct (List._∷_ 38 (List._∷_ 91 (List._∷_ 93 List.[]))) (Syntax.tcons (Syntax.tyRef Syntax.erased Syntax.mut (Syntax.tyInt Syntax.w64)) (Syntax.tcons (Syntax.tyInt Syntax.w64) Syntax.tnil)))) (Relend.reads-owed-len 𝓤 H A W (DenSigned.SInt Syntax.w64) (Syntax.tyRef (Syntax.named 2) Syntax.mut (Syntax.tyInt Syntax.w64)) 2 11 (Row.lease (κs .1 .1 .0) (qs .1 .1 .0)) 8 Path'.refl, Path'.refl) Path'.refl Path'.refl λ b o k. tt) d20
@@ -1501,7 +1501,7 @@ module _ (claims· : Claims) where
           d39 = Typed.g-pre 𝓤 H A W 𝓣 E G46 G47 b39 Δ0 (Typed.pass T46 T47 (s44 bs)) (at38 bs) (Scalar.g-room 𝓤 H A W E G46 19 (Syntax.tyStruct (List._∷_ 38 (List._∷_ 91 (List._∷_ 93 List.[]))) (Syntax.tcons (Syntax.tyRef Syntax.erased Syntax.imm (Syntax.tyInt Syntax.w64)) (Syntax.tcons (Syntax.tyInt Syntax.w64) Syntax.tnil))) (Shared.room-sslice 𝓤 H A W (DenSigned.SInt Syntax.w64) (Syntax.tyRef Syntax.erased Syntax.imm (Syntax.tyInt Syntax.w64)) 7)) d38
 
           d40 : Typed.Typed 𝓤 H A 𝓣 E G45 b40 Δ0 (at40 bs)
-          d40 = Typed.s-seq 𝓤 H A W 𝓣 E G45 G46 b24 b39 Δ0 (Typed.both (s43 bs)) (at39 bs) (Plain.t-call-plain 𝓤 H A W 𝓣 4 ps·3 r·3 (claims· .6) (claims· .7) "pool::put_lines" (known .3) E (λ pos β. β) G45 (record { pos = 1; ty = Syntax.tyRef (Syntax.named 0) Syntax.imm (Syntax.tyInt Syntax.w8); ref = λ x. x }, (record { pos = 19; ty = Syntax.tyRef Syntax.erased Syntax.imm (Syntax.tyInt Syntax.w64); ref = λ x. x }, (record { pos = 21; ty = Syntax.tyRef Syntax.erased Syntax.imm (Syntax.tyInt Syntax.w64); ref = λ x. x }, (record { pos = 23; ty = Syntax.tyRef Syntax.erased Syntax.mut LineKit.behind; ref = λ x. x }, tt)))) 13 (List._∷_ 0 (List._∷_ 7 (List._∷_ 8 (List._∷_ 9 List.[])))) (Call.sub-id 𝓤 H A W (G45 .slots)) (ShrSlice.spares-sslice 𝓤 H A W (Referent.rtF (Referent.fInt Syntax.w8)) (Syntax.tyRef (Syntax.named 0) Syntax.imm (Syntax.tyInt Syntax.w8)) 0, Shared.reads-sslice 𝓤 H A W (Referent.rtF (Referent.fInt Syntax.w8)) (Syntax.tyRef (Syntax.named 0) Syntax.imm (Syntax.tyInt Syntax.w8)) 0, Path'.refl, (ShrSlice.spares-sslice 𝓤 H A W (DenSigned.SInt Syntax.w64) (Syntax.tyRef Syntax.erased Syntax.imm (Syntax.tyInt Syntax.w64)) 7, Shared.reads-sslice 𝓤 H A W (DenSigned.SInt Syntax.w64) (Syntax.tyRef Syntax.erased Syntax.imm (Syntax.tyInt Syntax.w64)) 7, Path'.refl, (ShrSlice.spares-sslice 𝓤 H A W (DenSigned.SInt Syntax.w64) (Syntax.tyRef Syntax.erased Syntax.imm (Syntax.tyInt Syntax.w64)) 8, Shared.reads-sslice 𝓤 H A W (DenSigned.SInt Syntax.w64) (Syntax.tyRef Syntax.erased Syntax.imm (Syntax.tyInt Syntax.w64)) 8, Path'.refl, (Reads'.as-is 𝓤 H A (Mut.mslice (LineKit.R) (Syntax.tyRef Syntax.erased Syntax.mut LineKit.behind) 9), Mut.reads-mslice 𝓤 H A W (LineKit.R) (Syntax.tyRef Syntax.erased Syntax.mut LineKit.behind) 9, Path'.refl, tt)))) (Reads'.room-gone 𝓤 H A Syntax.tyUnit) (tt, (tt, (tt, (tt, tt)))) Path'.refl) d39
+          d40 = Typed.s-seq 𝓤 H A W 𝓣 E G45 G46 b24 b39 Δ0 (Typed.both (s43 bs)) (at39 bs) (Plain.t-call-plain 𝓤 H A W 𝓣 4 ps·3 r·3 (claims· .6) (claims· .7) "lines::put_lines" (known .3) E (λ pos β. β) G45 (record { pos = 1; ty = Syntax.tyRef (Syntax.named 0) Syntax.imm (Syntax.tyInt Syntax.w8); ref = λ x. x }, (record { pos = 19; ty = Syntax.tyRef Syntax.erased Syntax.imm (Syntax.tyInt Syntax.w64); ref = λ x. x }, (record { pos = 21; ty = Syntax.tyRef Syntax.erased Syntax.imm (Syntax.tyInt Syntax.w64); ref = λ x. x }, (record { pos = 23; ty = Syntax.tyRef Syntax.erased Syntax.mut LineKit.behind; ref = λ x. x }, tt)))) 13 (List._∷_ 0 (List._∷_ 7 (List._∷_ 8 (List._∷_ 9 List.[])))) (Call.sub-id 𝓤 H A W (G45 .slots)) (ShrSlice.spares-sslice 𝓤 H A W (Referent.rtF (Referent.fInt Syntax.w8)) (Syntax.tyRef (Syntax.named 0) Syntax.imm (Syntax.tyInt Syntax.w8)) 0, Shared.reads-sslice 𝓤 H A W (Referent.rtF (Referent.fInt Syntax.w8)) (Syntax.tyRef (Syntax.named 0) Syntax.imm (Syntax.tyInt Syntax.w8)) 0, Path'.refl, (ShrSlice.spares-sslice 𝓤 H A W (DenSigned.SInt Syntax.w64) (Syntax.tyRef Syntax.erased Syntax.imm (Syntax.tyInt Syntax.w64)) 7, Shared.reads-sslice 𝓤 H A W (DenSigned.SInt Syntax.w64) (Syntax.tyRef Syntax.erased Syntax.imm (Syntax.tyInt Syntax.w64)) 7, Path'.refl, (ShrSlice.spares-sslice 𝓤 H A W (DenSigned.SInt Syntax.w64) (Syntax.tyRef Syntax.erased Syntax.imm (Syntax.tyInt Syntax.w64)) 8, Shared.reads-sslice 𝓤 H A W (DenSigned.SInt Syntax.w64) (Syntax.tyRef Syntax.erased Syntax.imm (Syntax.tyInt Syntax.w64)) 8, Path'.refl, (Reads'.as-is 𝓤 H A (Mut.mslice (LineKit.R) (Syntax.tyRef Syntax.erased Syntax.mut LineKit.behind) 9), Mut.reads-mslice 𝓤 H A W (LineKit.R) (Syntax.tyRef Syntax.erased Syntax.mut LineKit.behind) 9, Path'.refl, tt)))) (Reads'.room-gone 𝓤 H A Syntax.tyUnit) (tt, (tt, (tt, (tt, tt)))) Path'.refl) d39
 
           d41 : Typed.Typed 𝓤 H A 𝓣 E G44 b41 Δ0 (at41 bs)
           d41 = Typed.s-seq 𝓤 H A W 𝓣 E G44 G45 b23 b40 Δ0 (Typed.ask (s42 bs)) (at40 bs) (Relend.t-sl-aggregate 𝓤 H A W E (LineKit.R) 𝓣 (Relend.asMut (LineKit.R)) G44 22 23 9 (Syntax.tyRef Syntax.erased Syntax.mut LineKit.behind) (Syntax.tyRef Syntax.erased Syntax.mut LineKit.behind) (λ x. x) (Scalar.oFld 2 (List._∷_ (Syntax.field 1) List.[]) (Syntax.tyInt Syntax.w64) 8 λ v. Shared.lenV (v .0)) (Reads'.as-is 𝓤 H A (Relend.msptr (LineKit.R) (Syntax.tyRef Syntax.erased Syntax.mut LineKit.behind) 9)) (Reads'.room-gone 𝓤 H A (Syntax.tyStruct (List._∷_ 38 (List._∷_ 91 (List._∷_ 93 List.[]))) (Syntax.tcons (Syntax.tyRef Syntax.erased Syntax.mut LineKit.behind) (Syntax.tcons (Syntax.tyInt Syntax.w64) Syntax.tnil)))) (Relend.reads-owed-len 𝓤 H A W (LineKit.R) (Syntax.tyRef (Syntax.named 1) Syntax.mut LineKit.behind) 1 9 (Row.lease (κs .1 .0) (qs .1 .0)) 8 Path'.refl, Path'.refl) Path'.refl Path'.refl λ b o k. tt) d40
@@ -2074,6 +2074,6 @@ module _ (claims· : Claims) where
           pub asked : (a : Kinds.Dens κs ps) → (good : Kinds.GoodsP κs ps a) → (pre : Pre· κs a) → (bs : List.List Nat.ℕ) → Φ bs (Any.wantQ 5 ps r xs m κs qs a (Post· κs a)) (Function.init 5 ps r xs m κs qs a)
           asked = λ a good pre bs. laid record { κs = κs; args = record { file = a .0; lines = a .1 .0; charges = a .1 .1 .0; shares = a .1 .1 .1 .0; deviations = a .1 .1 .1 .1 .0 }; blocks = bs; good = good; pre = pre }
 
-        module _ {M : Type 1} (𝓤 : URA.URA M) (H : Wp.Heap 𝓤) (A : Atoms.Atoms 𝓤) (W : Kit.Given 𝓤 H A) (𝓣 : Wp.Tables 𝓤 H) (known0 : Plain.Known 𝓤 H A W 𝓣 1 ps·0 r·0 (claims· .0) (claims· .1) "pool::answered") (known1 : Plain.Known 𝓤 H A W 𝓣 2 ps·1 r·1 (claims· .2) (claims· .3) "deviations::put_deviations") (known2 : Plain.Known 𝓤 H A W 𝓣 2 ps·2 r·2 (claims· .4) (claims· .5) "sharing::put_shares") (known3 : Plain.Known 𝓤 H A W 𝓣 4 ps·3 r·3 (claims· .6) (claims· .7) "pool::put_lines") (known4 : Plain.Known 𝓤 H A W 𝓣 1 ps·4 r·4 (claims· .8) (claims· .9) "hour::members") (known5 : Plain.Known 𝓤 H A W 𝓣 2 ps·5 r·5 (claims· .10) (claims· .11) "pool::put_charges") where
+        module _ {M : Type 1} (𝓤 : URA.URA M) (H : Wp.Heap 𝓤) (A : Atoms.Atoms 𝓤) (W : Kit.Given 𝓤 H A) (𝓣 : Wp.Tables 𝓤 H) (known0 : Plain.Known 𝓤 H A W 𝓣 1 ps·0 r·0 (claims· .0) (claims· .1) "pool::answered") (known1 : Plain.Known 𝓤 H A W 𝓣 2 ps·1 r·1 (claims· .2) (claims· .3) "deviations::put_deviations") (known2 : Plain.Known 𝓤 H A W 𝓣 2 ps·2 r·2 (claims· .4) (claims· .5) "sharing::put_shares") (known3 : Plain.Known 𝓤 H A W 𝓣 4 ps·3 r·3 (claims· .6) (claims· .7) "lines::put_lines") (known4 : Plain.Known 𝓤 H A W 𝓣 1 ps·4 r·4 (claims· .8) (claims· .9) "hour::members") (known5 : Plain.Known 𝓤 H A W 𝓣 2 ps·5 r·5 (claims· .10) (claims· .11) "lines::put_charges") where
           pub spec : Statement.Triple 𝓤 (Wp.WpFn 𝓤 H (𝓣 .C) (𝓣 .Λ) (Function.fnOf 5 ps r xs m hs body)) (Function.plainOf 𝓤 H A 5 ps r Pre· Post·)
           spec = Plain.t-fn-plain 𝓤 H A W 𝓣 5 ps r xs m hs body (λ κs qs bs. Φ bs) (λ κs qs bs bd. typed κs qs 𝓤 H A W 𝓣 (known0, known1, known2, known3, known4, known5) bs bd) Pre· Post· asked

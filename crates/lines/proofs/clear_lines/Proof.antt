@@ -7,8 +7,8 @@ use native.Mathlib.Omega.{arith}
 use Rattle.whole.specs.Below.{replacingFirst}
 use Rattle.whole.proofs.Buffers.{replacing-none, written-length, written-next}
 use Rattle.rules.specs.Posting.{emptyLine}
-use Rattle.pool.proofs.clear_lines.Statement.{statement}
-use Rattle.pool.proofs.clear_lines.Proof.Tie as tie
+use Rattle.lines.proofs.clear_lines.Statement.{statement}
+use Rattle.lines.proofs.clear_lines.Proof.Tie as tie
 
 abbrev Inv-loop : tie.InvT-loop
 Inv-loop lines₀ n m₀ lines m = (m ≤ n) × (lines ≡ replacingFirst (λ k. emptyLine) m lines₀)

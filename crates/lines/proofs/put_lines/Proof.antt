@@ -18,10 +18,10 @@ use Rattle.rules.specs.Charge.{grains}
 use Rattle.rules.specs.Posting.{emptyLine, linesAfter}
 use Rattle.rules.specs.Kept.{HourKept}
 use Rattle.hour.specs.Hour.{hourIn}
 use Rattle.lines.specs.Lined.{AllWorked}
-use Rattle.pool.proofs.Lines.{lines-length, can-post, next-lines}
-use Rattle.pool.proofs.put_lines.Statement.{statement}
-use Rattle.pool.proofs.put_lines.Proof.Tie as tie
+use Rattle.lines.proofs.Lines.{lines-length, can-post, next-lines}
+use Rattle.lines.proofs.put_lines.Statement.{statement}
+use Rattle.lines.proofs.put_lines.Proof.Tie as tie
 
 -- the loop starts from cleared lines: whatever they were before
 abbrev Inv-loop : tie.InvT-loop

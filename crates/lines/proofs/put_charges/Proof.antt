@@ -10,8 +10,8 @@ use Rattle.whole.proofs.Machine.{read-back}
 use Rattle.whole.proofs.Filling.{Filled, none-filled, filled-length, place-there, next-filled, first-filled}
 use Rattle.rules.specs.Charge.{cents}
 use Rattle.rules.specs.Posting.{emptyLine}
-use Rattle.pool.proofs.put_charges.Statement.{statement}
-use Rattle.pool.proofs.put_charges.Proof.Tie as tie
+use Rattle.lines.proofs.put_charges.Statement.{statement}
+use Rattle.lines.proofs.put_charges.Proof.Tie as tie
 
 abbrev Inv-loop : tie.InvT-loop
 Inv-loop lines n charges₀ m₀ charges m = Filled (λ k. cents (getD lines k emptyLine .amount)) n m charges₀ charges

@@ -58,10 +58,10 @@ use Rattle.posting.proofs.line_with as g
 use Rattle.posting.proofs.line_with.Symbol as g-def
 use Rattle.posting.proofs.line_with.Symbol.{name as #line-with}
 use Rattle.posting.proofs.line_with.Met as g-thm
-use Rattle.pool.proofs.post_line.Key.{name as #post-line}
-use Rattle.pool.proofs.post_line as f
-use Rattle.pool.proofs.post_line.Statement as stated
-use Rattle.pool.proofs.post_line.Code as code
+use Rattle.lines.proofs.post_line.Key.{name as #post-line}
+use Rattle.lines.proofs.post_line as f
+use Rattle.lines.proofs.post_line.Statement as stated
+use Rattle.lines.proofs.post_line.Code as code
 
 abbrev Arg : Type 0
 Arg = RefT (List Line) × (ℕ × (ℤ × Unit {0}))

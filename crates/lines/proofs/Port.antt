@@ -1,0 +1,6 @@
+-- Made by tools/walk.py.
+pub mod LineKit
+pub mod clear_lines
+pub mod post_line
+pub mod put_charges
+pub mod put_lines
