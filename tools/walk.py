@@ -88,7 +88,7 @@ SIGNATURES, ELSEWHERE = {}, set() # this crate's functions; the other crates' th
 def twin(crate, module, s, body_of):
     s = '\n'.join(
         l for l in s.splitlines()
-        if not l.startswith('ghost use')
+        if not l.startswith('ghost use') and not re.match(r'pub use \w+::[a-z]', l)
         and not (re.match(r'use (\w+)::', l) and re.match(r'use (\w+)::', l).group(1) not in SOURCES
                  and not l.startswith('use crate'))) + '\n'
     for name, (home, size, _) in STRUCTS.items():
@@ -96,7 +96,7 @@ def twin(crate, module, s, body_of):
             s = re.sub(rf'^(#\[repr\(C\)\]\n)?(pub )?struct {name}\s*\{{.*?\n\}}\n', f'pub type {name} = [i16; {size // 2}];\n', s,
                        flags=re.S | re.M)
     out, i = ['ghost use Prim.Native.Nat.{_≤_};\n'], 0
-    for m in re.finditer(r'^ *(pub )?(extern "C" )?fn (\w+)', s, flags=re.M):
+    for m in re.finditer(r'^ *(?:#\[no_mangle\]\n)?(pub )?(extern "C" )?fn (\w+)', s, flags=re.M):
         if m.start() < i: continue
         out.append(s[i:m.start()])
         k = re.compile(r'\b(requires|ensures)\b|\{').search(s, m.end())

@@ -1,0 +1,2 @@
+-- What the walks of `showing` rest on.
+pub mod Port
