@@ -1,6 +1,6 @@
 -- Settling's answers, row by row, and what they leave: refused, nothing is changed; accepted, each buffer is filled with figures that are
 -- worked once.
-use mathlib.Core.Path.{_≡_, refl, sym, _∙_, ap}
+use mathlib.Core.Path.{_≡_, sym, _∙_, ap}
 use mathlib.Core.Bool.{Bool, true, false, _||_}
 use mathlib.Core.Option.{none, some}
 use mathlib.Core.List.{List, [], _∷_, _++_, append-assoc}
@@ -20,8 +20,8 @@ use Rattle.rules.specs.declared.Settled.{Settled}
 use Rattle.rules.specs.Record.{Hour, members, entryOf}
 use Rattle.rules.specs.Deviation.{deviation}
 use Rattle.rules.specs.Charge.{shareOf, cents, charge}
-use Rattle.rules.specs.Refusals.{Row, row, accepted, verdictOf, verdict, badArea, badAmount, tooShort, sumRows, fileRows, hourRows}
-use Rattle.rules.specs.Settling.{Buffers, Settlement, isAccepted, lineOf, filled, bufferRows, settleRows, ufeFigures, noFigures, settle}
+use Rattle.rules.specs.Refusals.{row, accepted, verdictOf, verdict, badArea, badAmount, tooShort, sumRows, fileRows, hourRows}
+use Rattle.rules.specs.Settling.{Buffers, lineOf, filled, bufferRows, settleRows, ufeFigures, noFigures, settle}
 use Rattle.rules.specs.Posting.{emptyLine, linesAfter}
 use Rattle.rules.specs.Promises.{Accepts, Fits}
 use Rattle.rules.specs.Kept.{FileKept}

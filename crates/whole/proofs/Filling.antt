@@ -1,15 +1,12 @@
 -- A loop that fills the first n places of a buffer with f's values, one place a turn: its invariant, and what a turn and the end make of
--- it. And a buffer that holds f's values in its first n places, of which one at a time is changed.
+-- it.
 use mathlib.Core.Path.{_≡_, sym, _∙_, ap}
-use mathlib.Core.Bool.{cond}
 use mathlib.Core.List.{List}
 use Prim.Native.Nat.{ℕ, _+_, _≤_, _<_, zero-le}
 use native.Mathlib.Omega.{arith}
-use lib.Dec.{eqb}
 use lib.ListN.{length, getD, set}
 use Rattle.whole.specs.Below.{valuesBelow, replacingFirst}
-use Rattle.whole.proofs.Buffers.{replacing-none, replacing-ext, replacing-same, replacing-changed, length-replacing, getD-replacing}
-use Rattle.whole.proofs.Buffers.{written-length, written-next, unwritten, all-written}
+use Rattle.whole.proofs.Buffers.{replacing-none, written-length, written-next, unwritten, all-written}
 
 -- i of the n places are filled, and the others are as they were
 pub record Filled {ℓ} {A : Type ℓ} (f : ℕ → A) (n i : ℕ) (old out : List A) : Type ℓ where
@@ -50,32 +47,3 @@ module _ {ℓ} {A : Type ℓ} {f : ℕ → A} {n : ℕ} {old : List A} where
       -- of a buffer with no further place nothing is left
       pub whole-filled : n ≡ length old → out ≡ valuesBelow f (length old)
       whole-filled e = all-written f i old out (filled .holds) (all-reached ∙ e)
-
--- ---- values held, one changed at a time
-
--- the first n places hold f's values, and the places past them what they held
-pub record Held {ℓ} {A : Type ℓ} (f : ℕ → A) (n : ℕ) (old out : List A) : Type ℓ where
-  pub room : n ≤ length old
-  pub is : out ≡ replacingFirst f n old
-
-module _ {ℓ} {A : Type ℓ} {f : ℕ → A} {n : ℕ} {old : List A} where
-  pub held-already : n ≤ length old → (d : A) → ((k : ℕ) → k < n → getD old k d ≡ f k) → Held f n old old
-  held-already room d same = record { room = room; is = sym (replacing-same f n old d room (λ k l. sym (same k l))) }
-
-  module _ {out : List A} (held : Held f n old out) where
-    pub held-length : length out ≡ length old
-    held-length = ap length (held .is) ∙ length-replacing f n old (held .room)
-
-    pub held-room : n ≤ length out
-    held-room = omega (arith, held-length)
-
-    pub held-at : (k : ℕ) (d : A) → k < n → getD out k d ≡ f k
-    held-at k d l = rw (held .is) (getD-replacing f n old k d l)
-
-    -- place m is changed to g of what it held
-    pub held-changed : {next : List A} (g : A → A) (f′ : ℕ → A) (m : ℕ) (d : A) → m < n → next ≡ set out m (g (getD out m d)) →
-        ((k : ℕ) → cond (eqb m k) (g (f k)) (f k) ≡ f′ k) → Held f′ n old next
-    held-changed g f′ m d l e grown = record {
-      room = held .room;
-      is = e ∙ rw (held .is) (replacing-changed g f n old m d l ∙ replacing-ext _ f′ n old (λ k j. grown k));
-    }

@@ -12,20 +12,6 @@ use Rattle.whole.proofs.Tests.{split, never, last-or-below}
 
 -- ---- how many pass a test
 
--- none, and one more at the code's n + 1: a loop's start and its turn
-pub count-none : (p : ℕ → Bool) → countBelow p 0 ≡ 0
-unfolding countBelow
-count-none p = refl
-
-pub count-add-one : (p : ℕ → Bool) (n : ℕ) → countBelow p (n + 1) ≡ countBelow p n + oneIf (p n)
-unfolding countBelow
-count-add-one p n = ap (countBelow p) (add-one n)
-
--- one is counted, or not
-pub counted-if : (b : Bool) (x : ℕ) → cond b (x + 1) x ≡ x + oneIf b
-counted-if true x = refl
-counted-if false x = omega arith
-
 one-if-mono : (a b : Bool) → (a ≡ true → b ≡ true) → oneIf a ≤ oneIf b
 one-if-mono true true h = omega arith
 one-if-mono true false h = never (h refl) refl

@@ -3,7 +3,6 @@ use mathlib.Core.Path.{_≡_, refl, sym, _∙_, ap, ap₂, subst}
 use mathlib.Core.Bool.{Bool, true, false, cond}
 use Prim.Native.Nat.{ℕ, zero, suc, _+_, _*_, _≤_, _<_, zero-le}
 use native.Mathlib.Nat.{not-suc-le-zero}
-use native.Mathlib.Numerals.{add-one}
 use native.Mathlib.Omega.{arith}
 use lib.Dec.{eqb}
 use lib.IntN.{ℤ, pos, negsuc, negℤ, natAbs, +ℤ-idl, +ℤ-idr, *ℤ-zero, *ℤ-comm, negℤ-+ℤ, _+ℤ_, _-ℤ_, _*ℤ_}
@@ -13,15 +12,6 @@ use Rattle.whole.specs.Signed.{Under, withSignOf}
 use Rattle.whole.proofs.Tests.{split}
 use Rattle.whole.proofs.Linear.{zr, all3, all4}
 use Rattle.whole.proofs.Ranges.{_u+_}
-
--- none, and one more at the code's n + 1: a loop's start and its turn
-pub total-none : (f : ℕ → ℤ) → totalBelow f 0 ≡ pos 0
-unfolding totalBelow
-total-none f = refl
-
-pub total-add-one : (f : ℕ → ℤ) (n : ℕ) → totalBelow f (n + 1) ≡ totalBelow f n +ℤ f n
-unfolding totalBelow
-total-add-one f n = ap (totalBelow f) (add-one n)
 
 -- a number is added, or not
 pub added-if : (b : Bool) (x e : ℤ) → cond b (x +ℤ e) x ≡ x +ℤ cond b e (pos 0)
