@@ -35,7 +35,7 @@ use Rattle.hour.specs.Hour.{hourIn}
 use Rattle.sharing.specs.Shared.{Sharing}
 use Rattle.lines.specs.Lined.{AllWorked}
 use Rattle.lines.proofs.Worked.{all-worked}
-use Rattle.pool.specs.Answered.{Lengths, Says}
+use Rattle.pool.specs.AsSettled.{Lengths, Says}
 use Rattle.pool.specs.Buffers.{buffers}
 
 module _ (s : List ℕ) (b : Buffers) where

@@ -1,5 +1,5 @@
 -- What the contracts of `pool` cite beside `rules`.
 pub mod Buffers
-pub mod Answered
+pub mod AsSettled
 pub mod Unlined
 pub mod HandedOut

@@ -8,7 +8,7 @@ ghost use Rattle.rules.specs.Settling as Settling;
 ghost use Rattle.rules.specs.Promises.{Fits};
 ghost use Rattle.hour.specs.Hour.{hourIn};
 ghost use Rattle.pool.specs.Buffers.{buffers};
-ghost use Rattle.pool.specs.Answered.{Answered};
+ghost use Rattle.pool.specs.AsSettled.{AsSettled};
 ghost use Rattle.pool.specs.Unlined.{unlined, FitsUnlined};
 ghost use Rattle.pool.specs.HandedOut.{settlement};
 
@@ -43,7 +43,7 @@ fn too_short(file: &[u8], charges: usize, lines: usize, shares: usize, deviation
 // What settling answers, of buffers of these lengths: every check, in the table's order, and the UFE figures. Row 7 is not among them,
 // since no file that passes rows 1 to 5 breaks it.
 fn answered(file: &[u8], charges: usize, lines: usize, shares: usize, deviations: usize) -> Settled
-    ensures { λ r. ⌜ Answered (now (file .entry)) charges lines shares deviations r ⌝ }
+    ensures { λ r. ⌜ AsSettled (now (file .entry)) charges lines shares deviations r ⌝ }
 {
     let answer = examine::examine(file);
     let Answer::Accepted = answer else {

@@ -8,7 +8,7 @@ use borrow.Author.Needs.{needs}
 use Rattle.rules.specs.declared.Answer.the-variants.{Accepted}
 use Rattle.rules.specs.Settling.{Buffers}
 use Rattle.answer.proofs.Refusing.{no-other}
-use Rattle.pool.specs.Answered.{Says}
+use Rattle.pool.specs.AsSettled.{Says}
 use Rattle.pool.specs.Buffers.{buffers}
 use Rattle.pool.proofs.Answers.{unchanged, kept, room, can-share, can-put-lines, can-put-charges, all-filled}
 use Rattle.pool.proofs.settle.Statement.{statement}

@@ -20,5 +20,5 @@ pub record Says (s : List ℕ) (b : Buffers) (r : Settled) : Type 0 where
   pub verdict-is : verdictOf (r .answer) ≡ settle s b .verdict
   pub ufe-is : r .ufe ≡ settle s b .ufe
 
-pub record Answered (s : List ℕ) (charges lines shares deviations : ℕ) (r : Settled) : Type 0 where
+pub record AsSettled (s : List ℕ) (charges lines shares deviations : ℕ) (r : Settled) : Type 0 where
   pub says : (b : Buffers) → Lengths b charges lines shares deviations → Says s b r
