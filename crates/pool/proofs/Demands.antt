@@ -7,8 +7,7 @@ use Prim.Native.Nat.{ℕ}
 use lib.IntN.{ℤ}
 use Rattle.rules.specs.declared.Answer.the-variants.{Accepted}
 use Rattle.rules.specs.HourFile.{hourly, hourOf}
-use Rattle.rules.specs.Outcome.{FairOutcome}
-use Rattle.rules.specs.Promises.{Accepts, ByFormula, Fits}
+use Rattle.rules.specs.Promises.{Accepts, ByFormula, FairOutcome, Fits}
 use Rattle.rules.specs.Refusals.{verdict}
 use Rattle.rules.specs.Settling.{Buffers, Settlement, Written, ReadAmount, noFigures, settleRows, settle, write, read}
 use Rattle.rules.proofs.Outcome.{by-formula, fair-outcome}

@@ -27,14 +27,14 @@ use Rattle.rules.specs.Settling.{Buffers, settle, filled, ufeFigures, bu
 use Rattle.rules.specs.Posting.{emptyLine}
 use Rattle.rules.specs.Statement.{memberLine}
 use Rattle.rules.specs.Kept.{HourKept}
-use Rattle.rules.specs.Promises.{Accepts, AllWhole, Demand1, ByFormula, allZones, Demand2, Demand3}
+use Rattle.rules.specs.Promises.{Accepts, AllWhole, Demand1, ByFormula, allZones, Demand2, FairOutcome, Demand3}
 use Rattle.rules.proofs.Tariff.{deviation-renders, ufe-renders, amount-is-IEC}
 use Rattle.rules.proofs.Rows.{no-place, accepts-when-whole, whole-parts, hour-numbered, settle-accepts, settle-refuses}
 use Rattle.rules.proofs.Rows.{settle-changes-nothing, settle-fills, write-accepts, write-refuses, write-changes-nothing}
 use Rattle.rules.proofs.Text.{read-accepts, read-refuses, written-read, read-written, text-fits-14, write-accepted-at}
 use Rattle.rules.proofs.Kept.{passed-kept}
 use Rattle.rules.proofs.Bounds.{charge-under}
-use Rattle.rules.proofs.Fair.{Sound, shares-by-rank, fair}
+use Rattle.rules.proofs.Fair.{Sound, shares-by-rank, fair-alike}
 
 -- ---- an accepted hour
 
@@ -171,9 +171,19 @@ sound h p = record {
       abs-zero (ufe h a) (eqb-true _ _ (not-false _ (rw (eq-eqb (demands h a) 0 z) at whole)));
 }
 
+-- what settling fills in is what the definitions say, place by place
+filled-fairly : (h : Hour) (b : Buffers) → Passed h → FairOutcome h (ufeFigures h) (filled h b)
+unfolding ufeFigures filled
+filled-fairly h b p = fair-alike h (sound h p)
+    (λ a l. getD-values (λ a. cond (ltb a (areas h)) (ufe h a) (pos 0)) 8 a (pos 0) (omega (arith, p .kept .areas-most))
+    ∙ rw (lt-ltb a (areas h) l))
+    (λ i l. getD-replacing (shareOf h) (h .count) (b .shares) i (pos 0) l)
+    (λ m l. getD-replacing (charge h) (members h) (b .charges) m (pos 0) l)
+
 pub demand3 : Demand3
 unfolding settleRows
 demand3 s b a =
     let h = hourOf hourly s in
     let p = whole-parts (hourRows s) (bufferRows h b) .0 (settle-accepts s b .0 a) in
-    fair h (sound h (hour-passed s (p .0)))
+    let f = settle-fills s b a in
+    rw (f .0, f .1) (filled-fairly h b (hour-passed s (p .0)))

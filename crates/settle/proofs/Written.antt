@@ -21,8 +21,7 @@ use Rattle.rules.specs.Charge.{amount, recordsOf}
 use Rattle.rules.specs.Refusals.{Row, row, tooShort, hourRows, verdict}
 use Rattle.rules.specs.Settling.{Settlement, isAccepted, bufferRows, settleRows, lineOf, filled, settle}
 use Rattle.rules.specs.Posting.{emptyLine}
-use Rattle.rules.specs.Promises.{Accepts, ByFormula, Fits}
-use Rattle.rules.specs.Outcome.{FairOutcome}
+use Rattle.rules.specs.Promises.{Accepts, ByFormula, FairOutcome, Fits}
 use Rattle.rules.proofs.Rows.{settle-accepts, settle-verdict, settle-numbered, zero-accepts, whole-parts}
 use Rattle.rules.proofs.Demands.{buffers-room}
 use Rattle.rules.proofs.Outcome.{by-formula, fair-outcome}
