@@ -1,6 +1,6 @@
 -- Settling's ways out: refused by the file, by its sums or by the buffers, nothing is changed; accepted, the lines are posted last.
 use mathlib.Core.Path.{_≡_, refl, sym, _∙_, ap}
-use mathlib.Core.List.{List, _++_}
+use mathlib.Core.List.{List}
 use Prim.Native.Nat.{ℕ, min, _≤_}
 use native.Mathlib.Omega.{arith}
 use lib.ListN.{length}
@@ -15,36 +15,30 @@ use Rattle.rules.specs.declared.Settled.{Settled}
 use Rattle.rules.specs.Record.{Hour, members, entryOf}
 use Rattle.rules.specs.Deviation.{deviation}
 use Rattle.rules.specs.Charge.{shareOf}
-use Rattle.rules.specs.Refusals.{accepted, verdictOf, verdict, tooShort, sumRows, fileRows, hourRows}
-use Rattle.rules.specs.Settling.{Buffers, Settlement, isAccepted, filled, bufferRows, settleRows, noFigures, settle}
+use Rattle.rules.specs.Refusals.{accepted, verdictOf, verdict, tooShort, tableRows, fileRows}
+use Rattle.rules.specs.Settling.{Buffers, Settlement, isAccepted, filled, settleRows, noFigures, settle}
 use Rattle.rules.specs.Posting.{linesAfter}
 use Rattle.rules.specs.Promises.{Accepts, Fits}
 use Rattle.rules.specs.Kept.{FileKept}
-use Rattle.rules.proofs.Rows.{whole-parts, refused-first, one-answer, settle-verdict, settle-accepts, settle-changes-nothing, settle-fills}
+use Rattle.rules.proofs.Rows.{file-decides, one-answer, settle-verdict, settle-whole, settle-changes-nothing, settle-fills}
 use Rattle.rules.proofs.Demands.{Room, buffers-room}
 use Rattle.rules.proofs.Posting.{lines-are}
 use Rattle.hour.specs.Hour.{hourIn}
 use Rattle.lines.specs.Lined.{AllWorked}
 use Rattle.lines.proofs.Worked.{all-worked}
-use Rattle.filling.specs.Lent.{Lent, lines, lentRow, filledLent}
+use Rattle.filling.specs.Lent.{Lent, lines, filledLent}
 use Rattle.settle.specs.Parallel.{parallelRows, settleParallel, FitsParallel}
 use Rattle.pool.specs.Apart.{Apart, apart, withLines, FitsApart}
 
 -- ---- refused by rows 1 to 5
 
 module _ (s : List ℕ) (b : Buffers) where
-  file-decides : (verdict (fileRows s) ≡ accepted → ⊥) → verdict (settleRows s b) ≡ verdict (fileRows s)
-  unfolding settleRows hourRows
-  file-decides refused =
-      let by-file = refused-first (fileRows s) (sumRows (hourIn s)) refused in
-      refused-first (fileRows s ++ sumRows (hourIn s)) (bufferRows (hourIn s) b) (λ e. refused (sym by-file ∙ e)) ∙ by-file
-
   pub file-refused : {a : Answer} → verdictOf a ≡ verdict (fileRows s) → (a ≡ Accepted → ⊥) →
       Fits s b (record { answer = a; ufe = noFigures }) b
   file-refused {a} examined refused =
       let never : verdictOf a ≡ accepted → ⊥ = λ e. refused (one-answer a Accepted e) in
       let decided : verdictOf a ≡ settle s b .verdict =
-      examined ∙ sym (settle-verdict s b ∙ file-decides (λ e. never (examined ∙ e))) in
+      examined ∙ sym (settle-verdict s b ∙ file-decides s _ _ _ _ (λ e. never (examined ∙ e))) in
       let unchanged = settle-changes-nothing s b (λ e. never (decided ∙ e)) in
       record { verdict-is = decided; ufe-is = sym (unchanged .1); buffers-are = sym (unchanged .0) }
 
@@ -68,7 +62,7 @@ module _ (s : List ℕ) (few : members (hourIn s) ≤ 32) (n : ℕ) (b : Lent)
     given = withLines (withoutLines b) ls
 
     same-rows : settleRows s given ≡ parallelRows s b
-    unfolding settleRows bufferRows parallelRows lentRow tooShort
+    unfolding tableRows parallelRows tooShort
     same-rows = rw (so-many, as-short)
 
     settles-alike : settle s given ≡ record {
@@ -118,8 +112,7 @@ module _ (s : List ℕ) (b : Apart) (old : List Line) {r : Settled} {after : Apa
     fills = settle-fills s lent hour-accepted .0
 
     room : Room h lent
-    unfolding settleRows
-    room = buffers-room h lent (whole-parts (hourRows s) (bufferRows h lent) .0 (settle-accepts s lent .0 hour-accepted) .1)
+    room = buffers-room h lent (settle-whole s lent hour-accepted .1)
 
     deviations-after : after .deviations ≡ replacingFirst (λ i. deviation (entryOf h i)) (h .count) (b .deviations)
     unfolding filled

@@ -18,7 +18,7 @@ use Rattle.rules.specs.Statement.{acceptedLines, refusedLine, statement}
 use Rattle.rules.proofs.Stated.{accepted-kept, room-for-all, statement-accepted, statement-refused}
 use Rattle.hour.specs.Hour.{hourIn}
 use Rattle.answer.proofs.Refusing.{numbered}
-use Rattle.filling.specs.Lent.{Lent, lentRow, filledLent}
+use Rattle.filling.specs.Lent.{Lent, filledLent}
 use Rattle.settle.specs.Parallel.{parallelRows, settleParallel, FitsParallel}
 use Rattle.settle.proofs.Answered.{parallel-verdict}
 use Rattle.report.specs.Stated.{Charged, Answered}
@@ -43,7 +43,7 @@ pub record Rooms (b : Lent) : Type 0 where
 module _ {s : List ℕ} {b after : Lent} {r : Settled} (rooms : Rooms b) (fits : FitsParallel s b r after) where
   -- settling answers as rows 1 to 7 do
   same-verdict : verdictOf (r .answer) ≡ verdict (hourRows s)
-  unfolding parallelRows lentRow
+  unfolding parallelRows
   same-verdict = fits .verdict-is ∙ parallel-verdict s b
       ∙ room-for-all s _ _ _ _ (rooms .charges-room) (omega (arith, rooms .amounts-room, rooms .counts-room)) (rooms .shares-room)
       (rooms .deviations-room)

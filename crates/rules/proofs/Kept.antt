@@ -20,11 +20,10 @@ use Rattle.rules.specs.Record.{Hour, members, zones, areas, zonePrice, z
 use Rattle.rules.specs.Record.{kindOf, signed}
 use Rattle.rules.specs.HourFile.{hourly, lengthBad, blocks, blockWord, recordCount, hourOf}
 use Rattle.rules.specs.Ranges.{firstBroken, mustBeZero, countRule, blockRule, areaRule, headRule, rowOf, recordRule}
-use Rattle.rules.specs.Refusals.{isBroken, badLength, badBlock, badHead, badWord, badRecord, layoutRows, wordRows, sumRows, fileRows}
-use Rattle.rules.specs.Refusals.{hourRows}
+use Rattle.rules.specs.Refusals.{isBroken, badLength, badBlock, badHead, badWord, badRecord, tableRows, fileRows, hourRows}
 use Rattle.rules.specs.Promises.{AllWhole}
 use Rattle.rules.specs.Kept.{EntryKept, RecordKept, AreaKept, HourKept, FileKept}
-use Rattle.rules.proofs.Rows.{no-place, whole-parts}
+use Rattle.rules.proofs.Rows.{no-place, file-whole}
 use Rattle.rules.proofs.Words.{Holds, holds, length-is-whole}
 
 -- ---- a search that found nothing
@@ -186,7 +185,7 @@ module _ (s : List ℕ) (length-whole : badLength hourly s ≡ none) (blocks-who
 
 -- A file whose rows 1 to 5 are whole keeps the ranges of document 01.
 pub file-kept : (s : List ℕ) → AllWhole (fileRows s) → FileKept s
-unfolding fileRows layoutRows wordRows
+unfolding fileRows tableRows
 file-kept s e =
     let h = hourOf hourly s in
     record {
@@ -196,5 +195,4 @@ file-kept s e =
 
 -- so does a file that passes rows 1 to 7
 pub passed-kept : (s : List ℕ) → AllWhole (hourRows s) → FileKept s
-unfolding hourRows
-passed-kept s w = file-kept s (whole-parts (fileRows s) (sumRows (hourOf hourly s)) .0 w .0)
+passed-kept s w = file-kept s (file-whole s w)

@@ -17,7 +17,7 @@ use Rattle.rules.specs.Share.{allDemand, wholePart, remainder, unitsLeft
 use Rattle.rules.specs.Charge.{entering, shareOf, recordsOf, cents, charge, poolTotal}
 use Rattle.rules.specs.Text.{bytes, digitByte, amountText, amountField}
 use Rattle.rules.specs.HourFile.{hourly, hourOf}
-use Rattle.rules.specs.Refusals.{Row, row, accepted, refusedAt, verdictOf, verdict, hourRows, writeRows}
+use Rattle.rules.specs.Refusals.{Row, row, accepted, refusedAt, verdictOf, verdict, hourRows, writeRows, readRows}
 use Rattle.rules.specs.Settling.{Buffers, settle, settleRows, noFigures, write, read}
 use Rattle.rules.specs.Posting.{emptyLine}
 use Rattle.rules.specs.Statement.{memberLine}
@@ -56,6 +56,7 @@ pub record Demand1 : Type 0 where
   pub write-refuses : (f : List ℕ) (z : ℤ) (n p : ℕ) →
       (write f z .verdict ≡ refusedAt (suc n) p) ↔ FirstBrokenRow (writeRows (length f) z) (suc n) p
   pub write-changes-nothing : (f : List ℕ) (z : ℤ) → (write f z .verdict ≡ accepted → ⊥) → write f z .field ≡ f
+  pub read-checks : (s : List ℕ) → read s .verdict ≡ verdict (readRows s)
   pub read-accepts : (s : List ℕ) (z : ℤ) → (read s ≡ record { verdict = accepted; amount = z }) ↔ IsTextOf z s
   pub read-refuses : (s : List ℕ) → (read s ≡ record { verdict = refusedAt 10 0; amount = pos 0 }) ↔ ((z : ℤ) → IsTextOf z s → ⊥)
 

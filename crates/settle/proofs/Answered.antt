@@ -2,14 +2,14 @@
 use mathlib.Core.Path.{_≡_, refl, sym, _∙_, ap}
 use mathlib.Core.Bool.{false}
 use mathlib.Core.Option.{none, some}
-use mathlib.Core.List.{List, [], _∷_, _++_, append-assoc}
+use mathlib.Core.List.{List, _∷_, _++_}
 use Prim.Native.Nat.{ℕ}
 use lib.IntN.{ℤ}
 use Rattle.whole.proofs.Tests.{split}
 use Rattle.rules.specs.declared.Answer.{Answer}
 use Rattle.rules.specs.declared.Answer.the-variants.{Accepted, BadArea}
 use Rattle.rules.specs.Record.{Hour}
-use Rattle.rules.specs.Refusals.{row, accepted, verdictOf, verdict, badArea, badAmount, sumRows, fileRows, hourRows}
+use Rattle.rules.specs.Refusals.{row, accepted, verdictOf, verdict, badArea, tableRows, fileRows}
 use Rattle.rules.specs.Settling.{isAccepted, ufeFigures, noFigures}
 use Rattle.rules.proofs.Rows.{accepts-when-whole, refused-first, passed-on, file-numbered, one-answer}
 use Rattle.hour.specs.Hour.{hourIn}
@@ -46,8 +46,8 @@ module _ (s : List ℕ) (b : Lent) where
 
   -- rows 1 to 5, then 6, then 7 and 11
   in-order : parallelRows s b ≡ fileRows s ++ row 6 (badArea h) ∷ lastRows h b
-  unfolding parallelRows hourRows sumRows lastRows
-  in-order = append-assoc (fileRows s) (row 6 (badArea h) ∷ row 7 (badAmount h) ∷ []) (lentRow h b ∷ [])
+  unfolding parallelRows fileRows tableRows lastRows lentRow
+  in-order = refl
 
   pub file-refused : {a : Answer} → verdictOf a ≡ verdict (fileRows s) → (a ≡ Accepted → ⊥) →
       FitsParallel s b (record { answer = a; ufe = noFigures }) b

@@ -2,7 +2,7 @@
 -- list of lines, so that the three demands hold of it.
 use mathlib.Core.Path.{_≡_, sym, _∙_, ap, ap₂}
 use mathlib.Core.Bool.{true}
-use mathlib.Core.List.{List, [], _∷_, _++_}
+use mathlib.Core.List.{List}
 use Prim.Native.Nat.{ℕ, _≤_, _<_}
 use native.Mathlib.Omega.{arith}
 use lib.Dec.{ltb}
@@ -18,15 +18,15 @@ use Rattle.rules.specs.declared.Line.{Line}
 use Rattle.rules.specs.declared.Settled.{Settled}
 use Rattle.rules.specs.Record.{Hour, members}
 use Rattle.rules.specs.Charge.{amount, recordsOf}
-use Rattle.rules.specs.Refusals.{Row, row, tooShort, hourRows, verdict}
-use Rattle.rules.specs.Settling.{Settlement, isAccepted, bufferRows, settleRows, lineOf, filled, settle}
+use Rattle.rules.specs.Refusals.{Row, verdict, tableRows}
+use Rattle.rules.specs.Settling.{Settlement, isAccepted, settleRows, lineOf, filled, settle}
 use Rattle.rules.specs.Posting.{emptyLine}
 use Rattle.rules.specs.Promises.{Accepts, ByFormula, FairOutcome, Fits}
-use Rattle.rules.proofs.Rows.{settle-accepts, settle-verdict, settle-numbered, zero-accepts, whole-parts}
+use Rattle.rules.proofs.Rows.{settle-whole, settle-verdict, settle-numbered, zero-accepts}
 use Rattle.rules.proofs.Demands.{buffers-room}
 use Rattle.rules.proofs.Outcome.{by-formula, fair-outcome}
 use Rattle.hour.specs.Hour.{hourIn}
-use Rattle.filling.specs.Lent.{Lent, lines, lentRow, filledLent}
+use Rattle.filling.specs.Lent.{Lent, lines, filledLent}
 use Rattle.settle.specs.Parallel.{parallelRows, settleParallel, FitsParallel}
 use Rattle.settle.specs.Written.{lineAt, asBuffers}
 
@@ -85,16 +85,14 @@ module _ (b : Lent) where
 
 module _ (s : List ℕ) (b : Lent) where
   same-rows : settleRows s (asBuffers b) ≡ parallelRows s b
-  unfolding settleRows bufferRows parallelRows lentRow asBuffers
+  unfolding parallelRows asBuffers
   same-rows = ap
-      (λ n. hourRows s ++ row 11 (tooShort (hourIn s) (length (b .charges)) n (length (b .shares)) (length (b .deviations))) ∷ [])
+      (λ n. tableRows s (length (b .charges)) n (length (b .shares)) (length (b .deviations)))
       (line-count b)
 
   room : Accepts s (asBuffers b) → members (hourIn s) ≤ lines b
-  unfolding settleRows
   room a =
-      let rows = whole-parts (hourRows s) (bufferRows (hourIn s) (asBuffers b)) .0 (settle-accepts s (asBuffers b) .0 a) in
-      let r = buffers-room (hourIn s) (asBuffers b) (rows .1) in omega (arith, line-count b, r .lines-room)
+      let r = buffers-room (hourIn s) (asBuffers b) (settle-whole s (asBuffers b) a .1) in omega (arith, line-count b, r .lines-room)
 
   -- the verdict accepts, where it has the number of acceptance
   accepts : isAccepted (verdict (parallelRows s b)) ≡ true → Accepts s (asBuffers b)

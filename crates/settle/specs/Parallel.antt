@@ -3,17 +3,18 @@
 use Prim.Native.Nat.{ℕ}
 use mathlib.Core.Path.{_≡_}
 use mathlib.Core.Bool.{cond}
-use mathlib.Core.List.{List, [], _∷_, _++_}
+use mathlib.Core.List.{List}
 use lib.IntN.{ℤ}
+use lib.ListN.{length}
 use Rattle.rules.specs.declared.Settled.{Settled}
-use Rattle.rules.specs.Refusals.{Row, Verdict, verdictOf, verdict, hourRows}
+use Rattle.rules.specs.Refusals.{Row, Verdict, verdictOf, verdict, tableRows}
 use Rattle.rules.specs.Settling.{isAccepted, ufeFigures, noFigures}
 use Rattle.hour.specs.Hour.{hourIn}
-use Rattle.filling.specs.Lent.{Lent, lentRow, filledLent}
+use Rattle.filling.specs.Lent.{Lent, lines, filledLent}
 
--- 1 to 7, then 11
+-- the table's rows for these buffers
 unfoldable pub parallelRows : List ℕ → Lent → List Row
-parallelRows s b = hourRows s ++ lentRow (hourIn s) b ∷ []
+parallelRows s b = tableRows s (length (b .charges)) (lines b) (length (b .shares)) (length (b .deviations))
 
 pub record Outcome : Type 0 where
   pub verdict : Verdict
