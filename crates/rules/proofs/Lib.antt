@@ -18,3 +18,4 @@ pub mod Outcome
 pub mod Stated
 pub mod Starred
 pub mod Printed
+pub mod Refused

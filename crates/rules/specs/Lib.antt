@@ -16,3 +16,4 @@ pub mod Kept
 pub mod Promises
 pub mod Figures
 pub mod Printed
+pub mod Refused
