@@ -9,13 +9,13 @@ use native.Mathlib.Omega.{arith}
 use lib.IntN.{ℤ, pos, natAbs}
 use lib.ListN.{length, replicate}
 use lib.Dec.{ltb, eqb}
-use borrow.Author.Tests.{ltb-false, lt-ltb, eqb-true, eq-eqb, not-false}
+use borrow.Author.Tests.{ltb-false, lt-ltb, le-ltb, eqb-true, eq-eqb, not-false}
 use Rattle.whole.proofs.Tests.{neither}
 use Rattle.whole.proofs.Sums.{count-zero}
 use Rattle.whole.proofs.Totals.{total-ext, total-zero}
 use Rattle.whole.proofs.Linear.{abs-zero}
 use Rattle.whole.proofs.Search.{first-none}
-use Rattle.whole.proofs.Buffers.{getD-values, getD-replacing, drop-replacing, length-replacing}
+use Rattle.whole.proofs.Buffers.{length-values, getD-values, getD-replacing, drop-replacing, length-replacing}
 use Rattle.rules.specs.Record.{Hour, members, zones, areas, memberOf, areaOf, zoneOf, entryOf}
 use Rattle.rules.specs.Deviation.{deviation}
 use Rattle.rules.specs.Ufe.{ufe, demands}
@@ -95,6 +95,8 @@ module _ (h : Hour) (kept : HourKept h) where
       record {
         ufe-is = λ a l. getD-values (λ a. cond (ltb a (areas h)) (ufe h a) (pos 0)) 8 a (pos 0) (omega (arith, kept .areas-most))
             ∙ rw (lt-ltb a (areas h) l) (ufe-renders h a);
+        eight-figures = length-values (λ a. cond (ltb a (areas h)) (ufe h a) (pos 0)) 8;
+        past-areas = λ a past l. getD-values (λ a. cond (ltb a (areas h)) (ufe h a) (pos 0)) 8 a (pos 0) l ∙ rw (le-ltb a (areas h) past);
         deviation-is =
             λ i l. getD-replacing (λ i. deviation (entryOf h i)) (h .count) (b .deviations) i (pos 0) l ∙ deviation-renders (entryOf h i);
         share-is = λ i l. getD-replacing (shareOf h) (h .count) (b .shares) i (pos 0) l ∙ shares-by-rank h i l;

@@ -82,6 +82,9 @@ allZones h m = totalBelow (IEC h (shareOf h) m) (zones h)
 -- what an accepted settling of this hour answers and leaves in the buffers, place by place
 pub record ByFormula (h : Hour) (before : Buffers) (ufes : List ℤ) (after : Buffers) : Type 0 where
   pub ufe-is : (a : ℕ) → a < areas h → getD ufes a (pos 0) ≡ ufeOfTerritory h a
+  -- eight figures, 0 for areas past the count
+  pub eight-figures : length ufes ≡ 8
+  pub past-areas : (a : ℕ) → areas h ≤ a → a < 8 → getD ufes a (pos 0) ≡ pos 0
   pub deviation-is : (i : ℕ) → i < h .count → getD (after .deviations) i (pos 0) ≡ devAs (entryOf h i .kind) (entryOf h i)
   pub share-is : (i : ℕ) → i < h .count → getD (after .shares) i (pos 0) ≡ rankedShare h i
   pub charge-is : (m : ℕ) → m < members h → getD (after .charges) m (pos 0) ≡ cents (allZones h m)
