@@ -2,5 +2,4 @@
 pub mod Lines
 pub mod Answers
 pub mod HandedOut
-pub mod Demands
 pub mod Port

@@ -6,3 +6,4 @@ pub mod post
 pub mod post_line
 pub mod put_lines
 pub mod settle
+pub mod sneupelaar_settle
