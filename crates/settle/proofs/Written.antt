@@ -1,5 +1,5 @@
 -- What `settle` answered and wrote, from its promise alone. It is what `rules` settles where the two lists of amounts and counts are one
--- list of lines, so that the three demands hold of it.
+-- list of lines, so that the three demands hold of it (`Demanded` of `determined`).
 use mathlib.Core.Path.{_≡_, sym, _∙_, ap, ap₂}
 use mathlib.Core.Bool.{true}
 use mathlib.Core.List.{List}
@@ -13,7 +13,6 @@ use borrow.Author.Tests.{ltb-true, ltb-false, eqb-true}
 use Rattle.whole.specs.Below.{valuesBelow, replacingFirst}
 use Rattle.whole.proofs.Tests.{split}
 use Rattle.whole.proofs.Buffers.{length-values, getD-values, length-replacing, getD-replacing, getD-kept}
-use Rattle.rules.specs.declared.Answer.the-variants.{Accepted}
 use Rattle.rules.specs.declared.Line.{Line}
 use Rattle.rules.specs.declared.Settled.{Settled}
 use Rattle.rules.specs.Record.{Hour, members}
@@ -21,10 +20,9 @@ use Rattle.rules.specs.Charge.{amount, recordsOf}
 use Rattle.rules.specs.Refusals.{Row, verdict, tableRows}
 use Rattle.rules.specs.Settling.{Settlement, isAccepted, settleRows, lineOf, filled, settle}
 use Rattle.rules.specs.Posting.{emptyLine}
-use Rattle.rules.specs.Promises.{Accepts, ByFormula, FairOutcome, Fits}
+use Rattle.rules.specs.Promises.{Accepts, Fits}
 use Rattle.rules.proofs.Rows.{settle-whole, settle-verdict, settle-numbered, zero-accepts}
 use Rattle.rules.proofs.Demands.{buffers-room}
-use Rattle.rules.proofs.Outcome.{by-formula, fair-outcome}
 use Rattle.hour.specs.Hour.{hourIn}
 use Rattle.filling.specs.Lent.{Lent, lines, filledLent}
 use Rattle.settle.specs.Parallel.{parallelRows, settleParallel, FitsParallel}
@@ -121,10 +119,3 @@ module _ (s : List ℕ) (b : Lent) (r : Settled) (after : Lent) (f : FitsParalle
     ufe-is = f .ufe-is ∙ sym (ap (λ (x : Settlement). x .ufe) (settles-alike s b));
     buffers-are = ap asBuffers (f .buffers-are) ∙ sym (ap (λ (x : Settlement). x .buffers) (settles-alike s b));
   }
-
-  -- Accepted: every figure it answered and wrote is the tariff's (demand 2), and the sums come out whole (demand 3).
-  pub settled-by-formula : r .answer ≡ Accepted → ByFormula (hourIn s) (asBuffers b) (r .ufe) (asBuffers after)
-  settled-by-formula e = by-formula s (asBuffers b) fits e
-
-  pub settled-fairly : r .answer ≡ Accepted → FairOutcome (hourIn s) (r .ufe) (asBuffers after)
-  settled-fairly e = fair-outcome s (asBuffers b) fits e
