@@ -14,9 +14,6 @@ PROMISES = (ROOT / "docs" / "PROMISES.md").read_text()
 # Crates whose functions are no promise to anybody: laws only (a crate must hold a function), and what programs read and print with.
 WITHOUT_PROMISES = {"whole", "rules", "determined", "streams", "showing"}
 
-# Functions whose contract no crate reads: the law states its equation itself.
-READ_BY_C_ALONE = {"sneupelaar_settle"}
-
 
 def public_modules(lib):
     return {name for name in re.findall(r"^pub mod (\w+);", lib, re.M)}
@@ -54,9 +51,6 @@ class Promises(unittest.TestCase):
         laws = "".join(path.read_text() for path in (CRATES / "determined" / "proofs").glob("*.antt"))
         for crate, module, name in public_functions():
             with self.subTest(crate=crate, function=name):
-                if name in READ_BY_C_ALONE:
-                    self.assertIn(f"pub one-{name.replace('_', '-')} :", laws)
-                    continue
                 path = ".".join(part for part in (module, name) if part)
                 alias = re.search(rf"^use Rattle\.{crate}\.proofs\.(?:Port\.)?{re.escape(path)}\.Reads as (\S+)$", laws, re.M)
                 self.assertIsNotNone(alias)

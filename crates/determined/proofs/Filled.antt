@@ -1,17 +1,12 @@
 -- Functions that fill a caller's buffers.
 use mathlib.Core.Path.{_≡_, refl, ap}
-use mathlib.Core.List.{List}
-use Prim.Native.Nat.{ℕ}
 use contract.Lifetimes.{Lfts}
 use denote.Ref.{now}
 use Rattle.amount.proofs.RoundTrips.{one-reading}
-use Rattle.rules.specs.Settling.{Buffers, settle as settling}
-use Rattle.pool.specs.declared.boundary.NumberedSettled.{NumberedSettled}
-use Rattle.pool.specs.HandedOut.{settlement}
+use Rattle.rules.specs.Settling.{Buffers, Settlement, Written, ReadAmount}
 use Rattle.pool.specs.Buffers.{buffers}
 use Rattle.pool.specs.Unlined.{unlined}
 use Rattle.rules.proofs.Rows.{one-result}
-use Rattle.pool.proofs.Demands as Pool
 use Rattle.determined.specs.Determined.{OneResult, OneOutcome}
 use Rattle.determined.proofs.Laws.{agree, agree-answer}
 use Rattle.amount.proofs.write.Reads as write
@@ -24,6 +19,7 @@ use Rattle.lines.proofs.Port.put_lines.Reads as put-lines
 use Rattle.lines.proofs.Port.put_charges.Reads as put-charges
 use Rattle.pool.proofs.Port.settle.Reads as settle
 use Rattle.pool.proofs.settle_unlined.Reads as settle-unlined
+use Rattle.pool.proofs.Port.sneupelaar_settle.Reads as sneupelaar-settle
 use Rattle.pool.proofs.boundary.numbered.Reads as numbered
 use Rattle.pool.proofs.boundary.sneupelaar_write.Reads as sneupelaar-write
 use Rattle.pool.proofs.boundary.sneupelaar_read.Reads as sneupelaar-read
@@ -84,19 +80,25 @@ one-settle-unlined κs a x y s t p q =
 
 -- ---- the functions for C
 
--- its contract is this equation, and no crate reads it
-pub one-sneupelaar-settle : (file : List ℕ) (b : Buffers) {x y : NumberedSettled} {after other : Buffers} →
-    settlement x after ≡ settling file b → settlement y other ≡ settling file b → (x ≡ y) × (after ≡ other)
-one-sneupelaar-settle file b {x} {y} p q = Pool.one-settling file b {r = x} p {t = y} q
+pub one-sneupelaar-settle : (κs : Lfts 5) →
+    OneOutcome (sneupelaar-settle.Post κs) (λ s. buffers (now (s .1 .1 .0)) (now (s .1 .1 .1 .0)) (now (s .1 .1 .1 .1 .0)) (now (s .1 .0)))
+one-sneupelaar-settle κs a x y s t p q = (
+  ap (λ (r : Settlement). record { number = r .verdict .number; place = r .verdict .place; ufe = r .ufe }) (agree p q),
+  ap (λ (r : Settlement). r .buffers) (agree p q),
+)
 
 pub one-numbered : (κs : Lfts 0) → OneResult (numbered.Post κs)
 one-numbered κs a x y s t = agree
 
 pub one-sneupelaar-write : (κs : Lfts 1) → OneOutcome (sneupelaar-write.Post κs) (λ s. now (s .1 .0))
-one-sneupelaar-write κs a x y s t p q = Pool.one-writing _ _ p q
+one-sneupelaar-write κs a x y s t p q = (
+  ap (λ (r : Written). record { number = r .verdict .number; place = r .verdict .place }) (agree p q),
+  ap (λ (r : Written). r .field) (agree p q),
+)
 
 pub one-sneupelaar-read : (κs : Lfts 1) → OneResult (sneupelaar-read.Post κs)
-one-sneupelaar-read κs a x y s t p q = Pool.one-reading _ p q
+one-sneupelaar-read κs a x y s t p q =
+    ap (λ (r : ReadAmount). record { number = r .verdict .number; place = r .verdict .place; amount = r .amount }) (agree p q)
 
 pub one-sneupelaar-body : (κs : Lfts 1) → OneResult (sneupelaar-body.Post κs)
 one-sneupelaar-body κs a x y s t p q = agree (p .0) (q .0)

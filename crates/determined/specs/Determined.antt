@@ -1,6 +1,13 @@
--- When a promise leaves no second result. A promise is a function's contract as its callers read it: a claim about the arguments, the
+-- When a promise leaves no second result, and what it gives. A promise is a function's contract as its callers read it: a claim about the arguments, the
 -- result and what the arguments are at exit.
 use mathlib.Core.Path.{_≡_}
+use mathlib.Core.List.{List}
+use Prim.Native.Nat.{ℕ}
+use lib.IntN.{ℤ}
+use Rattle.rules.specs.HourFile.{hourly, hourOf}
+use Rattle.rules.specs.Refusals.{Verdict, accepted, verdict}
+use Rattle.rules.specs.Settling.{Buffers, settleRows, noFigures}
+use Rattle.rules.specs.Promises.{ByFormula, FairOutcome}
 
 module _ {A X S : Type 0} (promise : A → X → S → Type 0) where
   -- two results that keep the promise are the same
@@ -14,3 +21,16 @@ module _ {A X S : Type 0} (promise : A → X → S → Type 0) where
   -- of a result that is a part of what was lent: what the part holds
   abbrev pub OnePart : {B : Type 0} → (X → B) → Type 0
   OnePart holds = (a : A) (x y : X) (s t : S) → promise a x s → promise a y t → holds x ≡ holds y
+
+  -- whatever keeps the promise has this property
+  abbrev pub Gives : (A → X → S → Type 0) → Type 0
+  Gives property = (a : A) (x : X) (s : S) → promise a x s → property a x s
+
+-- the three demands of a settling, by its file, its buffers before, the verdict told, the UFE figures answered and its buffers afterwards
+pub record KeepsDemands (file : List ℕ) (before : Buffers) (told : Verdict) (ufes : List ℤ) (after : Buffers) : Type 0 where
+  -- 1: the first broken row of the table answers, and a refusal changes nothing
+  pub by-the-table : told ≡ verdict (settleRows file before)
+  pub unchanged : (told ≡ accepted → ⊥) → (after ≡ before) × (ufes ≡ noFigures)
+  -- 2 and 3
+  pub by-formula : told ≡ accepted → ByFormula (hourOf hourly file) before ufes after
+  pub fair : told ≡ accepted → FairOutcome (hourOf hourly file) ufes after

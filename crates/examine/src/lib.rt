@@ -211,7 +211,7 @@ fn first_fault(file: &[u8]) -> Fault
 // Refusals 4 and 5, of a file whose blocks are whole.
 fn examine_hour(file: &[u8]) -> Answer
     requires { ⌜ (512 ≤ length (now file)) × (HourFile.recordCount hourly (now file) ≤ 10 * (HourFile.blocks (now file) - 1)) ⌝ }
-    ensures { λ r. ⌜ Refusals.verdictOf r ≡ Refusals.verdict (Refusals.wordRows (HourFile.hourOf hourly (now (file .entry)))) ⌝ }
+    ensures { λ r. ⌜ Refusals.verdictOf r ≡ Refusals.verdict (drop 3 (Refusals.fileRows (now (file .entry)))) ⌝ }
 {
     if let Found::At(w) = bad_head(file) {
         return Answer::BadHead(w);

@@ -1,9 +1,9 @@
 -- Settling's answers, row by row, and what they leave: refused, nothing is changed; accepted, each buffer is filled with figures that are
 -- worked once.
-use mathlib.Core.Path.{_≡_, sym, _∙_, ap}
+use mathlib.Core.Path.{_≡_, refl, sym, _∙_, ap}
 use mathlib.Core.Bool.{Bool, true, false, _||_}
 use mathlib.Core.Option.{none, some}
-use mathlib.Core.List.{List, [], _∷_, _++_, append-assoc}
+use mathlib.Core.List.{List, [], _∷_, _++_}
 use Prim.Native.Nat.{ℕ, _≤_, _<_}
 use native.Mathlib.Omega.{arith}
 use lib.IntN.{ℤ}
@@ -20,13 +20,13 @@ use Rattle.rules.specs.declared.Settled.{Settled}
 use Rattle.rules.specs.Record.{Hour, members, entryOf}
 use Rattle.rules.specs.Deviation.{deviation}
 use Rattle.rules.specs.Charge.{shareOf, cents, charge}
-use Rattle.rules.specs.Refusals.{row, accepted, verdictOf, verdict, badArea, badAmount, tooShort, sumRows, fileRows, hourRows}
-use Rattle.rules.specs.Settling.{Buffers, lineOf, filled, bufferRows, settleRows, ufeFigures, noFigures, settle}
+use Rattle.rules.specs.Refusals.{Row, row, accepted, verdictOf, verdict, badArea, badAmount, tooShort, tableRows, fileRows}
+use Rattle.rules.specs.Settling.{Buffers, lineOf, filled, settleRows, ufeFigures, noFigures, settle}
 use Rattle.rules.specs.Posting.{emptyLine, linesAfter}
 use Rattle.rules.specs.Promises.{Accepts, Fits}
 use Rattle.rules.specs.Kept.{FileKept}
-use Rattle.rules.proofs.Rows.{accepts-when-whole, refused-first, passed-on, whole-parts, file-numbered, one-answer}
-use Rattle.rules.proofs.Rows.{settle-verdict, settle-accepts, settle-changes-nothing, settle-fills}
+use Rattle.rules.proofs.Rows.{accepts-when-whole, passed-on, file-numbered, file-decides, one-answer}
+use Rattle.rules.proofs.Rows.{settle-verdict, settle-whole, settle-changes-nothing, settle-fills}
 use Rattle.rules.proofs.Kept.{passed-kept}
 use Rattle.rules.proofs.Bounds.{amount-under, row-7-never}
 use Rattle.rules.proofs.Demands.{Room, buffers-room}
@@ -53,24 +53,26 @@ module _ (s : List ℕ) (b : Buffers) where
   refused-with a e refused = says a noFigures e
       (sym (settle-changes-nothing s b (λ yes. refused (one-answer a Accepted (sym e ∙ sym (settle-verdict s b) ∙ yes))) .1))
 
+  -- row 11, for these buffers
+  abbrev lengthRow : Row
+  lengthRow = row 11 (tooShort h (length (b .charges)) (length (b .lines)) (length (b .shares)) (length (b .deviations)))
+
   -- rows 1 to 5, then 6, 7 and 11
-  in-order : settleRows s b ≡ fileRows s ++ row 6 (badArea h) ∷ row 7 (badAmount h) ∷ bufferRows h b
-  unfolding settleRows hourRows sumRows
-  in-order = append-assoc (fileRows s) (row 6 (badArea h) ∷ row 7 (badAmount h) ∷ []) (bufferRows h b)
+  in-order : settleRows s b ≡ fileRows s ++ row 6 (badArea h) ∷ row 7 (badAmount h) ∷ lengthRow ∷ []
+  unfolding fileRows tableRows
+  in-order = refl
 
   pub file-refused : {a : Answer} → verdictOf a ≡ verdict (fileRows s) → (a ≡ Accepted → ⊥) →
       Says s b (record { answer = a; ufe = noFigures })
-  file-refused {a} examined refused = refused-with a (ap verdict in-order ∙ first ∙ sym examined) refused
-    where
-      first : verdict (fileRows s ++ row 6 (badArea h) ∷ row 7 (badAmount h) ∷ bufferRows h b) ≡ verdict (fileRows s)
-      first = refused-first (fileRows s) _ (λ e. refused (one-answer a Accepted (examined ∙ e)))
+  file-refused {a} examined refused =
+      refused-with a (file-decides s _ _ _ _ (λ e. refused (one-answer a Accepted (examined ∙ e))) ∙ sym examined) refused
 
   -- once rows 1 to 5 are passed; row 7 is then whole
   module _ (passed : verdict (fileRows s) ≡ accepted) (kept : FileKept s) where
-    rest : verdict (settleRows s b) ≡ verdict (row 6 (badArea h) ∷ row 7 none ∷ bufferRows h b)
+    rest : verdict (settleRows s b) ≡ verdict (row 6 (badArea h) ∷ row 7 none ∷ lengthRow ∷ [])
     rest = ap verdict in-order
         ∙ passed-on (fileRows s) _ (accepts-when-whole (fileRows s) (file-numbered s) .0 passed)
-        ∙ ap (λ o. verdict (row 6 (badArea h) ∷ row 7 o ∷ bufferRows h b)) (row-7-never (kept .hour-kept))
+        ∙ ap (λ o. verdict (row 6 (badArea h) ∷ row 7 o ∷ lengthRow ∷ [])) (row-7-never (kept .hour-kept))
 
     pub area-refused : {i : ℕ} → badArea h ≡ some i → Says s b (record { answer = BadArea i; ufe = noFigures })
     unfolding verdict
@@ -82,7 +84,7 @@ module _ (s : List ℕ) (b : Buffers) where
       short = ltb c (members h) || ltb l (members h) || ltb n (h .count) || ltb d (h .count)
 
       last : verdict (settleRows s b) ≡ verdict (row 11 (tooShort h c l n d) ∷ [])
-      unfolding verdict bufferRows
+      unfolding verdict
       last = rest ∙ rw (areas-pass, lengths .of-charges, lengths .of-lines, lengths .of-shares, lengths .of-deviations)
 
       pub some-short : short ≡ true → Says s b (record { answer = TooShort; ufe = noFigures })
@@ -108,12 +110,10 @@ module _ (s : List ℕ) (b : Buffers) where
       hour-accepted = sym (said .verdict-is) ∙ ap verdictOf accepts
 
       pub kept : FileKept s
-      unfolding settleRows
-      kept = passed-kept s (whole-parts (hourRows s) (bufferRows h b) .0 (settle-accepts s b .0 hour-accepted) .0)
+      kept = passed-kept s (settle-whole s b hour-accepted .0)
 
       pub room : Room h b
-      unfolding settleRows
-      room = buffers-room h b (whole-parts (hourRows s) (bufferRows h b) .0 (settle-accepts s b .0 hour-accepted) .1)
+      room = buffers-room h b (settle-whole s b hour-accepted .1)
 
       pub can-share : Sharing s (r .ufe) (b .shares)
       can-share = record { kept = kept; figures-of = said .ufe-is ∙ settle-fills s b hour-accepted .1; room = room .shares-room }

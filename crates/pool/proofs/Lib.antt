@@ -1,5 +1,4 @@
 -- What the walks of `pool` rest on.
 pub mod Answers
 pub mod HandedOut
-pub mod Demands
 pub mod Port

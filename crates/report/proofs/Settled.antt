@@ -14,7 +14,7 @@ use Rattle.rules.specs.declared.Settled.{Settled}
 use Rattle.rules.specs.Record.{members}
 use Rattle.rules.specs.Charge.{charge}
 use Rattle.rules.specs.Refusals.{verdictOf, verdict, hourRows}
-use Rattle.rules.specs.Settling.{Buffers, bufferRows, settleRows, filled}
+use Rattle.rules.specs.Settling.{Buffers, filled}
 use Rattle.rules.specs.Statement.{acceptedLines, refusedLine, statement}
 use Rattle.rules.proofs.Rows.{settle-verdict, settle-fills}
 use Rattle.rules.proofs.Stated.{accepted-kept, room-for-all, statement-accepted, statement-refused}
@@ -45,7 +45,6 @@ module _ {s : List ℕ} {b after : Unlined} {r : Settled} (rooms : Rooms b) (set
 
   -- settling answers as rows 1 to 7 do
   same-verdict : verdictOf (r .answer) ≡ verdict (hourRows s)
-  unfolding settleRows bufferRows
   same-verdict = settled .fits .verdict-is ∙ settle-verdict s lent
       ∙ room-for-all s _ _ _ _ (rooms .charges-room) (omega arith) (rooms .shares-room) (rooms .deviations-room)
 

@@ -9,32 +9,32 @@ use native.Mathlib.Omega.{arith}
 use lib.IntN.{ℤ, pos, natAbs}
 use lib.ListN.{length, replicate}
 use lib.Dec.{ltb, eqb}
-use borrow.Author.Tests.{ltb-false, lt-ltb, eqb-true, eq-eqb, not-false}
+use borrow.Author.Tests.{ltb-false, lt-ltb, le-ltb, eqb-true, eq-eqb, not-false}
 use Rattle.whole.proofs.Tests.{neither}
 use Rattle.whole.proofs.Sums.{count-zero}
 use Rattle.whole.proofs.Totals.{total-ext, total-zero}
 use Rattle.whole.proofs.Linear.{abs-zero}
 use Rattle.whole.proofs.Search.{first-none}
-use Rattle.whole.proofs.Buffers.{getD-values, getD-replacing, drop-replacing, length-replacing}
+use Rattle.whole.proofs.Buffers.{length-values, getD-values, getD-replacing, drop-replacing, length-replacing}
 use Rattle.rules.specs.Record.{Hour, members, zones, areas, memberOf, areaOf, zoneOf, entryOf}
 use Rattle.rules.specs.Deviation.{deviation}
 use Rattle.rules.specs.Ufe.{ufe, demands}
 use Rattle.rules.specs.Charge.{shareOf, amount, recordsOf, cents, nearestCent, charge}
 use Rattle.rules.specs.Text.{bytes, digitByte, amountText, amountField}
 use Rattle.rules.specs.HourFile.{hourly, hourOf}
-use Rattle.rules.specs.Refusals.{badArea, tooShort, fileRows, sumRows, hourRows}
-use Rattle.rules.specs.Settling.{Buffers, settle, filled, ufeFigures, bufferRows, settleRows, lineOf}
+use Rattle.rules.specs.Refusals.{badArea, tooShort, tableRows, hourRows}
+use Rattle.rules.specs.Settling.{Buffers, settle, filled, ufeFigures, lineOf}
 use Rattle.rules.specs.Posting.{emptyLine}
 use Rattle.rules.specs.Statement.{memberLine}
 use Rattle.rules.specs.Kept.{HourKept}
-use Rattle.rules.specs.Promises.{Accepts, AllWhole, Demand1, ByFormula, allZones, Demand2, Demand3}
+use Rattle.rules.specs.Promises.{Accepts, AllWhole, Demand1, ByFormula, allZones, Demand2, FairOutcome, Demand3}
 use Rattle.rules.proofs.Tariff.{deviation-renders, ufe-renders, amount-is-IEC}
-use Rattle.rules.proofs.Rows.{no-place, accepts-when-whole, whole-parts, hour-numbered, settle-accepts, settle-refuses}
+use Rattle.rules.proofs.Rows.{no-place, accepts-when-whole, hour-numbered, settle-accepts, settle-whole, settle-refuses}
 use Rattle.rules.proofs.Rows.{settle-changes-nothing, settle-fills, write-accepts, write-refuses, write-changes-nothing}
-use Rattle.rules.proofs.Text.{read-accepts, read-refuses, written-read, read-written, text-fits-14, write-accepted-at}
+use Rattle.rules.proofs.Text.{read-checks, read-accepts, read-refuses, written-read, read-written, text-fits-14, write-accepted-at}
 use Rattle.rules.proofs.Kept.{passed-kept}
 use Rattle.rules.proofs.Bounds.{charge-under}
-use Rattle.rules.proofs.Fair.{Sound, shares-by-rank, fair}
+use Rattle.rules.proofs.Fair.{Sound, shares-by-rank, fair-alike}
 
 -- ---- an accepted hour
 
@@ -44,9 +44,8 @@ record Passed (h : Hour) : Type 0 where
   no-bad-area : badArea h ≡ none
 
 hour-passed : (s : List ℕ) → AllWhole (hourRows s) → Passed (hourOf hourly s)
-unfolding hourRows sumRows
-hour-passed s w =
-    record { kept = passed-kept s w .hour-kept; no-bad-area = whole-parts (fileRows s) (sumRows (hourOf hourly s)) .0 w .1 .0 }
+unfolding hourRows tableRows
+hour-passed s w = record { kept = passed-kept s w .hour-kept; no-bad-area = w .1 .1 .1 .1 .1 .0 }
 
 -- what row 11 says of the buffers
 pub record Room (h : Hour) (b : Buffers) : Type 0 where
@@ -55,13 +54,14 @@ pub record Room (h : Hour) (b : Buffers) : Type 0 where
   pub shares-room : h .count ≤ length (b .shares)
   pub deviations-room : h .count ≤ length (b .deviations)
 
-pub buffers-room : (h : Hour) (b : Buffers) → AllWhole (bufferRows h b) → Room h b
-unfolding bufferRows tooShort
-buffers-room h b w =
+pub buffers-room : (h : Hour) (b : Buffers) →
+    tooShort h (length (b .charges)) (length (b .lines)) (length (b .shares)) (length (b .deviations)) ≡ none → Room h b
+unfolding tooShort
+buffers-room h b enough =
     let c = ltb (length (b .charges)) (members h) in
     let l = ltb (length (b .lines)) (members h) in
     let s = ltb (length (b .shares)) (h .count) in
-    let x = neither (c || l || s) (ltb (length (b .deviations)) (h .count)) (no-place _ (w .0)) in
+    let x = neither (c || l || s) (ltb (length (b .deviations)) (h .count)) (no-place _ enough) in
     let y = neither (c || l) s (x .0) in
     let z = neither c l (y .0) in
     record {
@@ -95,6 +95,8 @@ module _ (h : Hour) (kept : HourKept h) where
       record {
         ufe-is = λ a l. getD-values (λ a. cond (ltb a (areas h)) (ufe h a) (pos 0)) 8 a (pos 0) (omega (arith, kept .areas-most))
             ∙ rw (lt-ltb a (areas h) l) (ufe-renders h a);
+        eight-figures = length-values (λ a. cond (ltb a (areas h)) (ufe h a) (pos 0)) 8;
+        past-areas = λ a past l. getD-values (λ a. cond (ltb a (areas h)) (ufe h a) (pos 0)) 8 a (pos 0) l ∙ rw (le-ltb a (areas h) past);
         deviation-is =
             λ i l. getD-replacing (λ i. deviation (entryOf h i)) (h .count) (b .deviations) i (pos 0) l ∙ deviation-renders (entryOf h i);
         share-is = λ i l. getD-replacing (shareOf h) (h .count) (b .shares) i (pos 0) l ∙ shares-by-rank h i l;
@@ -118,10 +120,9 @@ module _ (h : Hour) (kept : HourKept h) where
 
 -- every figure of an accepted settling is the tariff's
 settled-by-formula : (s : List ℕ) (b : Buffers) → Accepts s b → ByFormula (hourOf hourly s) b (settle s b .ufe) (settle s b .buffers)
-unfolding settleRows
 settled-by-formula s b a =
     let h = hourOf hourly s in
-    let p = whole-parts (hourRows s) (bufferRows h b) .0 (settle-accepts s b .0 a) in
+    let p = settle-whole s b a in
     let f = settle-fills s b a in
     rw (f .0, f .1) (by-formula h (hour-passed s (p .0) .kept) b (buffers-room h b (p .1)))
 
@@ -135,6 +136,7 @@ demand1 = record {
   write-accepts = write-accepts;
   write-refuses = write-refuses;
   write-changes-nothing = write-changes-nothing;
+  read-checks = read-checks;
   read-accepts = read-accepts;
   read-refuses = read-refuses;
 }
@@ -171,9 +173,16 @@ sound h p = record {
       abs-zero (ufe h a) (eqb-true _ _ (not-false _ (rw (eq-eqb (demands h a) 0 z) at whole)));
 }
 
+-- what settling fills in is what the definitions say, place by place
+filled-fairly : (h : Hour) (b : Buffers) → Passed h → FairOutcome h (ufeFigures h) (filled h b)
+unfolding ufeFigures filled
+filled-fairly h b p = fair-alike h (sound h p)
+    (λ a l. getD-values (λ a. cond (ltb a (areas h)) (ufe h a) (pos 0)) 8 a (pos 0) (omega (arith, p .kept .areas-most))
+    ∙ rw (lt-ltb a (areas h) l))
+    (λ i l. getD-replacing (shareOf h) (h .count) (b .shares) i (pos 0) l)
+    (λ m l. getD-replacing (charge h) (members h) (b .charges) m (pos 0) l)
+
 pub demand3 : Demand3
-unfolding settleRows
 demand3 s b a =
-    let h = hourOf hourly s in
-    let p = whole-parts (hourRows s) (bufferRows h b) .0 (settle-accepts s b .0 a) in
-    fair h (sound h (hour-passed s (p .0)))
+    let f = settle-fills s b a in
+    rw (f .0, f .1) (filled-fairly (hourOf hourly s) b (hour-passed s (settle-whole s b a .0)))

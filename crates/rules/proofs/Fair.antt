@@ -270,12 +270,27 @@ module _ (h : Hour) (ok : Sound h) where
       rw (rounded (charge h m) (amount h m) (unrounded h m) (pos 10000000) (pos (allT h)))
       (le-trans ((half-cent (amount h m) u* u-lit (pos (allT h)) u+ amount-off m) .under) (omega arith))
 
--- Demand 3 of an hour.
-pub fair : (h : Hour) → Sound h → Fair h
+-- Demand 3 of an hour's figures as defined.
+pub fair : (h : Hour) → Sound h → Fair h (ufe h) (shareOf h) (charge h)
 fair h ok = record {
+  by-formula = λ a l. refl;
   exact = shares-add-up h ok;
   near = near h;
   none-to-share = none-to-share h;
   charged = charged h ok;
   pooled = pooled h ok;
 }
+
+-- ... and of any figures that agree with them.
+pub fair-alike : (h : Hour) → Sound h → {u s c : ℕ → ℤ} → ((a : ℕ) → a < areas h → u a ≡ ufe h a) →
+    ((i : ℕ) → i < h .count → s i ≡ shareOf h i) → ((m : ℕ) → m < members h → c m ≡ charge h m) → Fair h u s c
+fair-alike h ok {u} {s} {c} ufes shares charges =
+    let defined = fair h ok in
+    record {
+      by-formula = ufes;
+      exact = λ a l. total-ext _ _ (h .count) (λ i k. rw (shares i k)) ∙ defined .exact a l ∙ sym (ufes a l);
+      near = λ i l load some. rw (shares i l, ufes (areaOf h i) (ok .area-there i l)) (defined .near i l load some);
+      none-to-share = λ i l none. shares i l ∙ defined .none-to-share i l none;
+      charged = λ m l. rw (charges m l) (defined .charged m l);
+      pooled = rw (total-ext c (charge h) (members h) charges) (defined .pooled);
+    }

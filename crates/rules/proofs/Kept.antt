@@ -1,6 +1,6 @@
 -- A file that passes rows 1 to 5 keeps its ranges. Document 01, "Units and ranges", "Refusal numbers and their order".
 use mathlib.Core.Path.{_≡_, refl}
-use mathlib.Core.Bool.{false}
+use mathlib.Core.Bool.{true, false, _||_}
 use mathlib.Core.Option.{Option, none, some}
 use mathlib.Core.List.{List}
 use Prim.Native.Nat.{ℕ, _+_, _-_, _*_, _/_, _%_, _≤_, _<_, zero-le}
@@ -17,14 +17,13 @@ use Rattle.rules.specs.declared.Kind.{Kind}
 use Rattle.rules.specs.declared.Kind.the-variants.{Generator, RealTimeLoad, ProfileLoad, Import, Export, Unknown}
 use Rattle.rules.specs.declared.Rule.{Rule}
 use Rattle.rules.specs.Record.{Hour, members, zones, areas, zonePrice, zoneOf, tieIn, tieOut, memberOf, areaOf, entry, entryOf}
-use Rattle.rules.specs.Record.{kindOf, signed}
+use Rattle.rules.specs.Record.{kindOf, isGenerator, isImport, signed}
 use Rattle.rules.specs.HourFile.{hourly, lengthBad, blocks, blockWord, recordCount, hourOf}
 use Rattle.rules.specs.Ranges.{firstBroken, mustBeZero, countRule, blockRule, areaRule, headRule, rowOf, recordRule}
-use Rattle.rules.specs.Refusals.{isBroken, badLength, badBlock, badHead, badWord, badRecord, layoutRows, wordRows, sumRows, fileRows}
-use Rattle.rules.specs.Refusals.{hourRows}
+use Rattle.rules.specs.Refusals.{isBroken, badLength, badBlock, badHead, badWord, badRecord, tableRows, fileRows, hourRows}
 use Rattle.rules.specs.Promises.{AllWhole}
 use Rattle.rules.specs.Kept.{EntryKept, RecordKept, AreaKept, HourKept, FileKept}
-use Rattle.rules.proofs.Rows.{no-place, whole-parts}
+use Rattle.rules.proofs.Rows.{no-place, file-whole}
 use Rattle.rules.proofs.Words.{Holds, holds, length-is-whole}
 
 -- ---- a search that found nothing
@@ -65,6 +64,16 @@ entry-kept ProfileLoad v f = omega (arith, zo)
 entry-kept Import v f = omega (arith, zo)
 entry-kept Export v f = omega (arith, zo)
 entry-kept Unknown v f = let j = signed-zero (v 5) (f .J-held .1) in omega (arith, zo)
+
+-- the kinds that use the multipliers
+multipliers-least : (K : Kind) (v : ℕ → ℕ) → RowHeld (rowOf K) v → (isGenerator K || isImport K) ≡ true → (1 ≤ v 9) × (1 ≤ v 10)
+unfolding rowOf
+multipliers-least Generator v f used = (f .F-held .0, f .H-held .0)
+multipliers-least RealTimeLoad v f used = never used refl
+multipliers-least ProfileLoad v f used = never used refl
+multipliers-least Import v f used = (f .F-held .0, f .H-held .0)
+multipliers-least Export v f used = never used refl
+multipliers-least Unknown v f used = never used refl
 
 -- ---- an hour
 
@@ -142,6 +151,7 @@ module _ (h : Hour) (head-whole : badHead h ≡ none) (records-whole : badRecord
         area-there = word-holds i 2 l (omega arith);
         demand-most = omega (arith, zo);
         entry-kept = kept;
+        multipliers-least = multipliers-least (kindOf (h .rec i 0)) (h .rec i) (row-held i l);
       }
 
   -- An hour of at most 250 records whose head and records pass rows 4 and 5 keeps the ranges of document 01.
@@ -186,7 +196,7 @@ module _ (s : List ℕ) (length-whole : badLength hourly s ≡ none) (blocks-who
 
 -- A file whose rows 1 to 5 are whole keeps the ranges of document 01.
 pub file-kept : (s : List ℕ) → AllWhole (fileRows s) → FileKept s
-unfolding fileRows layoutRows wordRows
+unfolding fileRows tableRows
 file-kept s e =
     let h = hourOf hourly s in
     record {
@@ -196,5 +206,4 @@ file-kept s e =
 
 -- so does a file that passes rows 1 to 7
 pub passed-kept : (s : List ℕ) → AllWhole (hourRows s) → FileKept s
-unfolding hourRows
-passed-kept s w = file-kept s (whole-parts (fileRows s) (sumRows (hourOf hourly s)) .0 w .0)
+passed-kept s w = file-kept s (file-whole s w)

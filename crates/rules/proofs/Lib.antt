@@ -14,7 +14,7 @@ pub mod Faults
 pub mod Bounds
 pub mod Fair
 pub mod Demands
-pub mod Outcome
 pub mod Stated
 pub mod Starred
 pub mod Printed
+pub mod Refused

@@ -27,8 +27,7 @@ unfolding Below.countBelow Below.sumBelow Below.totalBelow Below.valuesBelow Bel
     HourFile.recordWord HourFile.hourOf Ranges.keeps Ranges.firstBroken Ranges.countRule Ranges.pastRule Ranges.blockRule Ranges.areaRule
     Ranges.headRule Ranges.rowOf Ranges.recordRule Refusals.verdict Refusals.badLength Refusals.badSum Refusals.badBlock Refusals.badHead
     Refusals.badWord Refusals.badRecord Refusals.badArea Refusals.badAmount Refusals.tooShort Refusals.outOfRange Refusals.tooNarrow
-    Refusals.layoutRows Refusals.wordRows Refusals.sumRows Refusals.fileRows Refusals.hourRows Refusals.writeRows Settling.bufferRows
-    Settling.settleRows Settling.lineOf Settling.filled Settling.ufeFigures Settling.settle Settling.write Statement.firstLine
+    Refusals.tableRows Refusals.hourRows Refusals.writeRows Settling.lineOf Settling.filled Settling.ufeFigures Settling.settle Settling.write Statement.firstLine
     Statement.memberLine Statement.memberLines Statement.acceptedLines Statement.statement wordBytes printedFile usedBuffers
     printedSettlement
 printed-right = record { settled = refl; stated = refl }

@@ -14,26 +14,13 @@ use Rattle.whole.proofs.Tests.{split, never-some}
 use Rattle.rules.specs.declared.Answer.{Answer}
 use Rattle.rules.specs.declared.Answer.the-variants.{Accepted, BadLength, BadSum, BadBlock, BadHead, BadRecord, BadArea, BadAmount}
 use Rattle.rules.specs.declared.Answer.the-variants.{OutOfRange, TooNarrow, NotAnAmount, TooShort}
+use Rattle.rules.specs.Record.{Hour}
 use Rattle.rules.specs.HourFile.{hourly, hourOf}
-use Rattle.rules.specs.Refusals.{Row, row, Verdict, accepted, refusedAt, verdictOf, verdict, placeZeroIf, layoutRows, wordRows}
-use Rattle.rules.specs.Refusals.{sumRows, fileRows, hourRows, writeRows}
-use Rattle.rules.specs.Settling.{Buffers, Settlement, isAccepted, bufferRows, settleRows, filled, ufeFigures, noFigures, settle}
+use Rattle.rules.specs.Refusals.{Row, row, Verdict, accepted, refusedAt, verdictOf, verdict, placeZeroIf, badArea, badAmount, tooShort}
+use Rattle.rules.specs.Refusals.{tableRows, fileRows, hourRows, writeRows}
+use Rattle.rules.specs.Settling.{Buffers, Settlement, isAccepted, settleRows, filled, ufeFigures, noFigures, settle}
 use Rattle.rules.specs.Settling.{write}
 use Rattle.rules.specs.Promises.{Accepts, AllWhole, FirstBrokenRow, OneResult}
-
--- ---- the order: settling checks 1 to 7, then 11; writing 8, then 9
-
-unfoldable pub numbers : List Row → List ℕ
-numbers [] = []
-numbers (row n broken ∷ rows) = n ∷ numbers rows
-
-pub settling-in-order : (s : List ℕ) (b : Buffers) → numbers (settleRows s b) ≡ 1 ∷ 2 ∷ 3 ∷ 4 ∷ 5 ∷ 6 ∷ 7 ∷ 11 ∷ []
-unfolding numbers settleRows bufferRows hourRows fileRows layoutRows wordRows sumRows
-settling-in-order s b = refl
-
-pub writing-in-order : (width : ℕ) (z : ℤ) → numbers (writeRows width z) ≡ 8 ∷ 9 ∷ []
-unfolding numbers writeRows
-writing-in-order width z = refl
 
 -- ---- any table
 
@@ -121,17 +108,44 @@ no-place false e = refl
 -- ---- the tables of document 01
 
 module _ (s : List ℕ) where
+  abbrev h : Hour
+  h = hourOf hourly s
+
   pub file-numbered : Numbered (fileRows s)
-  unfolding fileRows layoutRows wordRows
+  unfolding fileRows tableRows
   file-numbered = omega arith
 
   pub hour-numbered : Numbered (hourRows s)
-  unfolding hourRows fileRows layoutRows wordRows sumRows
+  unfolding hourRows tableRows
   hour-numbered = omega arith
 
   pub settle-numbered : (b : Buffers) → Numbered (settleRows s b)
-  unfolding settleRows hourRows fileRows layoutRows wordRows sumRows bufferRows
+  unfolding tableRows
   settle-numbered b = omega arith
+
+  -- the table in parts: 1 to 5, then 6 and 7, then 11
+  pub hour-in-parts : hourRows s ≡ fileRows s ++ row 6 (badArea h) ∷ row 7 (badAmount h) ∷ []
+  unfolding hourRows fileRows tableRows
+  hour-in-parts = refl
+
+  pub file-whole : AllWhole (hourRows s) → AllWhole (fileRows s)
+  file-whole w = whole-parts (fileRows s) (row 6 (badArea h) ∷ row 7 (badAmount h) ∷ []) .0 (rw hour-in-parts at w) .0
+
+  module _ (charges lines shares deviations : ℕ) where
+    pub table-in-parts : tableRows s charges lines shares deviations ≡ hourRows s ++ row 11 (tooShort h charges lines shares deviations) ∷ []
+    unfolding hourRows tableRows
+    table-in-parts = refl
+
+    -- what rows 1 to 5 refuse, the table refuses alike
+    pub file-decides : (verdict (fileRows s) ≡ accepted → ⊥) → verdict (tableRows s charges lines shares deviations) ≡ verdict (fileRows s)
+    unfolding fileRows tableRows
+    file-decides = refused-first (fileRows s) (row 6 (badArea h) ∷ row 7 (badAmount h) ∷ row 11 (tooShort h charges lines shares deviations) ∷ [])
+
+    pub table-whole : AllWhole (tableRows s charges lines shares deviations) →
+        AllWhole (hourRows s) × (tooShort h charges lines shares deviations ≡ none)
+    table-whole w =
+        let parts = whole-parts (hourRows s) (row 11 (tooShort h charges lines shares deviations) ∷ []) .0 (rw table-in-parts at w) in
+        (parts .0, parts .1 .0)
 
 pub write-numbered : (width : ℕ) (z : ℤ) → Numbered (writeRows width z)
 unfolding writeRows
@@ -152,6 +166,11 @@ module _ (s : List ℕ) (b : Buffers) where
   pub settle-accepts : Accepts s b ↔ AllWhole (settleRows s b)
   settle-accepts = let r = accepts-when-whole (settleRows s b) (settle-numbered s b) in
       (λ e. r .0 (sym settle-verdict ∙ e), λ w. settle-verdict ∙ r .1 w)
+
+  -- accepted: rows 1 to 7 are whole, and no buffer is too short
+  pub settle-whole : Accepts s b → AllWhole (hourRows s)
+      × (tooShort (hourOf hourly s) (length (b .charges)) (length (b .lines)) (length (b .shares)) (length (b .deviations)) ≡ none)
+  settle-whole a = table-whole s (length (b .charges)) (length (b .lines)) (length (b .shares)) (length (b .deviations)) (settle-accepts .0 a)
 
   pub settle-refuses : (n p : ℕ) → (settle s b .verdict ≡ refusedAt (suc n) p) ↔ FirstBrokenRow (settleRows s b) (suc n) p
   settle-refuses n p = let r = refuses-at-first (settleRows s b) n p in

@@ -1,7 +1,7 @@
 -- The statement: when it is which, how long it can be, and that a reader that stops one byte past the longest file prints the same.
 use mathlib.Core.Path.{_≡_, refl, sym, _∙_, ap}
 use mathlib.Core.Bool.{or-true}
-use mathlib.Core.List.{List, [], _∷_, _++_}
+use mathlib.Core.List.{List}
 use Prim.Native.Nat.{ℕ, zero, suc, _*_, _^_, _≤_, _<_}
 use native.Mathlib.Omega.{arith}
 use lib.Dec.{leb}
@@ -13,11 +13,11 @@ use Rattle.whole.proofs.Tests.{split}
 use Rattle.rules.specs.Record.{Hour, hourNumber, members}
 use Rattle.rules.specs.Charge.{charge}
 use Rattle.rules.specs.HourFile.{hourly, lengthBad, hourOf, word, blockWord}
-use Rattle.rules.specs.Refusals.{Verdict, accepted, refusedAt, row, verdict, badLength, tooShort, layoutRows, fileRows, hourRows}
+use Rattle.rules.specs.Refusals.{Verdict, accepted, refusedAt, verdict, badLength, tooShort, tableRows, hourRows}
 use Rattle.rules.specs.Settling.{isAccepted}
 use Rattle.rules.specs.Statement.{firstLine, memberLine, memberLines, acceptedLines, refusedLine, statement}
 use Rattle.rules.specs.Kept.{HourKept, FileKept}
-use Rattle.rules.proofs.Rows.{accepts-when-whole, hour-numbered, zero-accepts, refused-first, passed-on}
+use Rattle.rules.proofs.Rows.{accepts-when-whole, hour-numbered, table-in-parts, zero-accepts, refused-first, passed-on}
 use Rattle.rules.proofs.Kept.{passed-kept}
 use Rattle.rules.proofs.Digits.{decimal-at-most-20, decimal-length-at-most}
 use Rattle.rules.proofs.Text.{field-has-width}
@@ -30,9 +30,9 @@ accepted-kept s e = passed-kept s (accepts-when-whole (hourRows s) (hour-numbere
 
 -- room for 32 members and 250 records is enough for every hour: row 11 decides nothing
 pub room-for-all : (s : List ℕ) (charges lines shares deviations : ℕ) → 32 ≤ charges → 32 ≤ lines → 250 ≤ shares → 250 ≤ deviations →
-    verdict (hourRows s ++ row 11 (tooShort (hourOf hourly s) charges lines shares deviations) ∷ []) ≡ verdict (hourRows s)
+    verdict (tableRows s charges lines shares deviations) ≡ verdict (hourRows s)
 unfolding verdict tooShort
-room-for-all s c l n d pc pl pn pd = split (isAccepted (verdict (hourRows s)))
+room-for-all s c l n d pc pl pn pd = ap verdict (table-in-parts s c l n d) ∙ split (isAccepted (verdict (hourRows s)))
     (λ t. let a = zero-accepts (hourRows s) (hour-numbered s) (eqb-true _ _ t) in
     let k = accepted-kept s a .hour-kept in
     let h = hourOf hourly s in
@@ -102,7 +102,7 @@ statement-fits s b = split (isAccepted (verdict (hourRows s)))
 
 -- a file over 26 blocks is refused by its length alone
 too-long : (s : List ℕ) → 13312 < length s → statement s ≡ refusedLine (refusedAt 1 0)
-unfolding statement hourRows fileRows layoutRows verdict badLength lengthBad
+unfolding statement hourRows tableRows verdict badLength lengthBad
 too-long s l = rw (lt-ltb 13312 (length s) l, or-true)
 
 -- whoever reads at most 13,313 bytes sees that an input is too long

@@ -14,7 +14,7 @@ use lib.Seq.{drop-at, drop-append-seam, drop-drop, drop-length}
 use borrow.Author.Tests.{ltb-true, ltb-false, lt-ltb, le-ltb}
 use Rattle.whole.proofs.Tests.{split, never-some}
 use Rattle.rules.specs.Text.{signByte, decimal, amountText, amountField, pastBlanks, amountIn}
-use Rattle.rules.specs.Refusals.{Verdict, accepted, refusedAt, verdict, outOfRange, tooNarrow, writeRows}
+use Rattle.rules.specs.Refusals.{row, Verdict, accepted, refusedAt, nothingRead, verdict, outOfRange, tooNarrow, notAnAmount, writeRows, readRows}
 use Rattle.rules.specs.Settling.{Written, ReadAmount, orRefused, write, read}
 use Rattle.rules.specs.Promises.{IsTextOf}
 use Rattle.rules.proofs.Digits.{decimal-length-at-most}
@@ -160,6 +160,15 @@ nothing-found none f = refl
 nothing-found (some z) f = absurd (f z refl)
 
 -- reading accepts exactly the texts of amounts in range
+read-checked : (o : Option ℤ) → orRefused o .verdict ≡ verdict (row 10 (nothingRead o) ∷ [])
+unfolding verdict
+read-checked none = refl
+read-checked (some z) = refl
+
+pub read-checks : (s : List ℕ) → read s .verdict ≡ verdict (readRows s)
+unfolding read readRows notAnAmount
+read-checks s = read-checked (amountIn s)
+
 pub read-accepts : (s : List ℕ) (z : ℤ) → (read s ≡ record { verdict = accepted; amount = z }) ↔ IsTextOf z s
 unfolding read
 read-accepts s z = (λ e. amount-text-read s z .0 (answered (amountIn s) z e), λ t. ap orRefused (amount-text-read s z .1 t))

@@ -1,10 +1,11 @@
 -- What a file that passes rows 1 to 5 keeps, as the bounds that the sums need. Document 01, "Units and ranges".
 use Prim.Native.Nat.{ℕ, _≤_, _<_}
 use mathlib.Core.Path.{_≡_}
-use mathlib.Core.Bool.{false}
+use mathlib.Core.Bool.{true, false, _||_}
 use mathlib.Core.List.{List}
 use Rattle.whole.specs.Signed.{Under, Upto}
 use Rattle.rules.specs.Record.{Hour, Entry, members, zones, areas, zonePrice, zoneOf, tieIn, tieOut, memberOf, areaOf, entryOf}
+use Rattle.rules.specs.Record.{isGenerator, isImport}
 use Rattle.rules.specs.Ufe.{demand}
 use Rattle.rules.specs.HourFile.{hourly, lengthBad, hourOf}
 
@@ -26,6 +27,8 @@ pub record RecordKept (h : Hour) (i : ℕ) : Type 0 where
   pub area-there : areaOf h i < areas h
   pub demand-most : demand h i ≤ 100000
   pub entry-kept : EntryKept (entryOf h i)
+  -- a multiplier in use is never zero
+  pub multipliers-least : (isGenerator (entryOf h i .kind) || isImport (entryOf h i .kind)) ≡ true → (1 ≤ h .rec i 9) × (1 ≤ h .rec i 10)
 
 pub record AreaKept (h : Hour) (a : ℕ) : Type 0 where
   pub zone-there : zoneOf h a < zones h

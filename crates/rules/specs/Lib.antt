@@ -14,6 +14,6 @@ pub mod Statement
 pub mod Tariff
 pub mod Kept
 pub mod Promises
-pub mod Outcome
 pub mod Figures
 pub mod Printed
+pub mod Refused

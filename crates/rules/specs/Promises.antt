@@ -17,7 +17,7 @@ use Rattle.rules.specs.Share.{allDemand, wholePart, remainder, unitsLeft
 use Rattle.rules.specs.Charge.{entering, shareOf, recordsOf, cents, charge, poolTotal}
 use Rattle.rules.specs.Text.{bytes, digitByte, amountText, amountField}
 use Rattle.rules.specs.HourFile.{hourly, hourOf}
-use Rattle.rules.specs.Refusals.{Row, row, accepted, refusedAt, verdictOf, verdict, hourRows, writeRows}
+use Rattle.rules.specs.Refusals.{Row, row, accepted, refusedAt, verdictOf, verdict, hourRows, writeRows, readRows}
 use Rattle.rules.specs.Settling.{Buffers, settle, settleRows, noFigures, write, read}
 use Rattle.rules.specs.Posting.{emptyLine}
 use Rattle.rules.specs.Statement.{memberLine}
@@ -56,6 +56,7 @@ pub record Demand1 : Type 0 where
   pub write-refuses : (f : List ℕ) (z : ℤ) (n p : ℕ) →
       (write f z .verdict ≡ refusedAt (suc n) p) ↔ FirstBrokenRow (writeRows (length f) z) (suc n) p
   pub write-changes-nothing : (f : List ℕ) (z : ℤ) → (write f z .verdict ≡ accepted → ⊥) → write f z .field ≡ f
+  pub read-checks : (s : List ℕ) → read s .verdict ≡ verdict (readRows s)
   pub read-accepts : (s : List ℕ) (z : ℤ) → (read s ≡ record { verdict = accepted; amount = z }) ↔ IsTextOf z s
   pub read-refuses : (s : List ℕ) → (read s ≡ record { verdict = refusedAt 10 0; amount = pos 0 }) ↔ ((z : ℤ) → IsTextOf z s → ⊥)
 
@@ -81,6 +82,9 @@ allZones h m = totalBelow (IEC h (shareOf h) m) (zones h)
 -- what an accepted settling of this hour answers and leaves in the buffers, place by place
 pub record ByFormula (h : Hour) (before : Buffers) (ufes : List ℤ) (after : Buffers) : Type 0 where
   pub ufe-is : (a : ℕ) → a < areas h → getD ufes a (pos 0) ≡ ufeOfTerritory h a
+  -- eight figures, 0 for areas past the count
+  pub eight-figures : length ufes ≡ 8
+  pub past-areas : (a : ℕ) → areas h ≤ a → a < 8 → getD ufes a (pos 0) ≡ pos 0
   pub deviation-is : (i : ℕ) → i < h .count → getD (after .deviations) i (pos 0) ≡ devAs (entryOf h i .kind) (entryOf h i)
   pub share-is : (i : ℕ) → i < h .count → getD (after .shares) i (pos 0) ≡ rankedShare h i
   pub charge-is : (m : ℕ) → m < members h → getD (after .charges) m (pos 0) ≡ cents (allZones h m)
@@ -135,20 +139,28 @@ module _ (h : Hour) where
   unfoldable pub loadPrices : ℕ → ℕ
   loadPrices m = sumBelow (λ i. cond (isLoad (entryOf h i .kind) && eqb (memberOf h i) m) (natAbs (price h (areaOf h i))) 0) (h .count)
 
-  pub record Fair : Type 0 where
+  -- an hour's figures as somebody gives them: the UFE of each area, the share of each record, the charge of each member
+  pub record Fair (ufeAt shareAt chargeAt : ℕ → ℤ) : Type 0 where
+    -- each area's UFE is that of the formula, so that shares and UFE of zero don't do
+    pub by-formula : (a : ℕ) → a < areas h → ufeAt a ≡ ufe h a
     -- the shares of each area add up exactly to its UFE
-    pub exact : (a : ℕ) → a < areas h → totalBelow (λ i. cond (eqb (areaOf h i) a) (shareOf h i) (pos 0)) (h .count) ≡ ufe h a
+    pub exact : (a : ℕ) → a < areas h → totalBelow (λ i. cond (eqb (areaOf h i) a) (shareAt i) (pos 0)) (h .count) ≡ ufeAt a
     -- each less than one unit from its exact fraction: the share times T against D×U
     pub near : (i : ℕ) → i < h .count → isLoad (entryOf h i .kind) ≡ true → (demands h (areaOf h i) ≡ 0 → ⊥) →
-        natAbs (shareOf h i *ℤ pos (demands h (areaOf h i)) -ℤ pos (demand h i) *ℤ ufe h (areaOf h i)) < demands h (areaOf h i)
-    pub none-to-share : (i : ℕ) → i < h .count → demands h (areaOf h i) ≡ 0 → shareOf h i ≡ pos 0
+        natAbs (shareAt i *ℤ pos (demands h (areaOf h i)) -ℤ pos (demand h i) *ℤ ufeAt (areaOf h i)) < demands h (areaOf h i)
+    pub none-to-share : (i : ℕ) → i < h .count → demands h (areaOf h i) ≡ 0 → shareAt i ≡ pos 0
     -- half a cent, and one unit at the size of the zone's price for each load record
-    pub charged : (m : ℕ) → m < members h → natAbs (charge h m *ℤ pos (10000000 * allT) -ℤ unrounded m) ≤ (5000000 + loadPrices m) * allT
+    pub charged : (m : ℕ) → m < members h → natAbs (chargeAt m *ℤ pos (10000000 * allT) -ℤ unrounded m) ≤ (5000000 + loadPrices m) * allT
     -- half a cent a member
-    pub pooled : natAbs (totalBelow (charge h) (members h) *ℤ pos 10000000 -ℤ poolTotal h) ≤ 5000000 * members h
+    pub pooled : natAbs (totalBelow chargeAt (members h) *ℤ pos 10000000 -ℤ poolTotal h) ≤ 5000000 * members h
+
+  -- the figures that a settling answered and left in the buffers
+  abbrev pub FairOutcome : List ℤ → Buffers → Type 0
+  FairOutcome ufes after =
+      Fair (λ a. getD ufes a (pos 0)) (λ i. getD (after .shares) i (pos 0)) (λ m. getD (after .charges) m (pos 0))
 
 abbrev pub Demand3 : Type 0
-Demand3 = (s : List ℕ) (b : Buffers) → Accepts s b → Fair (hourOf hourly s)
+Demand3 = (s : List ℕ) (b : Buffers) → Accepts s b → FairOutcome (hourOf hourly s) (settle s b .ufe) (settle s b .buffers)
 
 -- ---- no second result fits
 

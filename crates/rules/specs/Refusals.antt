@@ -3,9 +3,9 @@
 use Prim.Native.Nat.{ℕ}
 use mathlib.Core.Bool.{Bool, true, false, not, cond, _&&_, _||_}
 use mathlib.Core.Option.{Option, none, some, bind}
-use mathlib.Core.List.{List, [], _∷_, _++_}
+use mathlib.Core.List.{List, [], _∷_}
 use lib.IntN.{ℤ, natAbs}
-use lib.ListN.{length}
+use lib.ListN.{length, take}
 use lib.Dec.{ltb, eqb}
 use Rattle.whole.specs.Below.{firstBelow}
 use Rattle.rules.specs.declared.Answer.{Answer}
@@ -16,7 +16,7 @@ use Rattle.rules.specs.declared.Found.the-variants.{At, Nothing}
 use Rattle.rules.specs.Record.{Hour, members, zones, areas}
 use Rattle.rules.specs.Ufe.{ufe, demands}
 use Rattle.rules.specs.Charge.{amount}
-use Rattle.rules.specs.Text.{amountText}
+use Rattle.rules.specs.Text.{amountText, amountIn}
 use Rattle.rules.specs.HourFile.{Layout, hourly, lengthBad, blocks, blockWord, blockSum, hourOf}
 use Rattle.rules.specs.Ranges.{firstBroken, blockRule, headRule, recordRule}
 
@@ -74,6 +74,10 @@ verdict (row number none ∷ rows) = verdict rows
 abbrev pub placeZeroIf : Bool → Option ℕ
 placeZeroIf b = cond b (some 0) none
 
+abbrev pub nothingRead : Option ℤ → Option ℕ
+nothingRead none = some 0
+nothingRead (some z) = none
+
 abbrev pub isBroken : Option ℕ → Bool
 isBroken none = false
 isBroken (some w) = true
@@ -130,28 +134,42 @@ outOfRange z = placeZeroIf (ltb 999999999999 (natAbs z))
 unfoldable pub tooNarrow : ℕ → ℤ → Option ℕ
 tooNarrow width z = placeZeroIf (ltb width (length (amountText z)))
 
--- ---- THE ORDER OF THE ROWS
+-- 10: not an amount text, so that nothing was read
+unfoldable pub notAnAmount : List ℕ → Option ℕ
+notAnAmount field = nothingRead (amountIn field)
 
--- 1 to 3: of a file's layout
-unfoldable pub layoutRows : Layout → List ℕ → List Row
-layoutRows l s = row 1 (badLength l s) ∷ row 2 (badSum s) ∷ row 3 (badBlock l s) ∷ []
+-- ---- THE TABLE: its rows as each call checks them, in order, each with its own test
 
--- 4 and 5: of the words of its hour
-unfoldable pub wordRows : Hour → List Row
-wordRows h = row 4 (badHead h) ∷ row 5 (badRecord h) ∷ []
+-- settling checks 1 to 7 in number order over the whole file, then 11, by the lengths of the four buffers
+unfoldable pub tableRows : List ℕ → (charges lines shares deviations : ℕ) → List Row
+tableRows s charges lines shares deviations = let h = hourOf hourly s in
+    row 1 (badLength hourly s)
+    ∷ row 2 (badSum s)
+    ∷ row 3 (badBlock hourly s)
+    ∷ row 4 (badHead h)
+    ∷ row 5 (badRecord h)
+    ∷ row 6 (badArea h)
+    ∷ row 7 (badAmount h)
+    ∷ row 11 (tooShort h charges lines shares deviations)
+    ∷ []
 
--- 6 and 7: of its sums
-unfoldable pub sumRows : Hour → List Row
-sumRows h = row 6 (badArea h) ∷ row 7 (badAmount h) ∷ []
-
--- 1 to 5: what a file by itself can break
-unfoldable pub fileRows : List ℕ → List Row
-fileRows s = layoutRows hourly s ++ wordRows (hourOf hourly s)
-
--- 1 to 7: what settling and the statement both check
+-- the statement has no buffers of a caller: the same without 11
 unfoldable pub hourRows : List ℕ → List Row
-hourRows s = fileRows s ++ sumRows (hourOf hourly s)
+hourRows s = take 7 (tableRows s 0 0 0 0)
+
+-- 1 to 5 of them: what a file by itself can break
+unfoldable pub fileRows : List ℕ → List Row
+fileRows s = take 5 (tableRows s 0 0 0 0)
 
 -- writing checks 8, then 9
 unfoldable pub writeRows : ℕ → ℤ → List Row
-writeRows width z = row 8 (outOfRange z) ∷ row 9 (tooNarrow width z) ∷ []
+writeRows width z =
+    row 8 (outOfRange z)
+    ∷ row 9 (tooNarrow width z)
+    ∷ []
+
+-- reading checks 10
+unfoldable pub readRows : List ℕ → List Row
+readRows field =
+    row 10 (notAnAmount field)
+    ∷ []

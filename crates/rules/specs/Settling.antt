@@ -3,7 +3,7 @@
 use Prim.Native.Nat.{ℕ}
 use mathlib.Core.Bool.{Bool, cond}
 use mathlib.Core.Option.{Option, none, some}
-use mathlib.Core.List.{List, [], _∷_, _++_}
+use mathlib.Core.List.{List}
 use lib.IntN.{ℤ, pos}
 use lib.ListN.{length, replicate}
 use lib.Dec.{ltb, eqb}
@@ -15,7 +15,7 @@ use Rattle.rules.specs.Ufe.{ufe}
 use Rattle.rules.specs.Charge.{shareOf, amount, recordsOf, charge}
 use Rattle.rules.specs.Text.{amountField, amountIn}
 use Rattle.rules.specs.HourFile.{hourly, hourOf}
-use Rattle.rules.specs.Refusals.{Row, row, Verdict, accepted, refusedAt, verdict, tooShort, hourRows, writeRows}
+use Rattle.rules.specs.Refusals.{Row, Verdict, accepted, refusedAt, verdict, tableRows, writeRows}
 
 abbrev pub isAccepted : Verdict → Bool
 isAccepted v = eqb (v .number) 0
@@ -29,12 +29,9 @@ pub record Buffers : Type 0 where
   pub deviations : List ℤ
   pub lines : List Line
 
-unfoldable pub bufferRows : Hour → Buffers → List Row
-bufferRows h b = row 11 (tooShort h (length (b .charges)) (length (b .lines)) (length (b .shares)) (length (b .deviations))) ∷ []
-
--- settling checks 1 to 7, then 11
-unfoldable pub settleRows : List ℕ → Buffers → List Row
-settleRows s b = hourRows s ++ bufferRows (hourOf hourly s) b
+-- the table's rows for these buffers
+abbrev pub settleRows : List ℕ → Buffers → List Row
+settleRows s b = tableRows s (length (b .charges)) (length (b .lines)) (length (b .shares)) (length (b .deviations))
 
 -- a member's exact amount and its record count
 unfoldable pub lineOf : Hour → ℕ → Line

@@ -6,7 +6,7 @@ use mathlib.Core.List.{List}
 use Prim.Native.Nat.{ℕ}
 use native.Mathlib.Omega.{arith}
 use Rattle.rules.specs.HourFile.{hourly, lengthBad}
-use Rattle.rules.specs.Refusals.{foundAt, verdict, badLength, badSum, badBlock, layoutRows, fileRows}
+use Rattle.rules.specs.Refusals.{foundAt, verdict, badLength, badSum, badBlock, tableRows, fileRows}
 use Rattle.rules.proofs.Words.{length-is-whole}
 use Rattle.rules.proofs.Faults.{few-records}
 use Rattle.examine.proofs.examine.Statement.{statement}
@@ -44,7 +44,7 @@ length-bad-requires : tie.Need-length-bad-requires
 length-bad-requires c κs = tt
 
 returns : tie.Need-returns
-unfolding verdict fileRows layoutRows badLength
+unfolding verdict fileRows tableRows badLength
 returns c = simp (sym (c .before .length-bad .ensures) ∙ c .if1 .taken)
 
 bad-sum-requires : tie.Need-bad-sum-requires
@@ -54,7 +54,7 @@ enum-known-b : tie.Need-enum-known-b
 enum-known-b c = c .match .keys1
 
 returns-2 : tie.Need-returns-2
-unfolding verdict fileRows layoutRows badLength
+unfolding verdict fileRows tableRows badLength
 returns-2 c =
     let searched = c .before .before .before in
     simp (length-good (searched .before), sym (searched .bad-sum .ensures) ∙ ap foundAt (c .before .b .given .1))
@@ -69,7 +69,7 @@ enum-known-b-2 : tie.Need-enum-known-b-2
 enum-known-b-2 c = c .match2 .keys1
 
 returns-3 : tie.Need-returns-3
-unfolding verdict fileRows layoutRows badLength
+unfolding verdict fileRows tableRows badLength
 returns-3 c =
     let searched = c .before .before .before in
     let sums = searched .before in
@@ -85,7 +85,7 @@ examine-hour-requires c κs =
     (omega arith, few-records (file length) (length-passed length) (blocks-good c))
 
 returns-4 : tie.Need-returns-4
-unfolding verdict fileRows layoutRows badLength
+unfolding verdict fileRows tableRows badLength
 returns-4 c =
     let blocks = c .before in
     c .examine-hour .ensures ∙ simp (length-good (row-1 (row-2 blocks)), sums-good (row-2 blocks), blocks-good blocks)

@@ -3,7 +3,7 @@ use mathlib.Core.Path.{_≡_, sym, _∙_, ap}
 use mathlib.Core.Option.{none}
 use native.Mathlib.Omega.{arith}
 use Rattle.rules.specs.HourFile.{hourly, hourOf}
-use Rattle.rules.specs.Refusals.{foundAt, badHead, verdict, wordRows}
+use Rattle.rules.specs.Refusals.{foundAt, badHead, verdict, tableRows, fileRows}
 use Rattle.rules.proofs.Faults.{fault-record, fault-nowhere}
 use Rattle.examine.specs.Fault.{faultAt}
 use Rattle.examine.proofs.examine_hour.Statement.{statement}
@@ -21,7 +21,7 @@ enum-known-w : tie.Need-enum-known-w
 enum-known-w c = c .match .keys1
 
 returns : tie.Need-returns
-unfolding verdict wordRows
+unfolding verdict fileRows tableRows
 returns c = simp (sym (c .before .before .before .bad-head .ensures) ∙ ap foundAt (c .before .w .given .1))
 
 enum-told : tie.Need-enum-told
@@ -34,7 +34,7 @@ enum-known-i : tie.Need-enum-known-i
 enum-known-i c = c .match2 .keys1
 
 returns-2 : tie.Need-returns-2
-unfolding verdict wordRows
+unfolding verdict fileRows tableRows
 returns-2 c =
     let searched = c .before .before .before in
     simp (head-good (searched .before), fault-record _ _ _ (sym (searched .first-fault .ensures) ∙ ap faultAt (c .before .i .given .1)))
@@ -43,7 +43,7 @@ enum-told-2 : tie.Need-enum-told-2
 enum-told-2 c = c .match2 .keys2
 
 returns-3 : tie.Need-returns-3
-unfolding verdict wordRows
+unfolding verdict fileRows tableRows
 returns-3 c =
     let searched = c .before .before in
     simp (head-good (searched .before), fault-nowhere _ (sym (searched .first-fault .ensures) ∙ ap faultAt (c .enum-told2 .given .1)))

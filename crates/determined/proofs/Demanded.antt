@@ -1,0 +1,97 @@
+-- What the pages say of a function, said of its contract as its callers read it: settling keeps the three demands; an amount written is
+-- read, and one read is written again; the statement is put whole or not at all; an accepted file keeps its ranges.
+use mathlib.Core.Path.{_≡_, sym, _∙_, ap}
+use mathlib.Core.List.{List}
+use Prim.Native.Nat.{ℕ, _≤_}
+use lib.IntN.{ℤ}
+use lib.ListN.{length, take}
+use contract.Lifetimes.{Lfts}
+use denote.Ref.{now}
+use Rattle.rules.specs.declared.Answer.the-variants.{Accepted}
+use Rattle.rules.specs.declared.Line.{Line}
+use Rattle.rules.specs.Refusals.{Verdict, refusedAt, verdictOf}
+use Rattle.rules.specs.Settling.{Buffers, Settlement, settle as settling}
+use Rattle.rules.specs.Statement as Statement
+use Rattle.rules.specs.Kept.{FileKept}
+use Rattle.rules.proofs.Rows.{settle-verdict, settle-changes-nothing}
+use Rattle.rules.proofs.Demands.{demand2, demand3}
+use Rattle.amount.specs.Promised.{Wrote, HasRead}
+use Rattle.amount.proofs.RoundTrips as RoundTrips
+use Rattle.examine.proofs.Examined as Examined
+use Rattle.pool.specs.Buffers.{buffers}
+use Rattle.pool.specs.Unlined.{unlined, withLines, ownLines}
+use Rattle.report.specs.Stated.{HasStated}
+use Rattle.report.proofs.Promised as Promised
+use Rattle.determined.specs.Determined.{Gives, KeepsDemands}
+use Rattle.amount.proofs.write.Reads as write
+use Rattle.amount.proofs.read.Reads as read
+use Rattle.examine.proofs.examine.Reads as examine
+use Rattle.pool.proofs.Port.settle.Reads as settle
+use Rattle.pool.proofs.settle_unlined.Reads as settle-unlined
+use Rattle.pool.proofs.Port.sneupelaar_settle.Reads as sneupelaar-settle
+use Rattle.report.proofs.statement.Reads as statement
+
+-- ---- settling
+
+keeps : {s : List ℕ} {b after : Buffers} {v : Verdict} {u : List ℤ} →
+    v ≡ settling s b .verdict → u ≡ settling s b .ufe → after ≡ settling s b .buffers → KeepsDemands s b v u after
+keeps {s} {b} v u a = record {
+  by-the-table = v ∙ settle-verdict s b;
+  unchanged = λ refused. let same = settle-changes-nothing s b (λ e. refused (v ∙ e)) in (a ∙ same .0, u ∙ same .1);
+  by-formula = λ e. rw (u, a) (demand2 .settled s b (sym v ∙ e));
+  fair = λ e. rw (u, a) (demand3 s b (sym v ∙ e));
+}
+
+pub settle-keeps-demands : (κs : Lfts 5) → Gives (settle.Post κs) (λ a x s. KeepsDemands (now (a .0))
+    (buffers (now (a .1 .1 .0)) (now (a .1 .1 .1 .0)) (now (a .1 .1 .1 .1 .0)) (now (a .1 .0)))
+    (verdictOf (x .answer)) (x .ufe)
+    (buffers (now (s .1 .1 .0)) (now (s .1 .1 .1 .0)) (now (s .1 .1 .1 .1 .0)) (now (s .1 .0))))
+settle-keeps-demands κs a x s p = keeps (p .verdict-is) (p .ufe-is) (p .buffers-are)
+
+-- with the lines that it made itself
+pub settle-unlined-keeps-demands : (κs : Lfts 4) → Gives (settle-unlined.Post κs) (λ a x s. (lines : List Line) × KeepsDemands (now (a .0))
+    (withLines (unlined (now (a .1 .0)) (now (a .1 .1 .0)) (now (a .1 .1 .1 .0))) ownLines)
+    (verdictOf (x .answer)) (x .ufe)
+    (withLines (unlined (now (s .1 .0)) (now (s .1 .1 .0)) (now (s .1 .1 .1 .0))) lines))
+settle-unlined-keeps-demands κs a x s p =
+    (p .lines, keeps (p .fits .verdict-is) (p .fits .ufe-is) (p .fits .buffers-are))
+
+pub sneupelaar-settle-keeps-demands : (κs : Lfts 5) → Gives (sneupelaar-settle.Post κs) (λ a x s. KeepsDemands (now (a .0))
+    (buffers (now (a .1 .1 .0)) (now (a .1 .1 .1 .0)) (now (a .1 .1 .1 .1 .0)) (now (a .1 .0)))
+    (refusedAt (x .number) (x .place)) (x .ufe)
+    (buffers (now (s .1 .1 .0)) (now (s .1 .1 .1 .0)) (now (s .1 .1 .1 .1 .0)) (now (s .1 .0))))
+sneupelaar-settle-keeps-demands κs a x s p =
+    keeps (ap (λ (t : Settlement). t .verdict) p) (ap (λ (t : Settlement). t .ufe) p) (ap (λ (t : Settlement). t .buffers) p)
+
+-- ---- amounts as text
+
+pub write-promises : (κs : Lfts 1) → Gives (write.Post κs) (λ a x s. Wrote (now (a .1 .0)) (a .0) x (now (s .1 .0)))
+write-promises κs a x s p = record { verdict-is = p .0; field-is = p .1 }
+
+pub read-promises : (κs : Lfts 1) → Gives (read.Post κs) (λ a x s. HasRead (now (a .0)) x)
+read-promises κs a x s p = record { verdict-is = p .0; amount-is = p .1 }
+
+-- written, then read
+pub written-is-read : (κs μs : Lfts 1) → Gives (write.Post κs) (λ a x s. x ≡ Accepted →
+    Gives (read.Post μs) (λ b y t. now (b .0) ≡ now (s .1 .0) → y ≡ record { answer = Accepted; amount = a .0 }))
+written-is-read κs μs a x s p accepts b y t q same = RoundTrips.written-is-read _ _ (a .0) y
+    (rw accepts at (write-promises κs a x s p)) (rw same at (read-promises μs b y t q))
+
+-- read, then written at the same width
+pub read-is-written : (κs μs : Lfts 1) → Gives (read.Post κs) (λ a x s. x .answer ≡ Accepted →
+    Gives (write.Post μs) (λ b y t. b .0 ≡ x .amount → length (now (b .1 .0)) ≡ length (now (a .0)) →
+    (y ≡ Accepted) × (now (t .1 .0) ≡ now (a .0))))
+read-is-written κs μs a x s p accepts b y t q same width = RoundTrips.read-is-written (now (a .0)) _ _ (x .amount) y
+    (record { verdict-is = ap verdictOf (sym accepts) ∙ p .0; amount-is = p .1 }) width (rw same at (write-promises μs b y t q))
+
+-- ---- the file and its statement
+
+pub examine-promises : (κs : Lfts 1) → Gives (examine.Post κs) (λ a x s. x ≡ Accepted → FileKept (now (a .0)))
+examine-promises κs a x s p accepts = Examined.accepted-kept (now (a .0)) x p accepts
+
+pub statement-promises : (κs : Lfts 2) → Gives (statement.Post κs) (λ a x s. HasStated (now (a .0)) (now (a .1 .0)) x (now (s .1 .0)))
+statement-promises κs a x s p = record { count-is = p .0; out-is = p .1 }
+
+pub statement-is-put : (κs : Lfts 2) → Gives (statement.Post κs) (λ a x s. 615 ≤ length (now (a .1 .0)) →
+    take x (now (s .1 .0)) ≡ Statement.statement (now (a .0)))
+statement-is-put κs a x s p = Promised.whole-statement (statement-promises κs a x s p)

@@ -1,0 +1,3 @@
+-- Made by tools/walk.py.
+pub mod Kinds
+pub mod Reads

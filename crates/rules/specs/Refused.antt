@@ -1,0 +1,51 @@
+-- Refusals of settling as figures: a small file for each row, what settling answers, and that the buffers are what they were.
+-- Document 01, "Refusal numbers and their order".
+use Prim.Native.Nat.{ℕ, _+_, _-_}
+use mathlib.Core.List.{List, [], _∷_, _++_}
+use lib.ListN.{take, drop, replicate}
+use Rattle.rules.specs.Refusals.{refusedAt}
+use Rattle.rules.specs.Settling.{noFigures, settle}
+use Rattle.rules.specs.Figures.{Case, _is_, AllRight}
+use Rattle.rules.specs.Printed.{block, usedBuffers}
+
+abbrev pub sumOf : List ℕ → ℕ
+sumOf [] = 0
+sumOf (w ∷ ws) = w + sumOf ws
+
+-- a block of these words, with word 7 put in such that its sum is zero
+unfoldable pub sealed : List ℕ → List ℕ
+sealed words = block (take 7 words ++ (0x1_0000_0000 - sumOf words) ∷ drop 7 words)
+
+-- a first block: the number of other blocks, then the first body
+abbrev pub first : ℕ → List ℕ → List ℕ
+first others body = sealed (1 ∷ 0 ∷ others ∷ 0 ∷ 0 ∷ 0 ∷ 0 ∷ body)
+
+-- hour 7, so many members, one zone at 5,000, one area without ties
+abbrev pub plainHead : ℕ → List ℕ
+plainHead members = 7 ∷ members ∷ 1 ∷ 1 ∷ 5000 ∷ []
+
+-- all figures are 0, and the buffers, with three places each, are as they were
+abbrev pub refused : (number place : ℕ) → List ℕ → Case
+refused number place s = settle s usedBuffers is record { verdict = refusedAt number place; ufe = noFigures; buffers = usedBuffers }
+
+unfoldable pub refusals : List Case
+refusals =
+    -- no byte; a byte more than a block
+    refused 1 0 []
+    ∷ refused 1 0 (replicate 513 0)
+    -- the words of the second block add up to 4
+    ∷ refused 2 1 (first 1 (plainHead 2) ++ block (2 ∷ 1 ∷ 1 ∷ []))
+    -- another block is told, and none is there
+    ∷ refused 3 0 (first 1 (plainHead 2))
+    -- a price of 1,000,001
+    ∷ refused 4 12 (first 0 (7 ∷ 2 ∷ 1 ∷ 1 ∷ 1000001 ∷ []))
+    -- two records: an export of nothing, and one of kind 6
+    ∷ refused 5 1 (first 1 (plainHead 2) ++ sealed (2 ∷ 1 ∷ 2 ∷ 0 ∷ 0 ∷ 0 ∷ 0 ∷ 5 ∷ replicate 11 0 ++ 6 ∷ []))
+    -- two areas: one without ties, and one with a kWh coming in and no load
+    ∷ refused 6 1 (first 0 (7 ∷ 2 ∷ 1 ∷ 2 ∷ 5000 ∷ replicate 8 0 ++ 1 ∷ []))
+    -- four members
+    ∷ refused 11 0 (first 0 (plainHead 4))
+    ∷ []
+
+abbrev pub RefusedRight : Type 0
+RefusedRight = AllRight refusals
