@@ -58,7 +58,7 @@ fn only(v: u32) -> Rule
 
 // Word 0: the mark of the first block, or of another.
 fn mark_rule(b: u32) -> Rule
-    ensures { λ r. ⌜ r ≡ Ranges.mustBe (cond (eqb b 0) (hourly .firstMark) (hourly .otherMark)) ⌝ }
+    ensures { λ r. ⌜ r ≡ Ranges.mustBe (cond (eqb b 0) (hourly .«first_mark») (hourly .«other_mark»)) ⌝ }
 {
     if b == 0 {
         return only(1);
