@@ -6,7 +6,7 @@ use mathlib.Core.List.{List, []}
 use Prim.Native.Nat.{ℕ, _+_, _*_, _%_, _≤_, _<_}
 use native.Mathlib.Omega.{arith}
 use lib.IntN.{natAbs}
-use lib.ListN.{length, getD, drop, length-drop, List·getD-eq-default}
+use lib.ListN.{length, getD, take, drop, length-drop, List·getD-eq-default}
 use lib.Seq.{length-take-le, getD-drop, getD-take}
 use lib.Dec.{ltb, leb, eqb}
 use borrow.Author.Tests.{ltb-true, ltb-false, leb-true, lt-ltb, le-ltb, le-leb, lt-leb, eqb-true, eqb-false, not-false}
@@ -63,6 +63,11 @@ module _ (l : Layout) (s : List ℕ) (b : ℕ) where
   body-length e h =
       let w = length-is-whole l s e in
       rw (e, lt-leb (blocks s) b h) (length-take-le 480 (drop (512 * b + 32) s) (omega (arith, length-drop (512 * b + 32) s)))
+
+  -- the bytes behind the block's own words, where the length is good and the block is there
+  pub body-there : lengthBad l s ≡ false → b < blocks s → body l s b ≡ take 480 (drop (512 * b + 32) s)
+  unfolding body
+  body-there e h = rw (e, lt-leb (blocks s) b h)
 
   -- otherwise the part is empty: the length is bad, or there is no such block
   pub body-empty-bad : lengthBad l s ≡ true → body l s b ≡ []
