@@ -10,6 +10,7 @@ ghost use lib.ListN.{length, getD, take, drop};
 ghost use lib.Dec.{leb, eqb};
 ghost use Rattle.whole.specs.Below.{sumBelow, firstBelow};
 ghost use Rattle.rules.specs.Record as Record;
+ghost use Rattle.rules.specs.declared.Layout as LayoutOf;
 ghost use Rattle.rules.specs.HourFile as HourFile;
 ghost use Rattle.rules.specs.HourFile.{FitsBody};
 ghost use Rattle.rules.specs.Ranges as Ranges;
@@ -156,6 +157,19 @@ pub fn block_word(file: &[u8], b: usize, w: usize) -> u32
         return 0;
     }
     word(file, 128 * b + w)
+}
+
+// Word `w` of the head: words 8 to 127 of the first block, whatever the layout.
+pub fn head_word(file: &[u8], w: usize) -> u32
+    ensures { λ r. ⌜ ((l : LayoutOf.Layout) → r ≡ HourFile.hourOf l (now (file .entry)) .head w) ⌝ }
+{
+    if w < 8 {
+        return 0;
+    }
+    if w < 128 {
+        return block_word(file, 0, w);
+    }
+    0
 }
 
 // ---- refusal 2: the sums of the blocks
