@@ -255,13 +255,14 @@ pub fn block_bad(layout: Layout, block: &[u8], n: u32, b: u32) -> bool
     ensures { λ r. ⌜ r ≡ brokenBelow layout 128 n (HourFile.word (now (block .entry)) 2) b (now (block .entry)) ⌝ }
 {
     let held = word(block, 2);
+    let past = 8 + layout.words_per_record * (held as usize);
     if front_bad(layout, block, n, held, b) {
         return true;
     }
     if b == 0 {
         return false;
     }
-    match first_not_zero(block, 8 + layout.words_per_record * (held as usize)) {
+    match first_not_zero(block, past) {
         Found::At(_) => true,
         Found::Nothing => false,
     }

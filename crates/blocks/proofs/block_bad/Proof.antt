@@ -14,10 +14,18 @@ use Rattle.blocks.specs.Broken.{brokenBelow}
 use Rattle.blocks.proofs.block_bad.Statement.{statement}
 use Rattle.blocks.proofs.block_bad.Tie as tie
 
+-- words to a record are so few that the product fits
+few : (c : tie.After-word) →
+    c .before .before .args .layout .«words_per_record» * c .word .result ≤ 120 * c .word .result
+few c = mul-le-mul-right (c .word .result) (few-to-a-record (c .before .before .pre))
+
 -- the moment at which the words in front have been judged, by the count that the code has read
 module _ (c : tie.After-front-bad) where
+  abbrev counted : tie.After-word
+  counted = c .before .before
+
   abbrev given : tie.Start
-  given = c .before .before .before
+  given = counted .before .before
 
   abbrev broken : (held : ℕ) → Bool
   broken held = let at = given .args in brokenBelow (at .layout) 128 (at .n) held (at .b) (at .block .now)
@@ -26,25 +34,30 @@ module _ (c : tie.After-front-bad) where
   abbrev promised : Bool
   promised = broken (word (given .args .block .now) 2)
 
-  as-read : promised ≡ broken (c .before .word .result)
-  as-read = ap broken (sym (c .before .word .ensures))
-
-  -- words to a record are so few that the product fits
-  few : given .args .layout .«words_per_record» * c .before .word .result ≤ 120 * c .before .word .result
-  few = mul-le-mul-right (c .before .word .result) (few-to-a-record (given .pre))
+  as-read : promised ≡ broken (counted .word .result)
+  as-read = ap broken (sym (counted .word .ensures))
 
 -- past the front, what the search of the zeros found
-rest-told : (c : tie.After-first-not-zero) → promised (c .before .before .before .before) ≡ isBroken (foundAt (c .first-not-zero .result))
+rest-told : (c : tie.After-first-not-zero) → promised (c .before .before .before) ≡ isBroken (foundAt (c .first-not-zero .result))
 rest-told c =
-    let front = c .before .before .before .before in
-    let passed = sym (front .front-bad .ensures) ∙ c .before .before .before .if1 .left in
-    as-read front ∙ ap isBroken (past-front _ _ _ _ _ passed (c .before .before .if2 .left) ∙ sym (c .first-not-zero .ensures))
+    let front = c .before .before .before in
+    let passed = sym (front .front-bad .ensures) ∙ c .before .before .if1 .left in
+    as-read front ∙ ap isBroken (past-front _ _ _ _ _ passed (c .before .if2 .left) ∙ sym (c .first-not-zero .ensures))
 
 word-requires : tie.Need-word-requires
 word-requires c κs = tt
 
+cast-past : tie.Need-cast-past
+cast-past c = omega arith
+
+mul-past : tie.Need-mul-past
+mul-past c = omega (arith, few (c .before))
+
+add-past : tie.Need-add-past
+add-past c = omega (arith, few (c .before))
+
 front-bad-requires : tie.Need-front-bad-requires
-front-bad-requires c κs = c .before .before .pre
+front-bad-requires c κs = c .before .before .before .pre
 
 returns : tie.Need-returns
 returns c = sym (as-read (c .before) ∙ front-broken _ _ _ _ _ (sym (c .before .front-bad .ensures) ∙ c .if1 .taken))
@@ -53,15 +66,6 @@ returns-2 : tie.Need-returns-2
 returns-2 c =
     let front = c .before .before in
     sym (as-read front ∙ first-block-whole _ _ _ _ _ (sym (front .front-bad .ensures) ∙ c .before .if1 .left) (c .if2 .taken))
-
-cast-first-not-zero : tie.Need-cast-first-not-zero
-cast-first-not-zero c = omega arith
-
-mul-first-not-zero : tie.Need-mul-first-not-zero
-mul-first-not-zero c = omega (arith, few (c .before .before .before))
-
-add-first-not-zero : tie.Need-add-first-not-zero
-add-first-not-zero c = omega (arith, few (c .before .before .before))
 
 first-not-zero-requires : tie.Need-first-not-zero-requires
 first-not-zero-requires c κs = tt
@@ -83,12 +87,12 @@ block-bad-spec =
     tie.close
     (tie.spec
     word-requires
+    cast-past
+    mul-past
+    add-past
     front-bad-requires
     returns
     returns-2
-    cast-first-not-zero
-    mul-first-not-zero
-    add-first-not-zero
     first-not-zero-requires
     enum-told
     enum-told-2
