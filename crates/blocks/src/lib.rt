@@ -147,7 +147,7 @@ pub fn body(layout: Layout, file: &[u8], b: usize) -> &[u8]
 }
 
 // Word `w` of block `b`.
-pub fn block_word(file: &[u8], b: usize, w: usize) -> u32
+fn block_word(file: &[u8], b: usize, w: usize) -> u32
     ensures { λ r. ⌜ r ≡ HourFile.blockWord (now (file .entry)) b w ⌝ }
 {
     if count(file) < b {
@@ -250,7 +250,7 @@ fn front_bad(layout: Layout, block: &[u8], n: u32, held: u32, b: u32) -> bool
 }
 
 // Whether block `b` of `n` breaks the layout. The body of the first block is for refusal 4; of another block it is zero past the records.
-pub fn block_bad(layout: Layout, block: &[u8], n: u32, b: u32) -> bool
+fn block_bad(layout: Layout, block: &[u8], n: u32, b: u32) -> bool
     requires { ⌜ FitsBody layout ⌝ }
     ensures { λ r. ⌜ r ≡ brokenBelow layout 128 n (HourFile.word (now (block .entry)) 2) b (now (block .entry)) ⌝ }
 {

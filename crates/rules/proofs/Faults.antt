@@ -16,7 +16,7 @@ use Rattle.rules.specs.declared.Rule.the-variants.{Any}
 use Rattle.rules.specs.Record.{Hour}
 use Rattle.rules.specs.HourFile.{hourly, word, blocks, blockWord, recordCount}
 use Rattle.rules.specs.Ranges.{keeps, firstBroken, pastRule, blockRule, headRule}
-use Rattle.rules.specs.Refusals.{isBroken, badLength, badBlock, badWord, badRecord, firstFault}
+use Rattle.rules.specs.Refusals.{isBroken, badBlock, badWord, badRecord, firstFault}
 use Rattle.rules.proofs.RuleTables.{zero-kept, block-words}
 use Rattle.rules.proofs.PartWords.{block-part-word}
 use Rattle.rules.proofs.Kept.{unbroken, held-most}
@@ -132,12 +132,22 @@ module _ (h : Hour) where
       step none q e = q
       step (some j) q e = absurd (has-a-word j (badWord h j) (first-some (λ i. isBroken (badWord h i)) (h .count) j .0 q .1) e)
 
--- ---- a file whose blocks keep the layout holds at most ten records a block
+-- ---- a file whose blocks keep the layout holds no more records than its blocks may
 
-pub few-records : (s : List ℕ) → badLength hourly s ≡ none → badBlock hourly s ≡ none → recordCount hourly s ≤ 10 * (blocks s - 1)
+one-block-more : (full n : ℕ) → 1 < n → full * (n - 1) ≡ full * (n - 2) + full
+one-block-more full n m = ap (λ (k : ℕ). full * k) back ∙ more full (n - 2)
+  where
+    back : n - 1 ≡ n - 2 + 1
+    back = omega arith
+
+    more : (full k : ℕ) → full * (k + 1) ≡ full * k + full
+    more full k = omega arith
+
+pub few-records : (layout : Layout) (s : List ℕ) → badBlock layout s ≡ none →
+    recordCount layout s ≤ layout .«records_per_block» * (blocks s - 1)
 unfolding recordCount
-few-records s e f = split (leb (blocks s) 1)
+few-records layout s f = split (leb (blocks s) 1)
     (λ t. rw t zero-le)
     (λ t. let m : 1 < blocks s = leb-false (blocks s) 1 t in
-    let held : blockWord s (blocks s - 1) 2 ≤ 10 = held-most s e f (blocks s - 1) (omega arith) (omega arith) in
-    rw t (omega arith))
+    let held = held-most layout s f (blocks s - 1) (omega arith) (omega arith) in
+    rw t (omega (arith, one-block-more (layout .«records_per_block») (blocks s) m)))

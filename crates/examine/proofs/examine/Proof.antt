@@ -33,10 +33,6 @@ module _ (c : tie.Else1) where
   length-good : lengthBad hourly file ≡ false
   length-good = sym (length-told (c .before)) ∙ c .if1 .left
 
-  length-passed : badLength hourly file ≡ none
-  unfolding badLength
-  length-passed = rw length-good
-
 -- row 2 passed: no sum is bad
 module _ (c : tie.After-enum-told) where
   abbrev row-1 : tie.Else1
@@ -105,7 +101,7 @@ examine-hour-requires c κs =
     let length = row-1 (row-2 c) in
     record {
       length-good = length-good length;
-      few-records = few-records (file length) (length-passed length) (blocks-good c);
+      few-records = few-records hourly (file length) (blocks-good c);
     }
 
 returns-4 : tie.Need-returns-4
