@@ -1,8 +1,8 @@
 // Files of blocks, in any layout whose records fit into a body: the words of a part, the block reader, the sums of the blocks and their
 // layout (refusals 1 to 3), and the part of a body that is a record. Any byte string and any position is taken; where a part has no such
-// word, the word is 0. Only `whole_word`, `block`, `whole_body` and `record` ask that what they hand out is there, and test nothing: in a file
-// that was accepted it is, and the sums read thousands of words. A layout comes as a value: where the caller names it, the compiler folds
-// its numbers in.
+// word, the word is 0. Only `whole_word`, `block`, `whole_body` and `record` ask that what they hand out is there, and test nothing: in a
+// file that was accepted it is, and the sums read thousands of words. A layout comes as a value: where the caller names it, the compiler
+// folds its numbers in.
 ghost use mathlib.Core.Path.{_≡_};
 ghost use mathlib.Core.Bool.{false, not, _&&_};
 ghost use Prim.Native.Nat.{_+_, _*_, _%_, _≤_, _<_};

@@ -14,7 +14,7 @@ use Rattle.whole.proofs.Search.{first-some, first-more, first-rest, first-ext, 
 use Rattle.rules.specs.declared.Layout.{Layout}
 use Rattle.rules.specs.declared.Rule.the-variants.{Any}
 use Rattle.rules.specs.Record.{Hour}
-use Rattle.rules.specs.HourFile.{hourly, word, blocks, blockWord, recordCount}
+use Rattle.rules.specs.HourFile.{word, blocks, blockWord, recordCount}
 use Rattle.rules.specs.Ranges.{keeps, firstBroken, pastRule, blockRule, headRule}
 use Rattle.rules.specs.Refusals.{isBroken, badBlock, badWord, badRecord, firstFault}
 use Rattle.rules.proofs.RuleTables.{zero-kept, block-words}
@@ -31,6 +31,10 @@ broken-more p n m l e = step (firstBelow p n) refl e
     step (some i) q e = ap isBroken (first-more p n m i q l)
 
 module _ (layout : Layout) (n held b : ℕ) where
+  -- where the records end
+  abbrev past : ℕ
+  past = 8 + layout .«words_per_record» * held
+
   body-rule : (w : ℕ) → 7 ≤ w → blockRule layout n held b w ≡ cond (eqb w 7) Any (pastRule layout held b w)
   unfolding blockRule
   body-rule w l =
@@ -40,11 +44,11 @@ module _ (layout : Layout) (n held b : ℕ) where
   unfolding pastRule keeps
   body-any w v e l = rw (body-rule w l) (split (eqb w 7) (λ t. rw t) (λ t. rw (t, eq-eqb b 0 e)))
 
-  past-records : (w v : ℕ) → (b ≡ 0 → ⊥) → 7 ≤ w → not (keeps (blockRule layout n held b w) v) ≡ (leb (8 + layout .«words_per_record» * held) w && not (eqb v 0))
+  past-records : (w v : ℕ) → (b ≡ 0 → ⊥) → 7 ≤ w → not (keeps (blockRule layout n held b w) v) ≡ (leb past w && not (eqb v 0))
   unfolding pastRule keeps
   past-records w v f l = rw (body-rule w l) (split (eqb w 7)
-      (λ t. rw (t, lt-leb (8 + layout .«words_per_record» * held) w (omega (arith, eqb-true w 7 t))))
-      (λ t. split (leb (8 + layout .«words_per_record» * held) w) (λ u. rw (t, ne-eqb b 0 f, u) (ap not (zero-kept v))) (λ u. rw (t, ne-eqb b 0 f, u))))
+      (λ t. rw (t, lt-leb past w (omega (arith, eqb-true w 7 t))))
+      (λ t. split (leb past w) (λ u. rw (t, ne-eqb b 0 f, u) (ap not (zero-kept v))) (λ u. rw (t, ne-eqb b 0 f, u))))
 
   module _ (word : ℕ → ℕ) where
     abbrev brokenBelow : ℕ → Option ℕ
@@ -62,10 +66,10 @@ module _ (layout : Layout) (n held b : ℕ) where
 
     -- another block has zeros past its records
     pub past-front : isBroken (brokenBelow 7) ≡ false → (b ≡ 0 → ⊥) →
-        brokenBelow 128 ≡ firstBelow (λ w. leb (8 + layout .«words_per_record» * held) w && not (eqb (word w) 0)) 128
+        brokenBelow 128 ≡ firstBelow (λ w. leb past w && not (eqb (word w) 0)) 128
     unfolding firstBroken
     past-front e f =
-        first-rest _ _ 7 128 (unbroken _ e) (λ w l. rw (lt-leb (8 + layout .«words_per_record» * held) w (omega arith))) (λ w l m. past-records w (word w) f l)
+        first-rest _ _ 7 128 (unbroken _ e) (λ w l. rw (lt-leb past w (omega arith))) (λ w l m. past-records w (word w) f l)
 
 -- the layout of a block, read from its own 512 bytes
 pub block-part-broken : (layout : Layout) (s : List ℕ) (n b : ℕ) →

@@ -36,7 +36,7 @@ mustBeZero = mustBe 0
 module _ (l : Layout) where
   -- word 2 of block b of n: the number of other blocks; then the records held, full in all but the last, 1 to full there
   unfoldable pub countRule : (n b : ℕ) → Rule
-  countRule n b = cond (eqb b 0) (mustBe (n - 1)) (cond (ltb (b + 1) n) (mustBe (l .«records_per_block»)) (Between 1 (l .«records_per_block»)))
+  countRule n b = let full = l .«records_per_block» in cond (eqb b 0) (mustBe (n - 1)) (cond (ltb (b + 1) n) (mustBe full) (Between 1 full))
 
   -- the body of a block that holds so many records: the first block's is for row 4
   unfoldable pub pastRule : (held b w : ℕ) → Rule

@@ -1,5 +1,5 @@
-// The types that several crates share. The definitions of document 01 stand in specs/, the theorems about them in proofs/; nothing here
-// runs.
+// The types that several crates share, and the layouts of files. The definitions of document 01 stand in specs/, the theorems about them in
+// proofs/; nothing is computed here.
 ghost use mathlib.Core.Path.{_≡_};
 ghost use Rattle.rules.specs.HourFile as HourFile;
 

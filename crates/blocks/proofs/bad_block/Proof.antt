@@ -44,7 +44,8 @@ module _ (turn : tie.At-loop Inv-loop μ-loop) where
 abbrev turn-of : tie.After-block-bad Inv-loop μ-loop → tie.At-loop Inv-loop μ-loop
 turn-of c = c .before .before .before
 
-told : (c : tie.After-block-bad Inv-loop μ-loop) → c .block-bad .result ≡ bad (layout (turn-of c)) (file (turn-of c)) (n (turn-of c)) (turn-of c .loop .b)
+told : (c : tie.After-block-bad Inv-loop μ-loop) →
+    let turn = turn-of c in c .block-bad .result ≡ bad (layout turn) (file turn) (n turn) (turn .loop .b)
 told c =
     let turn = turn-of c in
     let b = turn .loop .b in
@@ -93,7 +94,9 @@ loop-again c =
     first-next (bad (layout turn) (file turn) (n turn)) (turn .loop .b) (turn .loop .inv) (sym (told (c .before)) ∙ c .if1 .left)
 
 returns-2 : tie.Need-returns-2 Inv-loop μ-loop
-returns-2 c = let turn = c .before in sym (over-all turn ∙ first-less (bad (layout turn) (file turn) (n turn)) _ _ (turn .loop .inv) (c .loop-test .left))
+returns-2 c =
+    let turn = c .before in
+    sym (over-all turn ∙ first-less (bad (layout turn) (file turn) (n turn)) _ _ (turn .loop .inv) (c .loop-test .left))
 
 pub bad-block-spec : {M : Type 1} → statement M
 bad-block-spec =
