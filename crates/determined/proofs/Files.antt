@@ -1,13 +1,8 @@
--- Functions of a file or a record: words, parts, the tally and its figures, the answers of searches.
+-- Functions of an hour file or a record of it: words, parts, the tally and its figures, the answers of searches.
 use contract.Lifetimes.{Lfts}
 use denote.Ref.{now}
 use Rattle.determined.specs.Determined.{OneResult, OnePart}
 use Rattle.determined.proofs.Laws.{agree, agree-answer, agree-entry, agree-found}
-use Rattle.hourfile.proofs.length_bad.Reads as length-bad
-use Rattle.hourfile.proofs.blocks.Reads as blocks
-use Rattle.hourfile.proofs.whole_word.Reads as whole-word
-use Rattle.hourfile.proofs.word.Reads as word
-use Rattle.hourfile.proofs.block_word.Reads as block-word
 use Rattle.hourfile.proofs.head_word.Reads as head-word
 use Rattle.hourfile.proofs.records.Reads as records
 use Rattle.hourfile.proofs.body.Reads as body
@@ -31,21 +26,6 @@ use Rattle.tally.proofs.tally_of.Reads as tally-of
 use Rattle.tally.proofs.ufe_of.Reads as ufe-of
 use Rattle.tally.proofs.ufe_figures.Reads as ufe-figures
 use Rattle.tally.proofs.area_without_demand.Reads as area-without-demand
-
-pub one-length-bad : (κs : Lfts 1) → OneResult (length-bad.Post κs)
-one-length-bad κs a x y s t = agree
-
-pub one-blocks : (κs : Lfts 1) → OneResult (blocks.Post κs)
-one-blocks κs a x y s t = agree
-
-pub one-whole-word : (κs : Lfts 1) → OneResult (whole-word.Post κs)
-one-whole-word κs a x y s t = agree
-
-pub one-word : (κs : Lfts 1) → OneResult (word.Post κs)
-one-word κs a x y s t = agree
-
-pub one-block-word : (κs : Lfts 1) → OneResult (block-word.Post κs)
-one-block-word κs a x y s t = agree
 
 pub one-head-word : (κs : Lfts 1) → OneResult (head-word.Post κs)
 one-head-word κs a x y s t = agree

@@ -28,7 +28,9 @@ use Rattle.posting.proofs.empty_line.Reads as empty-line
 use Rattle.posting.proofs.line_with.Reads as line-with
 use Rattle.posting.proofs.cents.Reads as cents
 use Rattle.posting.proofs.charge_of.Reads as charge-of
-use Rattle.hourfile.proofs.signed.Reads as signed
+use Rattle.blocks.proofs.signed.Reads as signed
+use Rattle.rules.proofs.hourly.Reads as hourly
+use Rattle.rules.proofs.ten_minutes.Reads as ten-minutes
 
 pub one-size-of : (κs : Lfts 0) → OneResult (size-of.Post κs)
 one-size-of κs a x y s t = agree
@@ -110,3 +112,9 @@ one-charge-of κs a x y s t = agree
 
 pub one-signed : (κs : Lfts 0) → OneResult (signed.Post κs)
 one-signed κs a x y s t = agree
+
+pub one-hourly : (κs : Lfts 0) → OneResult (hourly.Post κs)
+one-hourly κs a x y s t = agree
+
+pub one-ten-minutes : (κs : Lfts 0) → OneResult (ten-minutes.Post κs)
+one-ten-minutes κs a x y s t = agree

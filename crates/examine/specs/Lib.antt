@@ -1,3 +1,3 @@
 -- What the contracts of `examine` cite beside `rules`.
-pub mod Broken
+pub mod Whole
 pub mod Fault

@@ -5,10 +5,10 @@ use Prim.Native.Nat.{ℕ, _<_}
 use native.Mathlib.Omega.{arith}
 use lib.ListN.{length}
 use Rattle.rules.specs.Record.{memberOf, areaOf, entry, entryOf, kindOf}
-use Rattle.rules.specs.HourFile.{word}
+use Rattle.rules.specs.HourFile.{hourly, word}
 use Rattle.rules.specs.Posting.{demandOf}
 use Rattle.rules.specs.Kept.{FileKept, EntryKept}
-use Rattle.hourfile.specs.Part.{recordPart}
+use Rattle.blocks.specs.Part.{recordPart}
 use Rattle.hourfile.proofs.Rows.{row-length, row-word}
 use Rattle.hour.specs.Hour.{hourIn, demandBy}
 
@@ -16,7 +16,7 @@ use Rattle.hour.specs.Hour.{hourIn, demandBy}
 pub record PartOf (s : List ℕ) (i : ℕ) (row : List ℕ) : Type 0 where
   pub kept : FileKept s
   pub there : i < hourIn s .count
-  pub part : row ≡ recordPart s i
+  pub part : row ≡ recordPart hourly s i
 
 module _ {s row : List ℕ} {i : ℕ} (p : PartOf s i row) where
   pub part-length : length row ≡ 48

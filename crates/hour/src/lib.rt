@@ -30,8 +30,8 @@ pub fn price(file: &[u8], a: usize) -> i64
     requires { ⌜ FileKept (now file) × (a < Record.areas (hourIn (now file))) ⌝ }
     ensures { λ r. ⌜ r ≡ Record.price (hourIn (now (file .entry))) a ⌝ }
 {
-    let zone = hourfile::whole_word(file, 16 + 4 * a) as usize;
-    hourfile::signed(hourfile::whole_word(file, 12 + zone))
+    let zone = blocks::whole_word(file, 16 + 4 * a) as usize;
+    blocks::signed(blocks::whole_word(file, 12 + zone))
 }
 
 // ---- a record by its part of the file
@@ -40,21 +40,21 @@ pub fn kind_in(row: &[u8]) -> Kind
     requires { ⌜ length (now row) ≡ 48 ⌝ }
     ensures { λ k. ⌜ k ≡ Record.kindOf (word (now (row .entry)) 0) ⌝ }
 {
-    formula::entry::kind_of(hourfile::whole_word(row, 0))
+    formula::entry::kind_of(blocks::whole_word(row, 0))
 }
 
 pub fn member_in(row: &[u8]) -> usize
     requires { ⌜ length (now row) ≡ 48 ⌝ }
     ensures { λ r. ⌜ r ≡ word (now (row .entry)) 1 ⌝ }
 {
-    hourfile::whole_word(row, 1) as usize
+    blocks::whole_word(row, 1) as usize
 }
 
 pub fn area_in(row: &[u8]) -> usize
     requires { ⌜ length (now row) ≡ 48 ⌝ }
     ensures { λ r. ⌜ r ≡ word (now (row .entry)) 2 ⌝ }
 {
-    hourfile::whole_word(row, 2) as usize
+    blocks::whole_word(row, 2) as usize
 }
 
 pub fn entry_in(row: &[u8]) -> Entry
@@ -63,14 +63,14 @@ pub fn entry_in(row: &[u8]) -> Entry
 {
     Entry {
         kind: kind_in(row),
-        s: hourfile::whole_word(row, 3) as i64,
-        a: hourfile::whole_word(row, 4) as i64,
-        j: hourfile::signed(hourfile::whole_word(row, 5)),
-        n: hourfile::whole_word(row, 6) as i64,
-        o: hourfile::whole_word(row, 7) as i64,
-        m: hourfile::whole_word(row, 8) as i64,
-        f: hourfile::whole_word(row, 9) as i64,
-        h: hourfile::whole_word(row, 10) as i64,
+        s: blocks::whole_word(row, 3) as i64,
+        a: blocks::whole_word(row, 4) as i64,
+        j: blocks::signed(blocks::whole_word(row, 5)),
+        n: blocks::whole_word(row, 6) as i64,
+        o: blocks::whole_word(row, 7) as i64,
+        m: blocks::whole_word(row, 8) as i64,
+        f: blocks::whole_word(row, 9) as i64,
+        h: blocks::whole_word(row, 10) as i64,
     }
 }
 
@@ -79,7 +79,7 @@ pub fn demand_in(row: &[u8]) -> u64
     ensures { λ r. ⌜ r ≡ demandBy (word (now (row .entry))) ⌝ }
 {
     if formula::entry::is_load(kind_in(row)) {
-        return hourfile::whole_word(row, 4) as u64;
+        return blocks::whole_word(row, 4) as u64;
     }
     0
 }

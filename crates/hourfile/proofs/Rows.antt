@@ -1,46 +1,46 @@
 -- In a file that keeps its ranges the head and every record lie whole, so that words are read without a test: past the end a kind would
 -- be 0, which is none.
 use mathlib.Core.Path.{_≡_, sym, _∙_, ap}
+use mathlib.Core.Bool.{false}
 use mathlib.Core.List.{List}
 use Prim.Native.Nat.{ℕ, _+_, _*_, _/_, _%_, _≤_, _<_}
 use native.Mathlib.Omega.{arith}
-use lib.ListN.{length, drop, length-drop}
-use lib.Seq.{length-take-le}
-use Rattle.rules.specs.HourFile.{hourly, word, blockWord, recordWord, hourOf}
+use lib.ListN.{length}
+use Rattle.rules.specs.HourFile.{hourly, word, lengthBad, blocks, blockWord, recordWord, hourOf}
 use Rattle.rules.specs.Kept.{FileKept}
+use Rattle.rules.proofs.Layouts.{hourly-fits}
 use Rattle.rules.proofs.Words.{length-is-whole, record-count, record-word, head-word}
 use Rattle.rules.proofs.PartWords.{word-past, record-part-word}
-use Rattle.hourfile.specs.Part.{recordPart}
+use Rattle.blocks.specs.Part.{recordPart, RecordThere}
+use Rattle.blocks.proofs.Parts.{record-part-length}
 
-module _ (s : List ℕ) (i : ℕ) (there : i < hourOf hourly s .count) where
+module _ (s : List ℕ) (i : ℕ) (good : lengthBad hourly s ≡ false) (there : i < hourOf hourly s .count) where
   -- a word of a record, read from the record's part of the file
-  pub part-word : {row : List ℕ} → row ≡ recordPart s i → (w : ℕ) → w < 12 → word row w ≡ hourOf hourly s .rec i w
-  part-word part w l = ap (λ (p : List ℕ). word p w) part ∙ record-part-word s i w (rw (← record-count) there) l
+  pub part-word : {row : List ℕ} → row ≡ recordPart hourly s i → (w : ℕ) → w < 12 → word row w ≡ hourOf hourly s .rec i w
+  part-word part w l =
+      ap (λ (p : List ℕ). word p w) part ∙ record-part-word hourly-fits s i good w (rw (← record-count) there) l
 
   -- the first word of a record that lies past the last block is 0
-  kind-past : length s ≤ 512 * (1 + i / 10) → hourOf hourly s .rec i 0 ≡ 0
+  kind-past : blocks s ≤ 1 + i / 10 → hourOf hourly s .rec i 0 ≡ 0
   unfolding recordWord blockWord
   kind-past l =
+      let whole = length-is-whole hourly s good in
       record-word hourly s i 0 (rw (← record-count) there) (omega arith)
-      ∙ word-past s (128 * (1 + i / 10) + (8 + 12 * (i % 10) + 0)) (omega arith)
+      ∙ word-past s (128 * (1 + i / 10) + (8 + 12 * (i % 10) + 0)) (omega (arith, whole .all-blocks))
 
 module _ {s : List ℕ} {i : ℕ} (kept : FileKept s) (there : i < hourOf hourly s .count) where
-  past-not : length s ≤ 512 * (1 + i / 10) → ⊥
-  past-not l = omega (arith, kind-past s i there l, kept .hour-kept .record-kept i there .kind-least)
+  past-not : blocks s ≤ 1 + i / 10 → ⊥
+  past-not l = omega (arith, kind-past s i (kept .length-good) there l, kept .hour-kept .record-kept i there .kind-least)
 
-  pub record-inside : 592 + 48 * i + 32 * (i / 10) ≤ length s
-  record-inside =
-      let whole = length-is-whole hourly s (kept .length-good) in
-      omega (arith, past-not, whole .all-blocks)
+  pub record-inside : RecordThere hourly s i
+  record-inside = record { length-good = kept .length-good; block-there = omega (arith, past-not) }
 
-  module _ {row : List ℕ} (part : row ≡ recordPart s i) where
+  module _ {row : List ℕ} (part : row ≡ recordPart hourly s i) where
     pub row-length : length row ≡ 48
-    row-length =
-        let from : ℕ = 544 + 48 * i + 32 * (i / 10) in
-        ap length part ∙ length-take-le 48 (drop from s) (omega (arith, length-drop from s, record-inside))
+    row-length = ap length part ∙ record-part-length hourly-fits record-inside
 
     pub row-word : (w : ℕ) → w < 12 → word row w ≡ hourOf hourly s .rec i w
-    row-word w l = part-word s i there part w l
+    row-word w l = part-word s i (kept .length-good) there part w l
 
 -- ---- the head
 

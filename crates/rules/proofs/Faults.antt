@@ -11,11 +11,12 @@ use borrow.Author.Tests.{leb-false, eqb-true, lt-ltb, le-ltb, lt-leb, eq-eqb, ne
 use Rattle.whole.proofs.Tests.{split, never, never-some}
 use Rattle.whole.specs.Below.{firstBelow}
 use Rattle.whole.proofs.Search.{first-some, first-more, first-rest, first-ext, none-below}
+use Rattle.rules.specs.declared.Layout.{Layout}
 use Rattle.rules.specs.declared.Rule.the-variants.{Any}
 use Rattle.rules.specs.Record.{Hour}
-use Rattle.rules.specs.HourFile.{hourly, word, blocks, blockWord, recordCount}
+use Rattle.rules.specs.HourFile.{word, blocks, blockWord, recordCount}
 use Rattle.rules.specs.Ranges.{keeps, firstBroken, pastRule, blockRule, headRule}
-use Rattle.rules.specs.Refusals.{isBroken, badLength, badBlock, badWord, badRecord, firstFault}
+use Rattle.rules.specs.Refusals.{isBroken, badBlock, badWord, badRecord, firstFault}
 use Rattle.rules.proofs.RuleTables.{zero-kept, block-words}
 use Rattle.rules.proofs.PartWords.{block-part-word}
 use Rattle.rules.proofs.Kept.{unbroken, held-most}
@@ -29,25 +30,29 @@ broken-more p n m l e = step (firstBelow p n) refl e
     step none q e = never e refl
     step (some i) q e = ap isBroken (first-more p n m i q l)
 
-module _ (n held b : ℕ) where
-  body-rule : (w : ℕ) → 7 ≤ w → blockRule hourly n held b w ≡ cond (eqb w 7) Any (pastRule hourly held b w)
+module _ (layout : Layout) (n held b : ℕ) where
+  -- where the records end
+  abbrev past : ℕ
+  past = 8 + layout .«words_per_record» * held
+
+  body-rule : (w : ℕ) → 7 ≤ w → blockRule layout n held b w ≡ cond (eqb w 7) Any (pastRule layout held b w)
   unfolding blockRule
   body-rule w l =
       rw block-words (rw (ne-eqb w 0 (λ e. omega arith), ne-eqb w 1 (λ e. omega arith), ne-eqb w 2 (λ e. omega arith), le-ltb w 7 l))
 
-  body-any : (w v : ℕ) → b ≡ 0 → 7 ≤ w → not (keeps (blockRule hourly n held b w) v) ≡ false
+  body-any : (w v : ℕ) → b ≡ 0 → 7 ≤ w → not (keeps (blockRule layout n held b w) v) ≡ false
   unfolding pastRule keeps
   body-any w v e l = rw (body-rule w l) (split (eqb w 7) (λ t. rw t) (λ t. rw (t, eq-eqb b 0 e)))
 
-  past-records : (w v : ℕ) → (b ≡ 0 → ⊥) → 7 ≤ w → not (keeps (blockRule hourly n held b w) v) ≡ (leb (8 + 12 * held) w && not (eqb v 0))
+  past-records : (w v : ℕ) → (b ≡ 0 → ⊥) → 7 ≤ w → not (keeps (blockRule layout n held b w) v) ≡ (leb past w && not (eqb v 0))
   unfolding pastRule keeps
   past-records w v f l = rw (body-rule w l) (split (eqb w 7)
-      (λ t. rw (t, lt-leb (8 + 12 * held) w (omega (arith, eqb-true w 7 t))))
-      (λ t. split (leb (8 + 12 * held) w) (λ u. rw (t, ne-eqb b 0 f, u) (ap not (zero-kept v))) (λ u. rw (t, ne-eqb b 0 f, u))))
+      (λ t. rw (t, lt-leb past w (omega (arith, eqb-true w 7 t))))
+      (λ t. split (leb past w) (λ u. rw (t, ne-eqb b 0 f, u) (ap not (zero-kept v))) (λ u. rw (t, ne-eqb b 0 f, u))))
 
   module _ (word : ℕ → ℕ) where
     abbrev brokenBelow : ℕ → Option ℕ
-    brokenBelow = firstBroken (blockRule hourly n held b) word
+    brokenBelow = firstBroken (blockRule layout n held b) word
 
     pub front-broken : isBroken (brokenBelow 7) ≡ true → isBroken (brokenBelow 128) ≡ true
     unfolding firstBroken
@@ -61,18 +66,18 @@ module _ (n held b : ℕ) where
 
     -- another block has zeros past its records
     pub past-front : isBroken (brokenBelow 7) ≡ false → (b ≡ 0 → ⊥) →
-        brokenBelow 128 ≡ firstBelow (λ w. leb (8 + 12 * held) w && not (eqb (word w) 0)) 128
+        brokenBelow 128 ≡ firstBelow (λ w. leb past w && not (eqb (word w) 0)) 128
     unfolding firstBroken
     past-front e f =
-        first-rest _ _ 7 128 (unbroken _ e) (λ w l. rw (lt-leb (8 + 12 * held) w (omega arith))) (λ w l m. past-records w (word w) f l)
+        first-rest _ _ 7 128 (unbroken _ e) (λ w l. rw (lt-leb past w (omega arith))) (λ w l m. past-records w (word w) f l)
 
 -- the layout of a block, read from its own 512 bytes
-pub block-part-broken : (s : List ℕ) (n b : ℕ) →
-    isBroken (firstBroken (blockRule hourly n (word (take 512 (drop (512 * b) s)) 2) b) (word (take 512 (drop (512 * b) s))) 128)
-    ≡ isBroken (firstBroken (blockRule hourly n (blockWord s b 2) b) (blockWord s b) 128)
+pub block-part-broken : (layout : Layout) (s : List ℕ) (n b : ℕ) →
+    isBroken (firstBroken (blockRule layout n (word (take 512 (drop (512 * b) s)) 2) b) (word (take 512 (drop (512 * b) s))) 128)
+    ≡ isBroken (firstBroken (blockRule layout n (blockWord s b 2) b) (blockWord s b) 128)
 unfolding firstBroken
-block-part-broken s n b = ap isBroken (first-ext _ _ 128 (λ w l. ap₂
-    (λ (held v : ℕ). not (keeps (blockRule hourly n held b w) v)) (block-part-word s b 2 (omega arith)) (block-part-word s b w l)))
+block-part-broken layout s n b = ap isBroken (first-ext _ _ 128 (λ w l. ap₂
+    (λ (held v : ℕ). not (keeps (blockRule layout n held b w) v)) (block-part-word s b 2 (omega arith)) (block-part-word s b w l)))
 
 -- ---- the head
 
@@ -131,12 +136,22 @@ module _ (h : Hour) where
       step none q e = q
       step (some j) q e = absurd (has-a-word j (badWord h j) (first-some (λ i. isBroken (badWord h i)) (h .count) j .0 q .1) e)
 
--- ---- a file whose blocks keep the layout holds at most ten records a block
+-- ---- a file whose blocks keep the layout holds no more records than its blocks may
 
-pub few-records : (s : List ℕ) → badLength hourly s ≡ none → badBlock hourly s ≡ none → recordCount hourly s ≤ 10 * (blocks s - 1)
+one-block-more : (full n : ℕ) → 1 < n → full * (n - 1) ≡ full * (n - 2) + full
+one-block-more full n m = ap (λ (k : ℕ). full * k) back ∙ more full (n - 2)
+  where
+    back : n - 1 ≡ n - 2 + 1
+    back = omega arith
+
+    more : (full k : ℕ) → full * (k + 1) ≡ full * k + full
+    more full k = omega arith
+
+pub few-records : (layout : Layout) (s : List ℕ) → badBlock layout s ≡ none →
+    recordCount layout s ≤ layout .«records_per_block» * (blocks s - 1)
 unfolding recordCount
-few-records s e f = split (leb (blocks s) 1)
+few-records layout s f = split (leb (blocks s) 1)
     (λ t. rw t zero-le)
     (λ t. let m : 1 < blocks s = leb-false (blocks s) 1 t in
-    let held : blockWord s (blocks s - 1) 2 ≤ 10 = held-most s e f (blocks s - 1) (omega arith) (omega arith) in
-    rw t (omega arith))
+    let held = held-most layout s f (blocks s - 1) (omega arith) (omega arith) in
+    rw t (omega (arith, one-block-more (layout .«records_per_block») (blocks s) m)))

@@ -15,6 +15,7 @@ use Rattle.whole.proofs.Ranges.{upto-pos}
 use Rattle.whole.proofs.Search.{first-none}
 use Rattle.rules.specs.declared.Kind.{Kind}
 use Rattle.rules.specs.declared.Kind.the-variants.{Generator, RealTimeLoad, ProfileLoad, Import, Export, Unknown}
+use Rattle.rules.specs.declared.Layout.{Layout}
 use Rattle.rules.specs.declared.Rule.{Rule}
 use Rattle.rules.specs.Record.{Hour, members, zones, areas, zonePrice, zoneOf, tieIn, tieOut, memberOf, areaOf, entry, entryOf}
 use Rattle.rules.specs.Record.{kindOf, isGenerator, isImport, signed}
@@ -171,19 +172,21 @@ module _ (h : Hour) (head-whole : badHead h ≡ none) (records-whole : badRecord
 
 -- ---- a file
 
+-- in any layout
+module _ (l : Layout) (s : List ℕ) (blocks-whole : badBlock l s ≡ none) where
+  -- word 2 of a block other than the first: at most so many records as a block may hold
+  pub held-most : (b : ℕ) → 1 ≤ b → b < blocks s → blockWord s b 2 ≤ l .«records_per_block»
+  unfolding badBlock blockRule countRule
+  held-most b m n =
+      let other : eqb b 0 ≡ false = ne-eqb b 0 (λ e. omega arith) in
+      let k = all-hold (blockRule l (blocks s) (blockWord s b 2) b) (blockWord s b) 128
+      (unbroken _ (first-none _ (blocks s) blocks-whole b n)) 2 (omega arith) in
+      split (ltb (b + 1) (blocks s)) (λ e. (rw (other, e) at k) .1) (λ e. (rw (other, e) at k) .1)
+
 module _ (s : List ℕ) (length-whole : badLength hourly s ≡ none) (blocks-whole : badBlock hourly s ≡ none) where
   length-good : lengthBad hourly s ≡ false
   unfolding badLength
   length-good = no-place (lengthBad hourly s) length-whole
-
-  -- word 2 of a block other than the first: at most ten records
-  pub held-most : (b : ℕ) → 1 ≤ b → b < blocks s → blockWord s b 2 ≤ 10
-  unfolding badBlock blockRule countRule
-  held-most b l m =
-      let other : eqb b 0 ≡ false = ne-eqb b 0 (λ e. omega arith) in
-      let k = all-hold (blockRule hourly (blocks s) (blockWord s b 2) b) (blockWord s b) 128
-      (unbroken _ (first-none _ (blocks s) blocks-whole b m)) 2 (omega arith) in
-      split (ltb (b + 1) (blocks s)) (λ e. (rw (other, e) at k) .1) (λ e. (rw (other, e) at k) .1)
 
   -- at most 26 blocks: 24 full ones between the first and the last
   count-most : hourOf hourly s .count ≤ 250
@@ -191,7 +194,7 @@ module _ (s : List ℕ) (length-whole : badLength hourly s ≡ none) (blocks-who
   count-most = let n = length-is-whole hourly s length-good in split (leb (blocks s) 1)
       (λ e. rw e zero-le)
       (λ e. let m : 1 < blocks s = leb-false (blocks s) 1 e in
-      let held : blockWord s (blocks s - 1) 2 ≤ 10 = held-most (blocks s - 1) (omega arith) (omega arith) in
+      let held : blockWord s (blocks s - 1) 2 ≤ 10 = held-most hourly s blocks-whole (blocks s - 1) (omega arith) (omega arith) in
       rw e (omega arith))
 
 -- A file whose rows 1 to 5 are whole keeps the ranges of document 01.

@@ -8,6 +8,7 @@ pub mod Text
 pub mod Rows
 pub mod RuleTables
 pub mod Words
+pub mod Layouts
 pub mod PartWords
 pub mod Kept
 pub mod Faults

@@ -1,5 +1,6 @@
--- Words of a part of a file: past the end, of a block's 512 bytes, of a record's 48. Document 01, "The hour file".
+-- Words of a part of a file: past the end, of a block's 512 bytes, of a record's. Document 01, "The hour file".
 use mathlib.Core.Path.{_≡_, sym, _∙_, ap}
+use mathlib.Core.Bool.{false}
 use mathlib.Core.List.{List}
 use Prim.Native.Nat.{ℕ, _+_, _*_, _/_, _%_, _≤_, _<_}
 use native.Mathlib.Omega.{arith}
@@ -7,8 +8,10 @@ use lib.ListN.{length, getD, take, drop, List·getD-eq-default}
 use lib.Seq.{getD-drop, getD-take}
 use Rattle.whole.specs.Below.{sumBelow}
 use Rattle.whole.proofs.Sums.{sum-ext}
-use Rattle.rules.specs.HourFile.{hourly, word, blockWord, blockSum, recordCount, recordWord, hourOf}
-use Rattle.rules.proofs.Words.{head-word, record-word}
+use Rattle.rules.specs.declared.Layout.{Layout}
+use Rattle.rules.specs.HourFile.{hourly, FitsBody, word, blockWord, blockSum, lengthBad, body, recordCount, recordWord, hourOf}
+use Rattle.rules.proofs.Words.{body-word, head-word, record-word}
+use Rattle.rules.proofs.Layouts.{ends-inside}
 
 module _ (s : List ℕ) where
   byte-past : (i : ℕ) → length s ≤ i → getD s i 0 ≡ 0
@@ -51,11 +54,21 @@ module _ (s : List ℕ) where
   pub head-part-word : (w : ℕ) → 8 ≤ w → w < 128 → word (take 512 (drop (512 * 0) s)) w ≡ hourOf hourly s .head w
   head-part-word w l m = block-part-word 0 w m ∙ sym (head-word hourly s w l m)
 
-  -- ---- a record: behind the first block, ten to a block
+-- ---- a record: a part of its block's body
 
-  pub record-part-word : (i w : ℕ) → i < recordCount hourly s → w < 12 →
-      word (take 48 (drop (544 + 48 * i + 32 * (i / 10)) s)) w ≡ hourOf hourly s .rec i w
-  unfolding recordWord blockWord
-  record-part-word i w k l =
-      part-word (544 + 48 * i + 32 * (i / 10)) 48 w (128 * (1 + i / 10) + (8 + 12 * (i % 10) + w)) (omega arith) (omega arith)
-      ∙ sym (record-word hourly s i w k l)
+module _ {l : Layout} (fit : FitsBody l) (s : List ℕ) (i : ℕ) (good : lengthBad l s ≡ false) where
+  abbrev from : ℕ
+  from = 4 * l .«words_per_record» * (i % l .«records_per_block»)
+
+  pub record-part-word : (w : ℕ) → i < recordCount l s → w < l .«words_per_record» →
+      word (take (4 * l .«words_per_record») (drop from (body l s (1 + i / l .«records_per_block»)))) w ≡ hourOf l s .rec i w
+  unfolding recordWord
+  record-part-word w k m =
+      let before : ℕ = l .«words_per_record» * (i % l .«records_per_block») in
+      part-word (body l s (1 + i / l .«records_per_block»)) from (4 * l .«words_per_record») w (before + w) (omega arith) (omega arith)
+      ∙ body-word l s (1 + i / l .«records_per_block») good (before + w) (omega (arith, ends-inside fit i))
+      ∙ ap (blockWord s (1 + i / l .«records_per_block»)) (sym (grouped before))
+      ∙ sym (record-word l s i w k m)
+    where
+      grouped : (before : ℕ) → 8 + before + w ≡ 8 + (before + w)
+      grouped before = omega arith

@@ -6,7 +6,7 @@ use mathlib.Core.List.{List, []}
 use Prim.Native.Nat.{ℕ, _+_, _*_, _%_, _≤_, _<_}
 use native.Mathlib.Omega.{arith}
 use lib.IntN.{natAbs}
-use lib.ListN.{length, getD, drop, length-drop, List·getD-eq-default}
+use lib.ListN.{length, getD, take, drop, length-drop, List·getD-eq-default}
 use lib.Seq.{length-take-le, getD-drop, getD-take}
 use lib.Dec.{ltb, leb, eqb}
 use borrow.Author.Tests.{ltb-true, ltb-false, leb-true, lt-ltb, le-ltb, le-leb, lt-leb, eqb-true, eqb-false, not-false}
@@ -16,7 +16,8 @@ use Rattle.rules.specs.declared.Rule.{Rule}
 use Rattle.rules.specs.declared.Rule.the-variants.{Any, Between, LessThan, AtMostInSize}
 use Rattle.rules.specs.Record.{signed}
 use Rattle.rules.specs.Ranges.{keeps}
-use Rattle.rules.specs.HourFile.{Layout, word, blocks, blockWord, lengthBad, body, recordCount, recordWord, hourOf}
+use Rattle.rules.specs.declared.Layout.{Layout}
+use Rattle.rules.specs.HourFile.{word, blocks, blockWord, lengthBad, body, recordCount, recordWord, hourOf}
 
 -- ---- rules
 
@@ -39,7 +40,7 @@ holds (AtMostInSize n) v e = record { under = leb-true (natAbs (signed v)) n e }
 -- a length that row 1 lets pass: whole blocks, at least one and at most so many
 pub record WholeBlocks (l : Layout) (s : List ℕ) : Type 0 where
   pub no-rest : length s % 512 ≡ 0
-  pub most : length s ≤ 512 * l .mostBlocks
+  pub most : length s ≤ 512 * l .«most_blocks»
   pub at-least-one : 1 ≤ blocks s
   pub all-blocks : length s ≡ 512 * blocks s
 
@@ -47,11 +48,11 @@ module _ (l : Layout) (s : List ℕ) where
   pub length-is-whole : lengthBad l s ≡ false → WholeBlocks l s
   unfolding lengthBad blocks
   length-is-whole e =
-      let a = neither (eqb (length s) 0 || not (eqb (length s % 512) 0)) (ltb (512 * l .mostBlocks) (length s)) e in
+      let a = neither (eqb (length s) 0 || not (eqb (length s % 512) 0)) (ltb (512 * l .«most_blocks») (length s)) e in
       let b = neither (eqb (length s) 0) (not (eqb (length s % 512) 0)) (a .0) in
       let some : length s ≡ 0 → ⊥ = eqb-false (length s) 0 (b .0) in
       let rest : length s % 512 ≡ 0 = eqb-true (length s % 512) 0 (not-false _ (b .1)) in
-      let most : length s ≤ 512 * l .mostBlocks = ltb-false (512 * l .mostBlocks) (length s) (a .1) in
+      let most : length s ≤ 512 * l .«most_blocks» = ltb-false (512 * l .«most_blocks») (length s) (a .1) in
       record { no-rest = rest; most = most; at-least-one = omega arith; all-blocks = omega arith }
 
 -- ---- the block reader
@@ -62,6 +63,11 @@ module _ (l : Layout) (s : List ℕ) (b : ℕ) where
   body-length e h =
       let w = length-is-whole l s e in
       rw (e, lt-leb (blocks s) b h) (length-take-le 480 (drop (512 * b + 32) s) (omega (arith, length-drop (512 * b + 32) s)))
+
+  -- the bytes behind the block's own words, where the length is good and the block is there
+  pub body-there : lengthBad l s ≡ false → b < blocks s → body l s b ≡ take 480 (drop (512 * b + 32) s)
+  unfolding body
+  body-there e h = rw (e, lt-leb (blocks s) b h)
 
   -- otherwise the part is empty: the length is bad, or there is no such block
   pub body-empty-bad : lengthBad l s ≡ true → body l s b ≡ []
@@ -113,6 +119,6 @@ module _ (l : Layout) (s : List ℕ) where
   unfolding hourOf
   head-past w h = split (leb 8 w) (λ t. rw (t, le-ltb w 128 h)) (λ t. rw t)
 
-  pub record-word : (i w : ℕ) → i < recordCount l s → w < l .recordWords → hourOf l s .rec i w ≡ recordWord l s i w
+  pub record-word : (i w : ℕ) → i < recordCount l s → w < l .«words_per_record» → hourOf l s .rec i w ≡ recordWord l s i w
   unfolding hourOf
-  record-word i w h k = rw (lt-ltb i (recordCount l s) h, lt-ltb w (l .recordWords) k)
+  record-word i w h k = rw (lt-ltb i (recordCount l s) h, lt-ltb w (l .«words_per_record») k)

@@ -1,22 +1,32 @@
 -- The hour file: words, blocks, the block reader, and the hour that a file holds. Document 01, "The hour file".
-use Prim.Native.Nat.{ℕ, _+_, _-_, _*_, _/_, _%_}
+use Prim.Native.Nat.{ℕ, _+_, _-_, _*_, _/_, _%_, _≤_}
 use mathlib.Core.Bool.{Bool, not, cond, _&&_, _||_}
 use mathlib.Core.List.{List, []}
 use lib.ListN.{length, getD, take, drop}
 use lib.Dec.{ltb, leb, eqb}
 use Rattle.whole.specs.Below.{sumBelow}
+use Rattle.rules.specs.declared.Layout.{Layout}
 use Rattle.rules.specs.Record.{Hour}
 
--- what one kind of file lays down: word 0 of the first and of every other block, the most blocks, records to a block, words to a record
-pub record Layout : Type 0 where
-  pub firstMark : ℕ
-  pub otherMark : ℕ
-  pub mostBlocks : ℕ
-  pub recordsPerBlock : ℕ
-  pub recordWords : ℕ
+-- ---- layouts: what one kind of file lays down
 
+-- the first release's hour file
 abbrev pub hourly : Layout
-hourly = record { firstMark = 1; otherMark = 2; mostBlocks = 26; recordsPerBlock = 10; recordWords = 12 }
+hourly =
+    record { «first_mark» = 1; «other_mark» = 2; «most_blocks» = 26; «records_per_block» = 10; «words_per_record» = 12 }
+
+-- the file of ten-minute settlement
+abbrev pub tenMinutes : Layout
+tenMinutes =
+    record { «first_mark» = 3; «other_mark» = 4; «most_blocks» = 17; «records_per_block» = 4; «words_per_record» = 30 }
+
+-- the records that a block may hold fit into its body of 120 words
+pub record FitsBody (l : Layout) : Type 0 where
+  pub some-records : 1 ≤ l .«records_per_block»
+  pub some-words : 1 ≤ l .«words_per_record»
+  pub no-longer : l .«words_per_record» * l .«records_per_block» ≤ 120
+
+-- ---- words and blocks
 
 -- the k-th word of the bytes s, little-endian; past the end it is 0
 unfoldable pub word : List ℕ → ℕ → ℕ
@@ -37,7 +47,7 @@ blockSum s b = sumBelow (blockWord s b) 128 % 0x1_0000_0000
 module _ (l : Layout) (s : List ℕ) where
   -- refusal 1: length 0, not a multiple of 512, or over the most blocks
   unfoldable pub lengthBad : Bool
-  lengthBad = eqb (length s) 0 || not (eqb (length s % 512) 0) || ltb (512 * l .mostBlocks) (length s)
+  lengthBad = eqb (length s) 0 || not (eqb (length s % 512) 0) || ltb (512 * l .«most_blocks») (length s)
 
   -- the block reader: the 480 bytes of body b, or an empty part
   unfoldable pub body : ℕ → List ℕ
@@ -45,16 +55,16 @@ module _ (l : Layout) (s : List ℕ) where
 
   -- every block but the first and the last is full
   unfoldable pub recordCount : ℕ
-  recordCount = cond (leb (blocks s) 1) 0 (l .recordsPerBlock * (blocks s - 2) + blockWord s (blocks s - 1) 2)
+  recordCount = cond (leb (blocks s) 1) 0 (l .«records_per_block» * (blocks s - 2) + blockWord s (blocks s - 1) 2)
 
   -- word w of record i
   unfoldable pub recordWord : ℕ → ℕ → ℕ
-  recordWord i w = blockWord s (1 + i / l .recordsPerBlock) (8 + l .recordWords * (i % l .recordsPerBlock) + w)
+  recordWord i w = blockWord s (1 + i / l .«records_per_block») (8 + l .«words_per_record» * (i % l .«records_per_block») + w)
 
   -- what the file says, and 0 at every place that it has not: the head is words 8 to 127 of the first block
   unfoldable pub hourOf : Hour
   hourOf = record {
     head = λ w. cond (leb 8 w && ltb w 128) (blockWord s 0 w) 0;
     count = recordCount;
-    rec = λ i w. cond (ltb i recordCount && ltb w (l .recordWords)) (recordWord i w) 0;
+    rec = λ i w. cond (ltb i recordCount && ltb w (l .«words_per_record»)) (recordWord i w) 0;
   }

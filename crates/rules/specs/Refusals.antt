@@ -17,7 +17,8 @@ use Rattle.rules.specs.Record.{Hour, members, zones, areas}
 use Rattle.rules.specs.Ufe.{ufe, demands}
 use Rattle.rules.specs.Charge.{amount}
 use Rattle.rules.specs.Text.{amountText, amountIn}
-use Rattle.rules.specs.HourFile.{Layout, hourly, lengthBad, blocks, blockWord, blockSum, hourOf}
+use Rattle.rules.specs.declared.Layout.{Layout}
+use Rattle.rules.specs.HourFile.{hourly, lengthBad, blocks, blockWord, blockSum, hourOf}
 use Rattle.rules.specs.Ranges.{firstBroken, blockRule, headRule, recordRule}
 
 -- ---- number and place

@@ -1,6 +1,7 @@
-// The types that several crates share. The definitions of document 01 stand in specs/, the theorems about them in proofs/; nothing here
-// runs.
+// The types that several crates share, and the layouts of files. The definitions of document 01 stand in specs/, the theorems about them in
+// proofs/; nothing is computed here.
 ghost use mathlib.Core.Path.{_≡_};
+ghost use Rattle.rules.specs.HourFile as HourFile;
 
 // What a record is about (document 01, "The hour file", record words). A number that names none of the five is Unknown; row 5 refuses it.
 pub enum Kind {
@@ -32,6 +33,15 @@ pub enum Rule {
     Between(u32, u32),
     LessThan(u32),
     AtMostInSize(u32),
+}
+
+// What one kind of file lays down: word 0 of the first and of every other block, the most blocks, records to a block, words to a record.
+pub struct Layout {
+    pub first_mark: u32,
+    pub other_mark: u32,
+    pub most_blocks: usize,
+    pub records_per_block: usize,
+    pub words_per_record: usize,
 }
 
 // What a search finds.
@@ -68,9 +78,30 @@ pub struct Reading {
     pub amount: i64,
 }
 
-// A crate holds a function; this one has nothing to compute.
-pub fn nothing() -> u32
-    ensures { λ r. ⌜ r ≡ 0 ⌝ }
+// ---- layouts
+
+// The first release's hour file.
+pub fn hourly() -> Layout
+    ensures { λ r. ⌜ r ≡ HourFile.hourly ⌝ }
 {
-    0
+    Layout {
+        first_mark: 1,
+        other_mark: 2,
+        most_blocks: 26,
+        records_per_block: 10,
+        words_per_record: 12,
+    }
+}
+
+// The file of ten-minute settlement.
+pub fn ten_minutes() -> Layout
+    ensures { λ r. ⌜ r ≡ HourFile.tenMinutes ⌝ }
+{
+    Layout {
+        first_mark: 3,
+        other_mark: 4,
+        most_blocks: 17,
+        records_per_block: 4,
+        words_per_record: 30,
+    }
 }

@@ -8,10 +8,11 @@ ghost use lib.IntN.{natAbs};
 ghost use lib.ListN.{getD};
 ghost use lib.Dec.{eqb};
 ghost use Rattle.rules.specs.Record as Record;
-ghost use Rattle.rules.specs.HourFile.{hourly};
+ghost use Rattle.rules.specs.HourFile.{FitsBody};
 ghost use Rattle.rules.specs.Ranges as Ranges;
 ghost use Rattle.rules.specs.declared.Kind.the-variants as Kinds;
 ghost use Rattle.rules.specs.declared.Rule.the-variants as Rules;
+use rules::Layout;
 use rules::Rule;
 
 const ZERO: Rule = Rule::Between(0, 0);
@@ -57,18 +58,19 @@ fn only(v: u32) -> Rule
 }
 
 // Word 0: the mark of the first block, or of another.
-fn mark_rule(b: u32) -> Rule
-    ensures { λ r. ⌜ r ≡ Ranges.mustBe (cond (eqb b 0) (hourly .firstMark) (hourly .otherMark)) ⌝ }
+fn mark_rule(layout: Layout, b: u32) -> Rule
+    ensures { λ r. ⌜ r ≡ Ranges.mustBe (cond (eqb b 0) (layout .«first_mark») (layout .«other_mark»)) ⌝ }
 {
     if b == 0 {
-        return only(1);
+        return only(layout.first_mark);
     }
-    only(2)
+    only(layout.other_mark)
 }
 
 // Word 2 of block `b` of `n`: the other blocks, or the records that the block holds.
-fn count_rule(n: u32, b: u32) -> Rule
-    ensures { λ r. ⌜ r ≡ Ranges.countRule hourly n b ⌝ }
+fn count_rule(layout: Layout, n: u32, b: u32) -> Rule
+    requires { ⌜ FitsBody layout ⌝ }
+    ensures { λ r. ⌜ r ≡ Ranges.countRule layout n b ⌝ }
 {
     if b == 0 {
         if n == 0 {
@@ -76,39 +78,42 @@ fn count_rule(n: u32, b: u32) -> Rule
         }
         return only(n - 1);
     }
+    let full = layout.records_per_block as u32;
     if b < n {
         if b + 1 < n {
-            return only(10);
+            return only(full);
         }
     }
-    Rule::Between(1, 10)
+    Rule::Between(1, full)
 }
 
 // The body of block `b`, which says that it holds `held` records.
-fn past_rule(held: u32, b: u32, w: usize) -> Rule
-    ensures { λ r. ⌜ r ≡ Ranges.pastRule hourly held b w ⌝ }
+fn past_rule(layout: Layout, held: u32, b: u32, w: usize) -> Rule
+    requires { ⌜ FitsBody layout ⌝ }
+    ensures { λ r. ⌜ r ≡ Ranges.pastRule layout held b w ⌝ }
 {
     if b == 0 {
         return Rule::Any;
     }
-    if 8 + 12 * (held as usize) <= w {
+    if 8 + layout.words_per_record * (held as usize) <= w {
         return ZERO;
     }
     Rule::Any
 }
 
 // Word `w` of block `b` of `n`, which says that it holds `held` records.
-pub fn block_rule(n: u32, held: u32, b: u32, w: usize) -> Rule
-    ensures { λ r. ⌜ r ≡ Ranges.blockRule hourly n held b w ⌝ }
+pub fn block_rule(layout: Layout, n: u32, held: u32, b: u32, w: usize) -> Rule
+    requires { ⌜ FitsBody layout ⌝ }
+    ensures { λ r. ⌜ r ≡ Ranges.blockRule layout n held b w ⌝ }
 {
     if w == 0 {
-        return mark_rule(b);
+        return mark_rule(layout, b);
     }
     if w == 1 {
         return only(b);
     }
     if w == 2 {
-        return count_rule(n, b);
+        return count_rule(layout, n, b);
     }
     if w < 7 {
         return ZERO;
@@ -116,7 +121,7 @@ pub fn block_rule(n: u32, held: u32, b: u32, w: usize) -> Rule
     if w == 7 {
         return Rule::Any;
     }
-    past_rule(held, b, w)
+    past_rule(layout, held, b, w)
 }
 
 // ---- words of the head

@@ -5,24 +5,33 @@ use mathlib.Core.Option.{none}
 use mathlib.Core.List.{List}
 use Prim.Native.Nat.{ℕ}
 use native.Mathlib.Omega.{arith}
+use Rattle.rules.specs.declared.Layout.{Layout}
 use Rattle.rules.specs.HourFile.{hourly, lengthBad}
 use Rattle.rules.specs.Refusals.{foundAt, verdict, badLength, badSum, badBlock, tableRows, fileRows}
+use Rattle.rules.proofs.Layouts.{hourly-fits}
 use Rattle.rules.proofs.Words.{length-is-whole}
 use Rattle.rules.proofs.Faults.{few-records}
 use Rattle.examine.proofs.examine.Statement.{statement}
 use Rattle.examine.proofs.examine.Tie as tie
 
+-- row 1 in the hourly layout, which is the one in hand
+module _ (c : tie.After-length-bad) where
+  abbrev given : tie.Start
+  given = c .before .before .before
+
+  length-told : c .length-bad .result ≡ lengthBad hourly (given .args .file .now)
+  length-told = c .length-bad .ensures ∙ ap (λ (l : Layout). lengthBad l (given .args .file .now)) (c .before .hourly .ensures)
+
 -- row 1 passed: the length is good
 module _ (c : tie.Else1) where
   abbrev file : List ℕ
-  file = c .before .before .before .args .file .now
+  file = given (c .before) .args .file .now
+
+  abbrev in-hand : c .before .before .hourly .result ≡ hourly
+  in-hand = c .before .before .hourly .ensures
 
   length-good : lengthBad hourly file ≡ false
-  length-good = sym (c .before .length-bad .ensures) ∙ c .if1 .left
-
-  length-passed : badLength hourly file ≡ none
-  unfolding badLength
-  length-passed = rw length-good
+  length-good = sym (length-told (c .before)) ∙ c .if1 .left
 
 -- row 2 passed: no sum is bad
 module _ (c : tie.After-enum-told) where
@@ -32,20 +41,27 @@ module _ (c : tie.After-enum-told) where
   sums-good : badSum (file row-1) ≡ none
   sums-good = sym (c .before .before .bad-sum .ensures) ∙ ap foundAt (c .enum-told .given .1)
 
+-- row 3 in the hourly layout
+blocks-told : (c : tie.After-bad-block) → foundAt (c .bad-block .result) ≡ badBlock hourly (file (row-1 (c .before)))
+blocks-told c = c .bad-block .ensures ∙ ap (λ (l : Layout). badBlock l (file (row-1 (c .before)))) (in-hand (row-1 (c .before)))
+
 -- row 3 passed: no block is bad
 module _ (c : tie.After-enum-told2) where
   abbrev row-2 : tie.After-enum-told
   row-2 = c .before .before .before
 
   blocks-good : badBlock hourly (file (row-1 row-2)) ≡ none
-  blocks-good = sym (c .before .before .bad-block .ensures) ∙ ap foundAt (c .enum-told2 .given .1)
+  blocks-good = sym (blocks-told (c .before .before)) ∙ ap foundAt (c .enum-told2 .given .1)
+
+hourly-requires : tie.Need-hourly-requires
+hourly-requires c κs = tt
 
 length-bad-requires : tie.Need-length-bad-requires
 length-bad-requires c κs = tt
 
 returns : tie.Need-returns
 unfolding verdict fileRows tableRows badLength
-returns c = simp (sym (c .before .length-bad .ensures) ∙ c .if1 .taken)
+returns c = simp (sym (length-told (c .before)) ∙ c .if1 .taken)
 
 bad-sum-requires : tie.Need-bad-sum-requires
 bad-sum-requires c κs = tt
@@ -63,7 +79,9 @@ enum-told : tie.Need-enum-told
 enum-told c = c .match .keys2
 
 bad-block-requires : tie.Need-bad-block-requires
-bad-block-requires c κs = length-is-whole hourly _ (length-good (row-1 c)) .most
+bad-block-requires c κs =
+    let whole = length-is-whole hourly _ (length-good (row-1 c)) in
+    (rw (in-hand (row-1 c)) hourly-fits, omega (arith, whole .most, whole .all-blocks))
 
 enum-known-b-2 : tie.Need-enum-known-b-2
 enum-known-b-2 c = c .match2 .keys1
@@ -73,7 +91,7 @@ unfolding verdict fileRows tableRows badLength
 returns-3 c =
     let searched = c .before .before .before in
     let sums = searched .before in
-    simp (length-good (row-1 sums), sums-good sums, sym (searched .bad-block .ensures) ∙ ap foundAt (c .before .b2 .given .1))
+    simp (length-good (row-1 sums), sums-good sums, sym (blocks-told searched) ∙ ap foundAt (c .before .b2 .given .1))
 
 enum-told-2 : tie.Need-enum-told-2
 enum-told-2 c = c .match2 .keys2
@@ -81,8 +99,10 @@ enum-told-2 c = c .match2 .keys2
 examine-hour-requires : tie.Need-examine-hour-requires
 examine-hour-requires c κs =
     let length = row-1 (row-2 c) in
-    let whole = length-is-whole hourly (file length) (length-good length) in
-    (omega arith, few-records (file length) (length-passed length) (blocks-good c))
+    record {
+      length-good = length-good length;
+      few-records = few-records hourly (file length) (blocks-good c);
+    }
 
 returns-4 : tie.Need-returns-4
 unfolding verdict fileRows tableRows badLength
@@ -94,6 +114,7 @@ pub examine-spec : {M : Type 1} → statement M
 examine-spec =
     tie.close
     (tie.spec
+    hourly-requires
     length-bad-requires
     returns
     bad-sum-requires

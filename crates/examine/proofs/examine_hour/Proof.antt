@@ -4,6 +4,7 @@ use mathlib.Core.Option.{none}
 use native.Mathlib.Omega.{arith}
 use Rattle.rules.specs.HourFile.{hourly, hourOf}
 use Rattle.rules.specs.Refusals.{foundAt, badHead, verdict, tableRows, fileRows}
+use Rattle.rules.proofs.Words.{length-is-whole}
 use Rattle.rules.proofs.Faults.{fault-record, fault-nowhere}
 use Rattle.examine.specs.Fault.{faultAt}
 use Rattle.examine.proofs.examine_hour.Statement.{statement}
@@ -15,7 +16,9 @@ module _ (c : tie.After-enum-told) where
   head-good = sym (c .before .before .bad-head .ensures) ∙ ap foundAt (c .enum-told .given .1)
 
 bad-head-requires : tie.Need-bad-head-requires
-bad-head-requires c κs = omega arith
+bad-head-requires c κs =
+    let whole = length-is-whole hourly _ (c .before .pre .length-good) in
+    omega (arith, whole .all-blocks, whole .at-least-one)
 
 enum-known-w : tie.Need-enum-known-w
 enum-known-w c = c .match .keys1
@@ -28,7 +31,7 @@ enum-told : tie.Need-enum-told
 enum-told c = c .match .keys2
 
 first-fault-requires : tie.Need-first-fault-requires
-first-fault-requires c κs = omega arith
+first-fault-requires c κs = c .before .before .before .before .pre
 
 enum-known-i : tie.Need-enum-known-i
 enum-known-i c = c .match2 .keys1

@@ -2,7 +2,7 @@
 -- record no word passed.
 use mathlib.Core.Path.{_≡_, refl, sym, _∙_, ap}
 use mathlib.Core.Logic.{⊎-elim}
-use mathlib.Core.Bool.{Bool, true, not}
+use mathlib.Core.Bool.{Bool, true, false, not}
 use mathlib.Core.Option.{none, some}
 use mathlib.Core.List.{List}
 use Prim.Native.Nat.{ℕ, _-_, _<_}
@@ -10,12 +10,12 @@ use native.Mathlib.Omega.{arith}
 use Rattle.whole.specs.Below.{firstBelow}
 use Rattle.whole.proofs.Search.{first-next, first-hit, first-less}
 use Rattle.rules.specs.Record.{Hour, members, areas}
-use Rattle.rules.specs.HourFile.{hourly, word, blocks, hourOf}
+use Rattle.rules.specs.HourFile.{hourly, word, lengthBad, blocks, hourOf}
 use Rattle.rules.specs.Ranges.{keeps, recordRule, firstBroken}
 use Rattle.rules.specs.Refusals.{isBroken, badWord, badRecord, firstFault}
 use Rattle.rules.proofs.Words.{record-count}
 use Rattle.rules.proofs.Faults.{fault-at, no-fault}
-use Rattle.hourfile.specs.Part.{recordPart}
+use Rattle.blocks.specs.Part.{recordPart}
 use Rattle.hourfile.proofs.Rows.{part-word}
 use Rattle.examine.proofs.first_fault.Statement.{statement}
 use Rattle.examine.proofs.first_fault.Tie as tie
@@ -64,16 +64,19 @@ module _ (turn : tie.At-rows Inv-loop μ-loop Inv-rows μ-rows) where
       let areas-read = turn .before .before in
       not (keeps (recordRule (areas-read .before .head-word .result) (areas-read .head-word2 .result) kind w) (word row w))
 
+  good : lengthBad hourly file ≡ false
+  good = turn .before .before .before .before .before .pre .length-good
+
   there : at < counted → at < hourOf hourly file .count
   there l = rw (← turn .before .records .ensures) l
 
   -- what the code has read of the record's part is the file's record
-  module _ {row : List ℕ} {kind : ℕ} (l : at < counted) (part : row ≡ recordPart file at) (e : kind ≡ word row 0) where
+  module _ {row : List ℕ} {kind : ℕ} (l : at < counted) (part : row ≡ recordPart hourly file at) (e : kind ≡ word row 0) where
     told : (w : ℕ) → w < 12 → judged row kind w ≡ word-bad file at w
     told w m =
         let areas-read = turn .before .before in
-        let kind-is = e ∙ part-word file at (there l) part 0 (omega arith) in
-        let word-is = part-word file at (there l) part w m in
+        let kind-is = e ∙ part-word file at good (there l) part 0 (omega arith) in
+        let word-is = part-word file at good (there l) part w m in
         alike file at w _ _ _ _ (areas-read .before .head-word .ensures) (areas-read .head-word2 .ensures) kind-is word-is
 
     -- a word that breaks its rule, with none before it, is the first fault
@@ -100,7 +103,10 @@ rows-holds c = refl
 
 record-requires : tie.Need-record-requires Inv-loop μ-loop Inv-rows μ-rows
 unfolding blocks
-record-requires c κs = omega (arith, record-count hourly (file (c .before)))
+record-requires c κs =
+    let turn = c .before in
+    let few = turn .before .before .before .before .before .pre .few-records in
+    record { length-good = good turn; block-there = omega (arith, record-count hourly (file turn), few) }
 
 word-requires : tie.Need-word-requires Inv-loop μ-loop Inv-rows μ-rows
 word-requires c κs = tt

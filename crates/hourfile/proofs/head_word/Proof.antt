@@ -1,21 +1,13 @@
--- `hourfile::head_word` meets its contract: words 8 to 127 of the first block, and 0 elsewhere.
-use mathlib.Core.Path.{sym, _∙_}
+-- `hourfile::head_word` meets its contract: the head is the same in every layout.
 use Rattle.rules.specs.HourFile.{hourly}
-use Rattle.rules.proofs.Words.{head-word, head-before, head-past}
 use Rattle.hourfile.proofs.head_word.Statement.{statement}
 use Rattle.hourfile.proofs.head_word.Tie as tie
 
+head-word-requires : tie.Need-head-word-requires
+head-word-requires c κs = tt
+
 returns : tie.Need-returns
-returns c = sym (head-before hourly _ _ (c .if1 .taken))
-
-block-word-requires : tie.Need-block-word-requires
-block-word-requires c κs = tt
-
-returns-2 : tie.Need-returns-2
-returns-2 c = c .block-word .ensures ∙ sym (head-word hourly _ _ (c .before .before .if1 .left) (c .before .if2 .taken))
-
-returns-3 : tie.Need-returns-3
-returns-3 c = sym (head-past hourly _ _ (c .if2 .left))
+returns c = c .head-word .ensures hourly
 
 pub head-word-spec : {M : Type 1} → statement M
-head-word-spec = tie.close (tie.spec returns block-word-requires returns-2 returns-3)
+head-word-spec = tie.close (tie.spec head-word-requires returns)

@@ -1,10 +1,11 @@
--- `wordrules::count_rule` meets its contract: the tests are the definition's.
+-- `wordrules::count_rule` meets its contract: the tests are the definition's. Records to a block are few.
 use mathlib.Core.Path.{_∙_}
 use Prim.Native.Nat.{_+_}
 use native.Mathlib.Omega.{arith}
 use borrow.Author.Needs.{needs}
 use borrow.Author.Tests.{lt-ltb, le-ltb, eq-eqb, ne-eqb}
 use Rattle.rules.specs.Ranges.{countRule}
+use Rattle.rules.proofs.Layouts.{few-to-a-block}
 use Rattle.wordrules.proofs.count_rule.Statement.{statement}
 use Rattle.wordrules.proofs.count_rule.Tie as tie
 
@@ -22,6 +23,9 @@ returns-2 : tie.Need-returns-2
 unfolding countRule
 returns-2 c = c .only .ensures ∙ simp (eq-eqb _ _ (c .before .before .if1 .taken))
 
+cast-full : tie.Need-cast-full
+cast-full c = omega (arith, few-to-a-block (c .before .before .pre))
+
 add-if4 : tie.Need-add-if4
 add-if4 c = search needs
 
@@ -30,17 +34,17 @@ only-requires-2 c κs = search needs
 
 returns-3 : tie.Need-returns-3
 unfolding countRule
-returns-3 c = c .only2 .ensures ∙ simp (ne-eqb _ _ (c .before .before .before .if1 .left), lt-ltb _ _ (c .before .if4 .taken))
+returns-3 c = c .only2 .ensures ∙ simp (ne-eqb _ _ (c .before .before .before .before .if1 .left), lt-ltb _ _ (c .before .if4 .taken))
 
 returns-4 : tie.Need-returns-4
 unfolding countRule
-returns-4 c = simp (ne-eqb _ _ (c .before .before .if1 .left), le-ltb _ _ (c .if4 .left))
+returns-4 c = simp (ne-eqb _ _ (c .before .before .before .if1 .left), le-ltb _ _ (c .if4 .left))
 
 returns-5 : tie.Need-returns-5
 unfolding countRule
 returns-5 c =
-    let at = c .before .before .args in
-    simp (ne-eqb _ _ (c .before .if1 .left), le-ltb (at .b + 1) (at .n) (omega arith))
+    let at = c .before .before .before .args in
+    simp (ne-eqb _ _ (c .before .before .if1 .left), le-ltb (at .b + 1) (at .n) (omega arith))
 
 pub count-rule-spec : {M : Type 1} → statement M
 count-rule-spec =
@@ -50,6 +54,7 @@ count-rule-spec =
     sub-only
     only-requires
     returns-2
+    cast-full
     add-if4
     only-requires-2
     returns-3

@@ -1,0 +1,3 @@
+-- What the contracts of `blocks` cite beside `rules`.
+pub mod Part
+pub mod Broken

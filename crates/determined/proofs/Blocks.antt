@@ -1,0 +1,58 @@
+-- Functions of a file of blocks in any layout: words, parts, the sums of the blocks and their layout.
+use contract.Lifetimes.{Lfts}
+use denote.Ref.{now}
+use Rattle.rules.specs.HourFile.{hourly}
+use Rattle.determined.specs.Determined.{OneResult, OnePart}
+use Rattle.determined.proofs.Laws.{agree, agree-found}
+use Rattle.blocks.proofs.whole_word.Reads as whole-word
+use Rattle.blocks.proofs.word.Reads as word
+use Rattle.blocks.proofs.length_bad.Reads as length-bad
+use Rattle.blocks.proofs.count.Reads as count
+use Rattle.blocks.proofs.block.Reads as block-of
+use Rattle.blocks.proofs.body.Reads as body
+use Rattle.blocks.proofs.head_word.Reads as head-word
+use Rattle.blocks.proofs.sum_of.Reads as sum-of
+use Rattle.blocks.proofs.bad_sum.Reads as bad-sum
+use Rattle.blocks.proofs.first_not_zero.Reads as first-not-zero
+use Rattle.blocks.proofs.bad_block.Reads as bad-block
+use Rattle.blocks.proofs.records.Reads as records
+use Rattle.blocks.proofs.record.Reads as record-of
+
+pub one-whole-word : (κs : Lfts 1) → OneResult (whole-word.Post κs)
+one-whole-word κs a x y s t = agree
+
+pub one-word : (κs : Lfts 1) → OneResult (word.Post κs)
+one-word κs a x y s t = agree
+
+pub one-length-bad : (κs : Lfts 1) → OneResult (length-bad.Post κs)
+one-length-bad κs a x y s t = agree
+
+pub one-count : (κs : Lfts 1) → OneResult (count.Post κs)
+one-count κs a x y s t = agree
+
+pub one-block : (κs : Lfts 1) → OnePart (block-of.Post κs) now
+one-block κs a x y s t = agree
+
+pub one-body : (κs : Lfts 1) → OnePart (body.Post κs) now
+one-body κs a x y s t = agree
+
+pub one-head-word : (κs : Lfts 1) → OneResult (head-word.Post κs)
+one-head-word κs a x y s t = λ p q. agree (p hourly) (q hourly)
+
+pub one-sum-of : (κs : Lfts 1) → OneResult (sum-of.Post κs)
+one-sum-of κs a x y s t = agree
+
+pub one-bad-sum : (κs : Lfts 1) → OneResult (bad-sum.Post κs)
+one-bad-sum κs a x y s t = agree-found
+
+pub one-first-not-zero : (κs : Lfts 1) → OneResult (first-not-zero.Post κs)
+one-first-not-zero κs a x y s t = agree-found
+
+pub one-bad-block : (κs : Lfts 1) → OneResult (bad-block.Post κs)
+one-bad-block κs a x y s t = agree-found
+
+pub one-records : (κs : Lfts 1) → OneResult (records.Post κs)
+one-records κs a x y s t = agree
+
+pub one-record : (κs : Lfts 1) → OnePart (record-of.Post κs) now
+one-record κs a x y s t = agree

@@ -1,2 +1,0 @@
--- What the contracts of `hourfile` cite beside `rules`.
-pub mod Part
