@@ -95,8 +95,8 @@ pub fn settle(
     settled
 }
 
-// The same with lines of its own, one for each member that an hour can have: for callers that want charges, shares and deviations only. It
-// lends no struct to its caller, so that whoever calls it is covered.
+// The same with lines of its own, one for each member that an hour can have: for callers that want charges, shares and deviations only. No
+// struct is lent in its signature, so that a caller needs no walk.
 pub fn settle_unlined(
     file: &[u8],
     charges: &mut [i64],
@@ -110,7 +110,7 @@ pub fn settle_unlined(
     settle(file, &mut lines, charges, shares, deviations)
 }
 
-// The same for programs in C: the answer goes out as its number and place.
+// Settling for programs in C: the answer goes out as its number and place.
 #[no_mangle]
 pub extern "C" fn sneupelaar_settle(
     file: &[u8],
