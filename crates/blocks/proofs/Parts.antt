@@ -13,12 +13,12 @@ use Rattle.blocks.specs.Part.{recordPart, RecordThere}
 
 module _ {l : Layout} {s : List ℕ} {i : ℕ} (fit : FitsBody l) (there : RecordThere l s i) where
   abbrev own : List ℕ
-  own = body l s (1 + i / l .«records_per_block»)
+  own = body l s (1 + i / l .records)
 
   abbrev from : ℕ
-  from = 4 * l .«words_per_record» * (i % l .«records_per_block»)
+  from = 4 * l .words * (i % l .records)
 
-  pub record-part-length : length (recordPart l s i) ≡ 4 * l .«words_per_record»
+  pub record-part-length : length (recordPart l s i) ≡ 4 * l .words
   record-part-length =
-      let whole = body-length l s (1 + i / l .«records_per_block») (there .length-good) (there .block-there) in
-      length-take-le (4 * l .«words_per_record») (drop from own) (omega (arith, whole, length-drop from own, ends-inside fit i))
+      let whole = body-length l s (1 + i / l .records) (there .length-good) (there .block-there) in
+      length-take-le (4 * l .words) (drop from own) (omega (arith, whole, length-drop from own, ends-inside fit i))

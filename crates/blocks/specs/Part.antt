@@ -10,10 +10,10 @@ use Rattle.rules.specs.HourFile.{lengthBad, blocks, body}
 module _ (l : Layout) (s : List ℕ) (i : ℕ) where
   abbrev pub recordPart : List ℕ
   recordPart =
-      take (4 * l .«words_per_record»)
-      (drop (4 * l .«words_per_record» * (i % l .«records_per_block»)) (body l s (1 + i / l .«records_per_block»)))
+      take (4 * l .words)
+      (drop (4 * l .words * (i % l .records)) (body l s (1 + i / l .records)))
 
   -- the file has a block for the record
   pub record RecordThere : Type 0 where
     pub length-good : lengthBad l s ≡ false
-    pub block-there : 1 + i / l .«records_per_block» < blocks s
+    pub block-there : 1 + i / l .records < blocks s

@@ -103,7 +103,7 @@ pub fn length_bad(layout: Layout, file: &[u8]) -> bool
     if n % 512 != 0 {
         return true;
     }
-    layout.most_blocks < n / 512
+    layout.blocks < n / 512
 }
 
 // How many blocks a file has.
@@ -255,7 +255,7 @@ fn block_bad(layout: Layout, block: &[u8], n: u32, b: u32) -> bool
     ensures { λ r. ⌜ r ≡ brokenBelow layout 128 n (HourFile.word (now (block .entry)) 2) b (now (block .entry)) ⌝ }
 {
     let held = word(block, 2);
-    let past = 8 + layout.words_per_record * (held as usize);
+    let past = 8 + layout.words * (held as usize);
     if front_bad(layout, block, n, held, b) {
         return true;
     }
@@ -295,7 +295,7 @@ pub fn records(layout: Layout, file: &[u8]) -> usize
     if n <= 1 {
         return 0;
     }
-    layout.records_per_block * (n - 2) + (block_word(file, n - 1, 2) as usize)
+    layout.records * (n - 2) + (block_word(file, n - 1, 2) as usize)
 }
 
 // Record `i`, a part of its block's body. Whoever reads several words of a record takes this part once.
@@ -303,8 +303,8 @@ pub fn record(layout: Layout, file: &[u8], i: usize) -> &[u8]
     requires { ⌜ FitsBody layout × RecordThere layout (now file) i ⌝ }
     ensures { λ r. ⌜ now r ≡ recordPart layout (now (file .entry)) i ⌝ }
 {
-    let full = layout.records_per_block;
-    let size = 4 * layout.words_per_record;
+    let full = layout.records;
+    let size = 4 * layout.words;
     let own = whole_body(file, 1 + i / full);
     let from = size * (i % full);
     let to = from + size;

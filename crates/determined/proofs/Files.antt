@@ -3,10 +3,10 @@ use contract.Lifetimes.{Lfts}
 use denote.Ref.{now}
 use Rattle.determined.specs.Determined.{OneResult, OnePart}
 use Rattle.determined.proofs.Laws.{agree, agree-answer, agree-entry, agree-found}
-use Rattle.hourfile.proofs.head_word.Reads as head-word
-use Rattle.hourfile.proofs.records.Reads as records
-use Rattle.hourfile.proofs.body.Reads as body
-use Rattle.hourfile.proofs.record.Reads as record-of
+use Rattle.hour.proofs.head_word.Reads as head-word
+use Rattle.hour.proofs.records.Reads as records
+use Rattle.hour.proofs.body.Reads as body
+use Rattle.hour.proofs.record.Reads as record-of
 use Rattle.examine.proofs.examine.Reads as examine
 use Rattle.hour.proofs.members.Reads as members
 use Rattle.hour.proofs.areas.Reads as areas
@@ -20,7 +20,7 @@ use Rattle.hour.proofs.area_of.Reads as area-of
 use Rattle.hour.proofs.demand_of.Reads as demand-of
 use Rattle.hour.proofs.entry_in.Reads as entry-in
 use Rattle.hour.proofs.entry_of.Reads as entry-of
-use Rattle.deviations.proofs.deviation_of.Reads as deviation-of
+use Rattle.byrecord.proofs.deviations.deviation_of.Reads as deviation-of
 use Rattle.lines.proofs.grains.Reads as grains
 use Rattle.tally.proofs.tally_of.Reads as tally-of
 use Rattle.tally.proofs.ufe_of.Reads as ufe-of

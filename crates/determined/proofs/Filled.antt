@@ -13,8 +13,8 @@ use Rattle.amount.proofs.write.Reads as write
 use Rattle.amount.proofs.read.Reads as read
 use Rattle.amount.proofs.decimal.put_digits.Reads as put-digits
 use Rattle.share.proofs.shares.Reads as shares
-use Rattle.deviations.proofs.put_deviations.Reads as put-deviations
-use Rattle.sharing.proofs.put_shares.Reads as put-shares
+use Rattle.byrecord.proofs.deviations.put_deviations.Reads as put-deviations
+use Rattle.byrecord.proofs.shares.put_shares.Reads as put-shares
 use Rattle.lines.proofs.Port.put_lines.Reads as put-lines
 use Rattle.lines.proofs.Port.put_charges.Reads as put-charges
 use Rattle.pool.proofs.Port.settle.Reads as settle

@@ -64,13 +64,13 @@ fn first_fault(file: &[u8]) -> Fault
     requires { ⌜ BlocksWhole (now file) ⌝ }
     ensures { λ r. ⌜ faultAt r ≡ Refusals.firstFault (HourFile.hourOf hourly (now (file .entry))) ⌝ }
 {
-    let members = hourfile::head_word(file, 9);
-    let areas = hourfile::head_word(file, 11);
-    let n = hourfile::records(file);
+    let members = hour::head_word(file, 9);
+    let areas = hour::head_word(file, 11);
+    let n = hour::records(file);
     let mut i = 0;
     let mut w = 0;
     'rows: while i < n {
-        let row = hourfile::record(file, i);
+        let row = hour::record(file, i);
         let kind = blocks::word(row, 0);
         w = 0;
         while w < 12 {

@@ -9,7 +9,7 @@ fn show(grains: i64)
     print(b"grains ");
     print_signed(grains);
     print(b": ");
-    print_signed(posting::cents(grains));
+    print_signed(formula::posting::cents(grains));
     print(b" cents\n");
 }
 

@@ -1,2 +1,3 @@
 -- What the contracts of `formula` cite beside `rules`.
 pub mod Meant
+pub mod Room

@@ -9,7 +9,7 @@ use Rattle.rules.specs.HourFile.{hourly, word}
 use Rattle.rules.specs.Posting.{demandOf}
 use Rattle.rules.specs.Kept.{FileKept, EntryKept}
 use Rattle.blocks.specs.Part.{recordPart}
-use Rattle.hourfile.proofs.Rows.{row-length, row-word}
+use Rattle.hour.proofs.Inside.{row-length, row-word}
 use Rattle.hour.specs.Hour.{hourIn, demandBy}
 
 -- row is record i's part of a file that keeps its ranges

@@ -1,28 +1,63 @@
-// An hour file's numbers as the sums take them, each under its name: the head's counts and prices, and a record's kind, member, area,
-// entry and demand. Those of a record are read from its part of the file, as `hourfile::record` hands it out, without a test: a word costs
-// one load. Nothing is summed here, and nothing is refused: the file was examined before.
+// An hour file: blocks in the hourly layout, and its numbers as the sums take them, each under its name. The layout is handed to `blocks`, so
+// that the compiler folds its numbers in. A record's numbers are read from its part of the file, as `record` hands it out, without a test: a
+// word costs one load. Nothing is summed here, and nothing is refused: the file was examined before.
 ghost use mathlib.Core.Path.{_≡_};
 ghost use Prim.Native.Nat.{_<_};
 ghost use lib.ListN.{length};
 ghost use Rattle.rules.specs.Record as Record;
-ghost use Rattle.rules.specs.HourFile.{word};
+ghost use Rattle.rules.specs.HourFile as HourFile;
+ghost use Rattle.rules.specs.HourFile.{hourly, word};
 ghost use Rattle.rules.specs.Posting.{demandOf};
 ghost use Rattle.rules.specs.Kept.{FileKept};
+ghost use Rattle.blocks.specs.Part.{recordPart, RecordThere};
 ghost use Rattle.formula.specs.Meant.{meant};
 ghost use Rattle.hour.specs.Hour.{hourIn, demandBy};
 use formula::entry::Entry;
 use rules::Kind;
 
+// ---- the hourly layout, handed to `blocks`
+
+// The block reader: the 480 bytes of the body of block `b`, a part of the file itself, or an empty part.
+pub fn body(file: &[u8], b: usize) -> &[u8]
+    ensures { λ r. ⌜ now r ≡ HourFile.body hourly (now (file .entry)) b ⌝ }
+{
+    blocks::body(rules::hourly(), file, b)
+}
+
+// Word `w` of the head.
+pub fn head_word(file: &[u8], w: usize) -> u32
+    ensures { λ r. ⌜ r ≡ HourFile.hourOf hourly (now (file .entry)) .head w ⌝ }
+{
+    blocks::head_word(file, w)
+}
+
+// How many records the file says it holds, by the count of its last block.
+pub fn records(file: &[u8]) -> usize
+    ensures { λ r. ⌜ r ≡ HourFile.hourOf hourly (now (file .entry)) .count ⌝ }
+{
+    blocks::records(rules::hourly(), file)
+}
+
+// Record `i`, a part of the file itself. Whoever reads several words of a record takes this part once.
+pub fn record(file: &[u8], i: usize) -> &[u8]
+    requires { ⌜ RecordThere hourly (now file) i ⌝ }
+    ensures { λ r. ⌜ now r ≡ recordPart hourly (now (file .entry)) i ⌝ }
+{
+    blocks::record(rules::hourly(), file, i)
+}
+
+// ---- the head
+
 pub fn members(file: &[u8]) -> usize
     ensures { λ r. ⌜ r ≡ Record.members (hourIn (now (file .entry))) ⌝ }
 {
-    hourfile::head_word(file, 9) as usize
+    head_word(file, 9) as usize
 }
 
 pub fn areas(file: &[u8]) -> usize
     ensures { λ r. ⌜ r ≡ Record.areas (hourIn (now (file .entry))) ⌝ }
 {
-    hourfile::head_word(file, 11) as usize
+    head_word(file, 11) as usize
 }
 
 // The zone price of an area, in cents per MWh.
@@ -90,14 +125,14 @@ pub fn member_of(file: &[u8], i: usize) -> usize
     requires { ⌜ FileKept (now file) × (i < hourIn (now file) .count) ⌝ }
     ensures { λ r. ⌜ r ≡ Record.memberOf (hourIn (now (file .entry))) i ⌝ }
 {
-    member_in(hourfile::record(file, i))
+    member_in(record(file, i))
 }
 
 pub fn area_of(file: &[u8], i: usize) -> usize
     requires { ⌜ FileKept (now file) × (i < hourIn (now file) .count) ⌝ }
     ensures { λ r. ⌜ r ≡ Record.areaOf (hourIn (now (file .entry))) i ⌝ }
 {
-    area_in(hourfile::record(file, i))
+    area_in(record(file, i))
 }
 
 // A record's numbers under document 01's letters.
@@ -105,7 +140,7 @@ pub fn entry_of(file: &[u8], i: usize) -> Entry
     requires { ⌜ FileKept (now file) × (i < hourIn (now file) .count) ⌝ }
     ensures { λ r. ⌜ meant r ≡ Record.entryOf (hourIn (now (file .entry))) i ⌝ }
 {
-    entry_in(hourfile::record(file, i))
+    entry_in(record(file, i))
 }
 
 // What a record demands of its area's UFE: only a load demands.
@@ -113,5 +148,5 @@ pub fn demand_of(file: &[u8], i: usize) -> u64
     requires { ⌜ FileKept (now file) × (i < hourIn (now file) .count) ⌝ }
     ensures { λ r. ⌜ r ≡ demandOf (hourIn (now (file .entry))) i ⌝ }
 {
-    demand_in(hourfile::record(file, i))
+    demand_in(record(file, i))
 }

@@ -14,8 +14,8 @@ use Rattle.rules.specs.Charge.{grains}
 use Rattle.rules.specs.Posting.{emptyLine, linesWith, linesAfter}
 use Rattle.rules.specs.Kept.{HourKept}
 use Rattle.rules.proofs.Posting.{lineAfter, lines-after}
-use Rattle.posting.specs.Room.{LineRoom}
-use Rattle.posting.proofs.Room as Room
+use Rattle.formula.specs.Room.{LineRoom}
+use Rattle.formula.proofs.Room as Room
 
 module _ {h : Hour} (kept : HourKept h) (old : List Line) where
   member-before : (n : ℕ) → n ≤ h .count → (i : ℕ) → i < n → memberOf h i < members h

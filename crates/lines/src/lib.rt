@@ -1,5 +1,5 @@
 // The members' lines, lent by the caller: each record's grains posted to its member's line, in file order, and each member's charge from its
-// line. No deviation and no share is worked here: the caller has them. A line is moved whole; its sums are `posting`'s.
+// line. No deviation and no share is worked here: the caller has them. A line is moved whole; its sums are `formula`'s.
 ghost use mathlib.Core.Path.{_≡_};
 ghost use Prim.Native.Nat.{ℕ, _≤_, _<_};
 ghost use lib.ListN.{length, getD};
@@ -8,7 +8,7 @@ ghost use Rattle.whole.specs.Signed.{Under};
 ghost use Rattle.rules.specs.Record as Record;
 ghost use Rattle.rules.specs.Charge as Charge;
 ghost use Rattle.rules.specs.Posting as Posting;
-ghost use Rattle.posting.specs.Room.{LineRoom};
+ghost use Rattle.formula.specs.Room.{LineRoom};
 ghost use Rattle.hour.specs.Hour.{hourIn};
 ghost use Rattle.lines.specs.Lined.{Worked, AllWorked};
 use rules::Line;
@@ -18,7 +18,7 @@ pub fn grains(file: &[u8], i: usize, deviation: i64, share: i64) -> i64
     requires { ⌜ Worked (now file) i deviation share ⌝ }
     ensures { λ r. ⌜ r ≡ Charge.grains (hourIn (now (file .entry))) i ⌝ }
 {
-    let row = hourfile::record(file, i);
+    let row = hour::record(file, i);
     let kind = hour::kind_in(row);
     let price = hour::price(file, hour::area_in(row));
     price * (formula::deviation::entering(kind, deviation) + share)
@@ -30,7 +30,7 @@ fn post_line(lines: &mut [Line], member: usize, grains: i64)
     ensures { λ _. ⌜ now (lines .exit) ≡ Posting.linesWith (now (lines .entry)) member grains ⌝ }
 {
     let before = lines[member];
-    lines[member] = posting::line_with(before, grains);
+    lines[member] = formula::posting::line_with(before, grains);
 }
 
 // The first `n` lines empty.
@@ -40,7 +40,7 @@ fn clear_lines(lines: &mut [Line], n: usize)
 {
     let mut m = 0;
     while m < n {
-        lines[m] = posting::empty_line();
+        lines[m] = formula::posting::empty_line();
         m += 1;
     }
 }
@@ -52,7 +52,7 @@ pub fn put_lines(file: &[u8], deviations: &[i64], shares: &[i64], lines: &mut [L
         ≡ Posting.linesAfter (hourIn (now (file .entry))) (now (lines .entry)) (hourIn (now (file .entry)) .count) ⌝ }
 {
     clear_lines(lines, hour::members(file));
-    let n = hourfile::records(file);
+    let n = hour::records(file);
     let mut i = 0;
     while i < n {
         let member = hour::member_of(file, i);
@@ -71,7 +71,7 @@ pub fn put_charges(lines: &[Line], n: usize, charges: &mut [i64])
 {
     let mut m = 0;
     while m < n {
-        charges[m] = posting::charge_of(lines[m]);
+        charges[m] = formula::posting::charge_of(lines[m]);
         m += 1;
     }
 }

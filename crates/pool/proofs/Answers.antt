@@ -32,7 +32,7 @@ use Rattle.rules.proofs.Bounds.{amount-under, row-7-never}
 use Rattle.rules.proofs.Demands.{Room, buffers-room}
 use Rattle.rules.proofs.Posting.{lines-are}
 use Rattle.hour.specs.Hour.{hourIn}
-use Rattle.sharing.specs.Shared.{Sharing}
+use Rattle.byrecord.specs.Shared.{Sharing}
 use Rattle.lines.specs.Lined.{AllWorked}
 use Rattle.lines.proofs.Worked.{all-worked}
 use Rattle.pool.specs.AsSettled.{Lengths, Says}

@@ -80,7 +80,7 @@ pub extern "C" fn sneupelaar_body(file: &[u8], block: usize) -> Part
     ensures part { λ r. ⌜ r ≡ bodyPart (now (file .entry)) block ⌝ }
     ensures bytes { λ r. ⌜ take (r .length) (drop (r .from) (now (file .entry))) ≡ body hourly (now (file .entry)) block ⌝ }
 {
-    let length = hourfile::body(file, block).len();
+    let length = hour::body(file, block).len();
     if length == 0 {
         return Part { from: 0, length: 0 };
     }

@@ -1,5 +1,5 @@
 // The customer's library: the tally and the members' lines are lent to each posting, and settling writes into the caller's own buffers.
-// Structs are moved here, not computed with: the sums are worked by value in `posting`.
+// Structs are moved here, not computed with: the sums are worked by value in `formula`.
 ghost use mathlib.Core.Path.{_≡_};
 ghost use mathlib.Core.Bool.{_||_};
 ghost use lib.Dec.{ltb};
@@ -27,7 +27,7 @@ fn too_short(file: &[u8], charges: usize, lines: usize, shares: usize, deviation
         || ltb deviations (hourIn (now (file .entry)) .count)) ⌝ }
 {
     let members = hour::members(file);
-    let records = hourfile::records(file);
+    let records = hour::records(file);
     if charges < members {
         return true;
     }
@@ -87,9 +87,9 @@ pub fn settle(
     let Answer::Accepted = answer else {
         return settled;
     };
-    deviations::put_deviations(file, deviations);
+    byrecord::deviations::put_deviations(file, deviations);
     let figures = settled.ufe;
-    sharing::put_shares(file, figures, shares);
+    byrecord::shares::put_shares(file, figures, shares);
     lines::put_lines(file, deviations, shares, lines);
     lines::put_charges(lines, hour::members(file), charges);
     settled
@@ -106,7 +106,7 @@ pub fn settle_unlined(
     ensures { λ r. ⌜ FitsUnlined (now (file .entry)) (unlined (now (charges .entry)) (now (shares .entry)) (now (deviations .entry))) r
         (unlined (now (charges .exit)) (now (shares .exit)) (now (deviations .exit))) ⌝ }
 {
-    let mut lines = [posting::empty_line(); 32];
+    let mut lines = [formula::posting::empty_line(); 32];
     settle(file, &mut lines, charges, shares, deviations)
 }
 

@@ -35,9 +35,9 @@ fn put_accepted(file: &[u8], charges: &[i64], out: &mut [u8]) -> usize
     requires { ⌜ Charged (now file) (now charges) × (615 ≤ length (now out)) ⌝ }
     ensures { λ r. ⌜ Put (now (out .entry)) 0 (Statement.acceptedLines (hourIn (now (file .entry)))) r (now (out .exit)) ⌝ }
 {
-    let hour = hourfile::head_word(file, 8) as u64;
+    let hour = hour::head_word(file, 8) as u64;
     let members = hour::members(file) as u64;
-    let records = hourfile::records(file) as u64;
+    let records = hour::records(file) as u64;
     let after_first = printing::put_first_line(out, hour, members, records);
     put_members(file, charges, out, after_first)
 }

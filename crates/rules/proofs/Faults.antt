@@ -33,7 +33,7 @@ broken-more p n m l e = step (firstBelow p n) refl e
 module _ (layout : Layout) (n held b : ℕ) where
   -- where the records end
   abbrev past : ℕ
-  past = 8 + layout .«words_per_record» * held
+  past = 8 + layout .words * held
 
   body-rule : (w : ℕ) → 7 ≤ w → blockRule layout n held b w ≡ cond (eqb w 7) Any (pastRule layout held b w)
   unfolding blockRule
@@ -148,10 +148,10 @@ one-block-more full n m = ap (λ (k : ℕ). full * k) back ∙ more full (n - 2)
     more full k = omega arith
 
 pub few-records : (layout : Layout) (s : List ℕ) → badBlock layout s ≡ none →
-    recordCount layout s ≤ layout .«records_per_block» * (blocks s - 1)
+    recordCount layout s ≤ layout .records * (blocks s - 1)
 unfolding recordCount
 few-records layout s f = split (leb (blocks s) 1)
     (λ t. rw t zero-le)
     (λ t. let m : 1 < blocks s = leb-false (blocks s) 1 t in
     let held = held-most layout s f (blocks s - 1) (omega arith) (omega arith) in
-    rw t (omega (arith, one-block-more (layout .«records_per_block») (blocks s) m)))
+    rw t (omega (arith, one-block-more (layout .records) (blocks s) m)))

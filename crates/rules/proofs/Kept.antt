@@ -175,7 +175,7 @@ module _ (h : Hour) (head-whole : badHead h ≡ none) (records-whole : badRecord
 -- in any layout
 module _ (l : Layout) (s : List ℕ) (blocks-whole : badBlock l s ≡ none) where
   -- word 2 of a block other than the first: at most so many records as a block may hold
-  pub held-most : (b : ℕ) → 1 ≤ b → b < blocks s → blockWord s b 2 ≤ l .«records_per_block»
+  pub held-most : (b : ℕ) → 1 ≤ b → b < blocks s → blockWord s b 2 ≤ l .records
   unfolding badBlock blockRule countRule
   held-most b m n =
       let other : eqb b 0 ≡ false = ne-eqb b 0 (λ e. omega arith) in

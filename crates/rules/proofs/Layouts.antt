@@ -13,10 +13,10 @@ ten-minutes-fits = record { some-records = omega arith; some-words = omega arith
 
 module _ {l : Layout} (fit : FitsBody l) where
   abbrev records : ℕ
-  records = l .«records_per_block»
+  records = l .records
 
   abbrev words : ℕ
-  words = l .«words_per_record»
+  words = l .words
 
   pub few-to-a-block : records ≤ 120
   few-to-a-block = omega (arith, fit .no-longer, mul-le-mul-right records (fit .some-words))

@@ -58,16 +58,16 @@ module _ (s : List ℕ) where
 
 module _ {l : Layout} (fit : FitsBody l) (s : List ℕ) (i : ℕ) (good : lengthBad l s ≡ false) where
   abbrev from : ℕ
-  from = 4 * l .«words_per_record» * (i % l .«records_per_block»)
+  from = 4 * l .words * (i % l .records)
 
-  pub record-part-word : (w : ℕ) → i < recordCount l s → w < l .«words_per_record» →
-      word (take (4 * l .«words_per_record») (drop from (body l s (1 + i / l .«records_per_block»)))) w ≡ hourOf l s .rec i w
+  pub record-part-word : (w : ℕ) → i < recordCount l s → w < l .words →
+      word (take (4 * l .words) (drop from (body l s (1 + i / l .records)))) w ≡ hourOf l s .rec i w
   unfolding recordWord
   record-part-word w k m =
-      let before : ℕ = l .«words_per_record» * (i % l .«records_per_block») in
-      part-word (body l s (1 + i / l .«records_per_block»)) from (4 * l .«words_per_record») w (before + w) (omega arith) (omega arith)
-      ∙ body-word l s (1 + i / l .«records_per_block») good (before + w) (omega (arith, ends-inside fit i))
-      ∙ ap (blockWord s (1 + i / l .«records_per_block»)) (sym (grouped before))
+      let before : ℕ = l .words * (i % l .records) in
+      part-word (body l s (1 + i / l .records)) from (4 * l .words) w (before + w) (omega arith) (omega arith)
+      ∙ body-word l s (1 + i / l .records) good (before + w) (omega (arith, ends-inside fit i))
+      ∙ ap (blockWord s (1 + i / l .records)) (sym (grouped before))
       ∙ sym (record-word l s i w k m)
     where
       grouped : (before : ℕ) → 8 + before + w ≡ 8 + (before + w)

@@ -40,7 +40,7 @@ holds (AtMostInSize n) v e = record { under = leb-true (natAbs (signed v)) n e }
 -- a length that row 1 lets pass: whole blocks, at least one and at most so many
 pub record WholeBlocks (l : Layout) (s : List ℕ) : Type 0 where
   pub no-rest : length s % 512 ≡ 0
-  pub most : length s ≤ 512 * l .«most_blocks»
+  pub most : length s ≤ 512 * l .blocks
   pub at-least-one : 1 ≤ blocks s
   pub all-blocks : length s ≡ 512 * blocks s
 
@@ -48,11 +48,11 @@ module _ (l : Layout) (s : List ℕ) where
   pub length-is-whole : lengthBad l s ≡ false → WholeBlocks l s
   unfolding lengthBad blocks
   length-is-whole e =
-      let a = neither (eqb (length s) 0 || not (eqb (length s % 512) 0)) (ltb (512 * l .«most_blocks») (length s)) e in
+      let a = neither (eqb (length s) 0 || not (eqb (length s % 512) 0)) (ltb (512 * l .blocks) (length s)) e in
       let b = neither (eqb (length s) 0) (not (eqb (length s % 512) 0)) (a .0) in
       let some : length s ≡ 0 → ⊥ = eqb-false (length s) 0 (b .0) in
       let rest : length s % 512 ≡ 0 = eqb-true (length s % 512) 0 (not-false _ (b .1)) in
-      let most : length s ≤ 512 * l .«most_blocks» = ltb-false (512 * l .«most_blocks») (length s) (a .1) in
+      let most : length s ≤ 512 * l .blocks = ltb-false (512 * l .blocks) (length s) (a .1) in
       record { no-rest = rest; most = most; at-least-one = omega arith; all-blocks = omega arith }
 
 -- ---- the block reader
@@ -119,6 +119,6 @@ module _ (l : Layout) (s : List ℕ) where
   unfolding hourOf
   head-past w h = split (leb 8 w) (λ t. rw (t, le-ltb w 128 h)) (λ t. rw t)
 
-  pub record-word : (i w : ℕ) → i < recordCount l s → w < l .«words_per_record» → hourOf l s .rec i w ≡ recordWord l s i w
+  pub record-word : (i w : ℕ) → i < recordCount l s → w < l .words → hourOf l s .rec i w ≡ recordWord l s i w
   unfolding hourOf
-  record-word i w h k = rw (lt-ltb i (recordCount l s) h, lt-ltb w (l .«words_per_record») k)
+  record-word i w h k = rw (lt-ltb i (recordCount l s) h, lt-ltb w (l .words) k)

@@ -13,18 +13,18 @@ use Rattle.rules.specs.Record.{Hour}
 -- the first release's hour file
 abbrev pub hourly : Layout
 hourly =
-    record { «first_mark» = 1; «other_mark» = 2; «most_blocks» = 26; «records_per_block» = 10; «words_per_record» = 12 }
+    record { first = 1; other = 2; blocks = 26; records = 10; words = 12 }
 
 -- the file of ten-minute settlement
 abbrev pub tenMinutes : Layout
 tenMinutes =
-    record { «first_mark» = 3; «other_mark» = 4; «most_blocks» = 17; «records_per_block» = 4; «words_per_record» = 30 }
+    record { first = 3; other = 4; blocks = 17; records = 4; words = 30 }
 
 -- the records that a block may hold fit into its body of 120 words
 pub record FitsBody (l : Layout) : Type 0 where
-  pub some-records : 1 ≤ l .«records_per_block»
-  pub some-words : 1 ≤ l .«words_per_record»
-  pub no-longer : l .«words_per_record» * l .«records_per_block» ≤ 120
+  pub some-records : 1 ≤ l .records
+  pub some-words : 1 ≤ l .words
+  pub no-longer : l .words * l .records ≤ 120
 
 -- ---- words and blocks
 
@@ -47,7 +47,7 @@ blockSum s b = sumBelow (blockWord s b) 128 % 0x1_0000_0000
 module _ (l : Layout) (s : List ℕ) where
   -- refusal 1: length 0, not a multiple of 512, or over the most blocks
   unfoldable pub lengthBad : Bool
-  lengthBad = eqb (length s) 0 || not (eqb (length s % 512) 0) || ltb (512 * l .«most_blocks») (length s)
+  lengthBad = eqb (length s) 0 || not (eqb (length s % 512) 0) || ltb (512 * l .blocks) (length s)
 
   -- the block reader: the 480 bytes of body b, or an empty part
   unfoldable pub body : ℕ → List ℕ
@@ -55,16 +55,16 @@ module _ (l : Layout) (s : List ℕ) where
 
   -- every block but the first and the last is full
   unfoldable pub recordCount : ℕ
-  recordCount = cond (leb (blocks s) 1) 0 (l .«records_per_block» * (blocks s - 2) + blockWord s (blocks s - 1) 2)
+  recordCount = cond (leb (blocks s) 1) 0 (l .records * (blocks s - 2) + blockWord s (blocks s - 1) 2)
 
   -- word w of record i
   unfoldable pub recordWord : ℕ → ℕ → ℕ
-  recordWord i w = blockWord s (1 + i / l .«records_per_block») (8 + l .«words_per_record» * (i % l .«records_per_block») + w)
+  recordWord i w = blockWord s (1 + i / l .records) (8 + l .words * (i % l .records) + w)
 
   -- what the file says, and 0 at every place that it has not: the head is words 8 to 127 of the first block
   unfoldable pub hourOf : Hour
   hourOf = record {
     head = λ w. cond (leb 8 w && ltb w 128) (blockWord s 0 w) 0;
     count = recordCount;
-    rec = λ i w. cond (ltb i recordCount && ltb w (l .«words_per_record»)) (recordWord i w) 0;
+    rec = λ i w. cond (ltb i recordCount && ltb w (l .words)) (recordWord i w) 0;
   }

@@ -36,16 +36,16 @@ mustBeZero = mustBe 0
 module _ (l : Layout) where
   -- word 2 of block b of n: the number of other blocks; then the records held, full in all but the last, 1 to full there
   unfoldable pub countRule : (n b : ℕ) → Rule
-  countRule n b = let full = l .«records_per_block» in cond (eqb b 0) (mustBe (n - 1)) (cond (ltb (b + 1) n) (mustBe full) (Between 1 full))
+  countRule n b = let full = l .records in cond (eqb b 0) (mustBe (n - 1)) (cond (ltb (b + 1) n) (mustBe full) (Between 1 full))
 
   -- the body of a block that holds so many records: the first block's is for row 4
   unfoldable pub pastRule : (held b w : ℕ) → Rule
-  pastRule held b w = cond (eqb b 0) Any (cond (leb (8 + l .«words_per_record» * held) w) mustBeZero Any)
+  pastRule held b w = cond (eqb b 0) Any (cond (leb (8 + l .words * held) w) mustBeZero Any)
 
   -- word w of block b of n; word 7 is what makes the sum zero
   unfoldable pub blockRule : (n held b w : ℕ) → Rule
   blockRule n held b w = getD (
-      mustBe (cond (eqb b 0) (l .«first_mark») (l .«other_mark»)) ∷ mustBe b ∷ countRule n b
+      mustBe (cond (eqb b 0) (l .first) (l .other)) ∷ mustBe b ∷ countRule n b
       ∷ mustBeZero ∷ mustBeZero ∷ mustBeZero ∷ mustBeZero ∷ Any ∷ []) w (pastRule held b w)
 
 -- ---- the first body

@@ -37,11 +37,11 @@ pub enum Rule {
 
 // What one kind of file lays down: word 0 of the first and of every other block, the most blocks, records to a block, words to a record.
 pub struct Layout {
-    pub first_mark: u32,
-    pub other_mark: u32,
-    pub most_blocks: usize,
-    pub records_per_block: usize,
-    pub words_per_record: usize,
+    pub first: u32,
+    pub other: u32,
+    pub blocks: usize,
+    pub records: usize,
+    pub words: usize,
 }
 
 // What a search finds.
@@ -85,11 +85,11 @@ pub fn hourly() -> Layout
     ensures { λ r. ⌜ r ≡ HourFile.hourly ⌝ }
 {
     Layout {
-        first_mark: 1,
-        other_mark: 2,
-        most_blocks: 26,
-        records_per_block: 10,
-        words_per_record: 12,
+        first: 1,
+        other: 2,
+        blocks: 26,
+        records: 10,
+        words: 12,
     }
 }
 
@@ -98,10 +98,10 @@ pub fn ten_minutes() -> Layout
     ensures { λ r. ⌜ r ≡ HourFile.tenMinutes ⌝ }
 {
     Layout {
-        first_mark: 3,
-        other_mark: 4,
-        most_blocks: 17,
-        records_per_block: 4,
-        words_per_record: 30,
+        first: 3,
+        other: 4,
+        blocks: 17,
+        records: 4,
+        words: 30,
     }
 }

@@ -29,8 +29,8 @@ use Rattle.rules.specs.Posting.{accounted, tallied, demandOf, tallyAfter}
 use Rattle.rules.specs.Settling.{ufeFigures}
 use Rattle.rules.proofs.Posting.{tally-energy, tally-gives-demands, tally-gives-ufe}
 use Rattle.rules.proofs.Bounds.{energy-running, ufe-under}
-use Rattle.posting.specs.Room.{TallyRoom}
-use Rattle.posting.proofs.Room.{tally-room}
+use Rattle.formula.specs.Room.{TallyRoom}
+use Rattle.formula.proofs.Room.{tally-room}
 use Rattle.hour.specs.Hour.{hourIn}
 use Rattle.hour.proofs.Figures.{figure-at}
 use Rattle.tally.specs.Posted.{TalliedUpTo, Tallied}

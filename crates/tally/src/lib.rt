@@ -7,7 +7,7 @@ ghost use Rattle.rules.specs.Posting as Posting;
 ghost use Rattle.rules.specs.Refusals.{foundAt, badArea};
 ghost use Rattle.rules.specs.Settling.{ufeFigures};
 ghost use Rattle.rules.specs.Kept.{FileKept};
-ghost use Rattle.posting.specs.Room.{TallyRoom};
+ghost use Rattle.formula.specs.Room.{TallyRoom};
 ghost use Rattle.hour.specs.Hour.{hourIn};
 ghost use Rattle.tally.specs.Posted.{Tallied};
 use rules::Found;
@@ -19,7 +19,7 @@ fn post(tally: &mut Tally, area: usize, demand: u64, energy: i64)
     ensures { λ _. ⌜ now (tally .exit) ≡ Posting.tallied (now (tally .entry)) area demand energy ⌝ }
 {
     let before = *tally;
-    *tally = posting::tallied(before, area, demand, energy);
+    *tally = formula::posting::tallied(before, area, demand, energy);
 }
 
 // All records, in file order, to one tally that is lent to each posting.
@@ -27,8 +27,8 @@ pub fn tally_of(file: &[u8]) -> Tally
     requires { ⌜ FileKept (now file) ⌝ }
     ensures { λ r. ⌜ r ≡ Posting.tallyAfter (hourIn (now (file .entry))) (hourIn (now (file .entry)) .count) ⌝ }
 {
-    let n = hourfile::records(file);
-    let mut tally = posting::empty_tally();
+    let n = hour::records(file);
+    let mut tally = formula::posting::empty_tally();
     let mut i = 0;
     while i < n {
         let area = hour::area_of(file, i);
@@ -45,8 +45,8 @@ pub fn ufe_of(file: &[u8], t: Tally, a: usize) -> i64
     requires { ⌜ Tallied (now file) t × (a < Record.areas (hourIn (now file))) ⌝ }
     ensures { λ r. ⌜ r ≡ ufe (hourIn (now (file .entry))) a ⌝ }
 {
-    let tie_in = hourfile::head_word(file, 17 + 4 * a) as i64;
-    let tie_out = hourfile::head_word(file, 18 + 4 * a) as i64;
+    let tie_in = hour::head_word(file, 17 + 4 * a) as i64;
+    let tie_out = hour::head_word(file, 18 + 4 * a) as i64;
     10000 * (tie_in - tie_out) + t.energy[a]
 }
 

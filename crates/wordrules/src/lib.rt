@@ -59,12 +59,12 @@ fn only(v: u32) -> Rule
 
 // Word 0: the mark of the first block, or of another.
 fn mark_rule(layout: Layout, b: u32) -> Rule
-    ensures { λ r. ⌜ r ≡ Ranges.mustBe (cond (eqb b 0) (layout .«first_mark») (layout .«other_mark»)) ⌝ }
+    ensures { λ r. ⌜ r ≡ Ranges.mustBe (cond (eqb b 0) (layout .first) (layout .other)) ⌝ }
 {
     if b == 0 {
-        return only(layout.first_mark);
+        return only(layout.first);
     }
-    only(layout.other_mark)
+    only(layout.other)
 }
 
 // Word 2 of block `b` of `n`: the other blocks, or the records that the block holds.
@@ -78,7 +78,7 @@ fn count_rule(layout: Layout, n: u32, b: u32) -> Rule
         }
         return only(n - 1);
     }
-    let full = layout.records_per_block as u32;
+    let full = layout.records as u32;
     if b < n {
         if b + 1 < n {
             return only(full);
@@ -95,7 +95,7 @@ fn past_rule(layout: Layout, held: u32, b: u32, w: usize) -> Rule
     if b == 0 {
         return Rule::Any;
     }
-    if 8 + layout.words_per_record * (held as usize) <= w {
+    if 8 + layout.words * (held as usize) <= w {
         return ZERO;
     }
     Rule::Any

@@ -16,7 +16,7 @@ use Rattle.blocks.proofs.block_bad.Tie as tie
 
 -- words to a record are so few that the product fits
 few : (c : tie.After-word) →
-    c .before .before .args .layout .«words_per_record» * c .word .result ≤ 120 * c .word .result
+    c .before .before .args .layout .words * c .word .result ≤ 120 * c .word .result
 few c = mul-le-mul-right (c .word .result) (few-to-a-record (c .before .before .pre))
 
 -- the moment at which the words in front have been judged, by the count that the code has read

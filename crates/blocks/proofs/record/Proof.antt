@@ -21,13 +21,13 @@ module _ (c : tie.After-whole-body) where
   at = start (c .before)
 
   abbrev block : ℕ
-  block = 1 + at .args .i / at .args .layout .«records_per_block»
+  block = 1 + at .args .i / at .args .layout .records
 
   abbrev size : ℕ
-  size = 4 * at .args .layout .«words_per_record»
+  size = 4 * at .args .layout .words
 
   abbrev from : ℕ
-  from = size * (at .args .i % at .args .layout .«records_per_block»)
+  from = size * (at .args .i % at .args .layout .records)
 
   own : c .whole-body .result .now ≡ body (at .args .layout) (at .args .file .now) block
   own = c .whole-body .ensures ∙ sym (body-there _ _ block (at .pre .1 .length-good) (at .pre .1 .block-there))

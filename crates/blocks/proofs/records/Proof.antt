@@ -12,7 +12,7 @@ use Rattle.blocks.proofs.records.Statement.{statement}
 use Rattle.blocks.proofs.records.Tie as tie
 
 few : (c : tie.Else1) →
-    let n = c .before .count .result in c .before .before .before .args .layout .«records_per_block» * (n - 2) ≤ 120 * (n - 2)
+    let n = c .before .count .result in c .before .before .before .args .layout .records * (n - 2) ≤ 120 * (n - 2)
 few c = mul-le-mul-right (c .before .count .result - 2) (few-to-a-block (c .before .before .before .pre))
 
 count-requires : tie.Need-count-requires
@@ -48,7 +48,7 @@ returns-2 c =
     let counted = c .before .before .before in
     let at = counted .before .before .args in
     let s = at .file .now in
-    let full = at .layout .«records_per_block» in
+    let full = at .layout .records in
     let n = counted .count .result in
     let e : n ≡ blocks s = counted .count .ensures in
     ap (λ (v : ℕ). full * (n - 2) + v) (c .block-word .ensures)

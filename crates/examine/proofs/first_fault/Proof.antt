@@ -16,7 +16,7 @@ use Rattle.rules.specs.Refusals.{isBroken, badWord, badRecord, firstFault}
 use Rattle.rules.proofs.Words.{record-count}
 use Rattle.rules.proofs.Faults.{fault-at, no-fault}
 use Rattle.blocks.specs.Part.{recordPart}
-use Rattle.hourfile.proofs.Rows.{part-word}
+use Rattle.hour.proofs.Inside.{part-word}
 use Rattle.examine.proofs.first_fault.Statement.{statement}
 use Rattle.examine.proofs.first_fault.Tie as tie
 

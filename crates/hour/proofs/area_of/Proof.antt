@@ -1,6 +1,6 @@
 -- `hour::area_of` meets its contract: the record's part has the record's numbers.
 use mathlib.Core.Path.{_∙_}
-use Rattle.hourfile.proofs.Rows.{record-inside}
+use Rattle.hour.proofs.Inside.{record-inside}
 use Rattle.hour.proofs.Rows.{PartOf, part-length, part-area}
 use Rattle.hour.proofs.area_of.Statement.{statement}
 use Rattle.hour.proofs.area_of.Tie as tie

@@ -1,6 +1,6 @@
 -- `hour::member_of` meets its contract: the record's part has the record's numbers.
 use mathlib.Core.Path.{_∙_}
-use Rattle.hourfile.proofs.Rows.{record-inside}
+use Rattle.hour.proofs.Inside.{record-inside}
 use Rattle.hour.proofs.Rows.{PartOf, part-length, part-member}
 use Rattle.hour.proofs.member_of.Statement.{statement}
 use Rattle.hour.proofs.member_of.Tie as tie

@@ -7,7 +7,7 @@ use Rattle.rules.specs.Deviation.{deviation}
 use Rattle.rules.specs.Charge.{enteringAs, entering, grains}
 use Rattle.rules.specs.Kept.{RecordKept}
 use Rattle.rules.proofs.Bounds.{deviation-under, entering-under, share-under, price-under}
-use Rattle.hourfile.proofs.Rows.{record-inside}
+use Rattle.hour.proofs.Inside.{record-inside}
 use Rattle.hour.specs.Hour.{hourIn}
 use Rattle.hour.proofs.Rows.{PartOf, part-length, part-kind, part-area}
 use Rattle.lines.proofs.grains.Statement.{statement}

@@ -53,11 +53,11 @@ use Rattle.rules.specs.declared.Line.{Line}
 use Rattle.rules.specs.Posting.{emptyLine, lineWith, linesWith}
 use Rattle.rules.proofs.Line as T
 use Rattle.rules.proofs.Line.Laws as T′
-use Rattle.posting.specs.Room.{LineRoom}
-use Rattle.posting.proofs.line_with as g
-use Rattle.posting.proofs.line_with.Symbol as g-def
-use Rattle.posting.proofs.line_with.Symbol.{name as #line-with}
-use Rattle.posting.proofs.line_with.Met as g-thm
+use Rattle.formula.specs.Room.{LineRoom}
+use Rattle.formula.proofs.posting.line_with as g
+use Rattle.formula.proofs.posting.line_with.Symbol as g-def
+use Rattle.formula.proofs.posting.line_with.Symbol.{name as #line-with}
+use Rattle.formula.proofs.posting.line_with.Met as g-thm
 use Rattle.lines.proofs.post_line.Key.{name as #post-line}
 use Rattle.lines.proofs.post_line as f
 use Rattle.lines.proofs.post_line.Statement as stated
@@ -230,5 +230,5 @@ post-line-spec 𝓤 H 𝓜 𝓖 𝓡 =
     entered 𝓤 H (tripleOf 𝓤 H (𝓖 .A) f.signature (f.spec 𝓤 H (𝓖 .A) (𝓜 .mem) (𝓡 .run)))
     (tables 𝓤 H 𝓜 𝓡 code.env .C) (tables 𝓤 H 𝓜 𝓡 code.env .Λ) #post-line code.function (code.unfolded 𝓤 H 𝓜 𝓡)
     (post-line-meets 𝓤 H (𝓖 .A) (givenOf 𝓤 H 𝓜 𝓖) (𝓜 .mem) (𝓡 .run) (tablesOf 𝓤 H 𝓜 (tables 𝓤 H 𝓜 𝓡 code.env))
-    (cited 𝓤 H (LineWith 𝓤 H (𝓖 .A) (𝓜 .mem) (𝓡 .run)) 𝓜 𝓡 code.env #line-with g-def.routine code.calls-posting·line-with
+    (cited 𝓤 H (LineWith 𝓤 H (𝓖 .A) (𝓜 .mem) (𝓡 .run)) 𝓜 𝓡 code.env #line-with g-def.routine code.calls-formula·posting·line-with
     (g-thm.met 𝓤 H 𝓜 𝓖 𝓡)))

@@ -47,11 +47,11 @@ use Rattle.rules.specs.declared.Tally.{Tally}
 use Rattle.rules.specs.Posting.{tallied}
 use Rattle.rules.proofs.Tally as T
 use Rattle.rules.proofs.Tally.Laws as T′
-use Rattle.posting.specs.Room.{TallyRoom}
-use Rattle.posting.proofs.tallied as g
-use Rattle.posting.proofs.tallied.Symbol as g-def
-use Rattle.posting.proofs.tallied.Symbol.{name as #tallied}
-use Rattle.posting.proofs.tallied.Met as g-thm
+use Rattle.formula.specs.Room.{TallyRoom}
+use Rattle.formula.proofs.posting.tallied as g
+use Rattle.formula.proofs.posting.tallied.Symbol as g-def
+use Rattle.formula.proofs.posting.tallied.Symbol.{name as #tallied}
+use Rattle.formula.proofs.posting.tallied.Met as g-thm
 use Rattle.tally.proofs.post.Key.{name as #post}
 use Rattle.tally.proofs.post as f
 use Rattle.tally.proofs.post.Statement as stated
@@ -208,5 +208,5 @@ post-spec 𝓤 H 𝓜 𝓖 𝓡 =
     entered 𝓤 H (tripleOf 𝓤 H (𝓖 .A) f.signature (f.spec 𝓤 H (𝓖 .A) (𝓜 .mem) (𝓡 .run)))
     (tables 𝓤 H 𝓜 𝓡 code.env .C) (tables 𝓤 H 𝓜 𝓡 code.env .Λ) #post code.function (code.unfolded 𝓤 H 𝓜 𝓡)
     (post-meets 𝓤 H (𝓖 .A) (givenOf 𝓤 H 𝓜 𝓖) (𝓜 .mem) (𝓡 .run) (tablesOf 𝓤 H 𝓜 (tables 𝓤 H 𝓜 𝓡 code.env))
-    (cited 𝓤 H (Tallied 𝓤 H (𝓖 .A) (𝓜 .mem) (𝓡 .run)) 𝓜 𝓡 code.env #tallied g-def.routine code.calls-posting·tallied
+    (cited 𝓤 H (Tallied 𝓤 H (𝓖 .A) (𝓜 .mem) (𝓡 .run)) 𝓜 𝓡 code.env #tallied g-def.routine code.calls-formula·posting·tallied
     (g-thm.met 𝓤 H 𝓜 𝓖 𝓡)))

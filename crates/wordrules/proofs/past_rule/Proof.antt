@@ -8,7 +8,7 @@ use Rattle.rules.proofs.Layouts.{few-to-a-record}
 use Rattle.wordrules.proofs.past_rule.Statement.{statement}
 use Rattle.wordrules.proofs.past_rule.Tie as tie
 
-few : (c : tie.Start) → c .args .layout .«words_per_record» * c .args .held ≤ 120 * c .args .held
+few : (c : tie.Start) → c .args .layout .words * c .args .held ≤ 120 * c .args .held
 few c = mul-le-mul-right (c .args .held) (few-to-a-record (c .pre))
 
 returns : tie.Need-returns

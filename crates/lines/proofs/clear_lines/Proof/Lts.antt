@@ -75,7 +75,7 @@ abbrev b4 : Syntax.Body
 b4 = Syntax.cond (Syntax.copy (Syntax.place 4 List.[])) b2 b3
 
 abbrev b5 : Syntax.Body
-b5 = Syntax.call "posting::empty_line" List.[] (Syntax.place 5 List.[])
+b5 = Syntax.call "formula::posting::empty_line" List.[] (Syntax.place 5 List.[])
 
 abbrev b6 : Syntax.Body
 b6 = Syntax.assign (Syntax.place 6 List.[]) (Syntax.op2 (Syntax.mul Syntax.unsigned) (Syntax.copy (Syntax.place 3 List.[])) (Syntax.int Syntax.w64 16))
@@ -297,7 +297,7 @@ module _ (claims· : Claims) where
   module _ (Pre· : (κs : Lifetimes.Lfts 1) → Kinds.Dens κs ps → Type 0) (Post· : (κs : Lifetimes.Lfts 1) → (a : Kinds.Dens κs ps) → Kinds.Plain 1 ps r κs) where
     module _ (M : Type 1) where
       abbrev pub Closed : Type 2
-      Closed = (𝓤 : URA.URA M) (H : Wp.Heap 𝓤) (A : Atoms.Atoms 𝓤) (W : Kit.Given 𝓤 H A) (𝓣 : Wp.Tables 𝓤 H) (known0 : Plain.Known 𝓤 H A W 𝓣 0 ps·0 r·0 (claims· .0) (claims· .1) "posting::empty_line") → Statement.Triple 𝓤 (Wp.WpFn 𝓤 H (𝓣 .C) (𝓣 .Λ) (Function.fnOf 1 ps r xs m hs body)) (Function.plainOf 𝓤 H A 1 ps r Pre· Post·)
+      Closed = (𝓤 : URA.URA M) (H : Wp.Heap 𝓤) (A : Atoms.Atoms 𝓤) (W : Kit.Given 𝓤 H A) (𝓣 : Wp.Tables 𝓤 H) (known0 : Plain.Known 𝓤 H A W 𝓣 0 ps·0 r·0 (claims· .0) (claims· .1) "formula::posting::empty_line") → Statement.Triple 𝓤 (Wp.WpFn 𝓤 H (𝓣 .C) (𝓣 .Λ) (Function.fnOf 1 ps r xs m hs body)) (Function.plainOf 𝓤 H A 1 ps r Pre· Post·)
 
     module _ (Inv·0 : InvT-loop) (μ·0 : MeasureT-loop) where
       abbrev at0 : Typed.TF T6 O4
@@ -374,7 +374,7 @@ module _ (claims· : Claims) where
 
       module _ {M : Type 1} (𝓤 : URA.URA M) (H : Wp.Heap 𝓤) (A : Atoms.Atoms 𝓤) (W : Kit.Given 𝓤 H A) (𝓣 : Wp.Tables 𝓤 H) where
         abbrev Knowns : Type 1
-        Knowns = Plain.Known 𝓤 H A W 𝓣 0 ps·0 r·0 (claims· .0) (claims· .1) "posting::empty_line"
+        Knowns = Plain.Known 𝓤 H A W 𝓣 0 ps·0 r·0 (claims· .0) (claims· .1) "formula::posting::empty_line"
 
       module _ (κs : Lifetimes.Lfts 1) (qs : Lifetimes.Shares 1) where
         abbrev G0 : Row.Cx
@@ -490,7 +490,7 @@ module _ (claims· : Claims) where
           d11 = Typed.s-seq 𝓤 H A W 𝓣 E G8 G9 b6 b11 Δ3 (Typed.ask s5) at10 (Scalar.t-op2 𝓤 H A W E 𝓣 G8 (Syntax.mul Syntax.unsigned) (Scalar.oAt 3 (Syntax.tyInt Syntax.w64) (Row.valS (Row.sInt Syntax.w64))) (Scalar.oInt Syntax.w64 16) 6 (Rows'.sc-here (Row.sInt Syntax.w64)) (Syntax.tyInt Syntax.w64) (Row.valS (Row.sInt Syntax.w64)) (Row.sInt Syntax.w64 .of) (Scalar.reads-sc 𝓤 H A W (Row.sInt Syntax.w64), Path'.refl) tt (Reads.room-gone 𝓤 H A (Syntax.tyInt Syntax.w64)) (Scalar.holds-sc 𝓤 H A W (Row.sInt Syntax.w64)) Path'.refl (λ u. Path'.refl) λ u. tt) d10
 
           d12 : Typed.Typed 𝓤 H A 𝓣 E G5 b13 Δ3 at12
-          d12 = Typed.s-seq 𝓤 H A W 𝓣 E G5 G8 b5 b12 Δ3 (Typed.both s4) at11 (Plain.t-call-plain 𝓤 H A W 𝓣 0 ps·0 r·0 (claims· .0) (claims· .1) "posting::empty_line" known E (λ pos β. β) G5 tt 5 List.[] (Call.sub-id 𝓤 H A W (G5 .slots)) tt (Reads.room-gone 𝓤 H A (LineKit.plain-ty)) tt Path'.refl) d11
+          d12 = Typed.s-seq 𝓤 H A W 𝓣 E G5 G8 b5 b12 Δ3 (Typed.both s4) at11 (Plain.t-call-plain 𝓤 H A W 𝓣 0 ps·0 r·0 (claims· .0) (claims· .1) "formula::posting::empty_line" known E (λ pos β. β) G5 tt 5 List.[] (Call.sub-id 𝓤 H A W (G5 .slots)) tt (Reads.room-gone 𝓤 H A (LineKit.plain-ty)) tt Path'.refl) d11
 
           d13 : Typed.Typed 𝓤 H A 𝓣 E G4 b14 Δ3 at13
           d13 = Typed.t-seq 𝓤 H A W 𝓣 E G4 G5 b4 b13 Δ3 at4 at12 d4 d12
@@ -697,6 +697,6 @@ module _ (claims· : Claims) where
           pub asked : (a : Kinds.Dens κs ps) → (good : Kinds.GoodsP κs ps a) → (pre : Pre· κs a) → (bs : List.List Nat.ℕ) → Φ (Any.wantQ 1 ps r xs m κs qs a (Post· κs a)) (Function.init 1 ps r xs m κs qs a)
           asked = λ a good pre bs. laid record { κs = κs; args = record { lines = a .0; n = a .1 .0 }; good = good; fits = record { n = record { fits = good .1 .0 .1 } }; pre = pre }
 
-        module _ {M : Type 1} (𝓤 : URA.URA M) (H : Wp.Heap 𝓤) (A : Atoms.Atoms 𝓤) (W : Kit.Given 𝓤 H A) (𝓣 : Wp.Tables 𝓤 H) (known0 : Plain.Known 𝓤 H A W 𝓣 0 ps·0 r·0 (claims· .0) (claims· .1) "posting::empty_line") where
+        module _ {M : Type 1} (𝓤 : URA.URA M) (H : Wp.Heap 𝓤) (A : Atoms.Atoms 𝓤) (W : Kit.Given 𝓤 H A) (𝓣 : Wp.Tables 𝓤 H) (known0 : Plain.Known 𝓤 H A W 𝓣 0 ps·0 r·0 (claims· .0) (claims· .1) "formula::posting::empty_line") where
           pub spec : Statement.Triple 𝓤 (Wp.WpFn 𝓤 H (𝓣 .C) (𝓣 .Λ) (Function.fnOf 1 ps r xs m hs body)) (Function.plainOf 𝓤 H A 1 ps r Pre· Post·)
           spec = Plain.t-fn-plain 𝓤 H A W 𝓣 1 ps r xs m hs body (λ κs qs bs. Φ) (λ κs qs bs bd. typed κs qs 𝓤 H A W 𝓣 known0 bs bd) Pre· Post· asked

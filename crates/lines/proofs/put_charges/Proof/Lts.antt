@@ -89,7 +89,7 @@ abbrev b7 : Syntax.Body
 b7 = Syntax.assign (Syntax.place 9 List.[]) (Syntax.rvOpd (Syntax.copy (Syntax.place 8 (List._∷_ (Syntax.deref (LineKit.plain-ty)) List.[]))))
 
 abbrev b8 : Syntax.Body
-b8 = Syntax.call "posting::charge_of" (List._∷_ (Syntax.copy (Syntax.place 9 List.[])) List.[]) (Syntax.place 6 List.[])
+b8 = Syntax.call "formula::posting::charge_of" (List._∷_ (Syntax.copy (Syntax.place 9 List.[])) List.[]) (Syntax.place 6 List.[])
 
 abbrev b9 : Syntax.Body
 b9 = Syntax.assign (Syntax.place 10 List.[]) (Syntax.op2 (Syntax.mul Syntax.unsigned) (Syntax.copy (Syntax.place 4 List.[])) (Syntax.int Syntax.w64 8))
@@ -374,7 +374,7 @@ module _ (claims· : Claims) where
   module _ (Pre· : (κs : Lifetimes.Lfts 2) → Kinds.Dens κs ps → Type 0) (Post· : (κs : Lifetimes.Lfts 2) → (a : Kinds.Dens κs ps) → Kinds.Plain 2 ps r κs) where
     module _ (M : Type 1) where
       abbrev pub Closed : Type 2
-      Closed = (𝓤 : URA.URA M) (H : Wp.Heap 𝓤) (A : Atoms.Atoms 𝓤) (W : Kit.Given 𝓤 H A) (𝓣 : Wp.Tables 𝓤 H) (known0 : Plain.Known 𝓤 H A W 𝓣 0 ps·0 r·0 (claims· .0) (claims· .1) "posting::charge_of") → Statement.Triple 𝓤 (Wp.WpFn 𝓤 H (𝓣 .C) (𝓣 .Λ) (Function.fnOf 2 ps r xs m hs body)) (Function.plainOf 𝓤 H A 2 ps r Pre· Post·)
+      Closed = (𝓤 : URA.URA M) (H : Wp.Heap 𝓤) (A : Atoms.Atoms 𝓤) (W : Kit.Given 𝓤 H A) (𝓣 : Wp.Tables 𝓤 H) (known0 : Plain.Known 𝓤 H A W 𝓣 0 ps·0 r·0 (claims· .0) (claims· .1) "formula::posting::charge_of") → Statement.Triple 𝓤 (Wp.WpFn 𝓤 H (𝓣 .C) (𝓣 .Λ) (Function.fnOf 2 ps r xs m hs body)) (Function.plainOf 𝓤 H A 2 ps r Pre· Post·)
 
     module _ (Inv·0 : InvT-loop) (μ·0 : MeasureT-loop) where
       abbrev at0 : Typed.TF T6 O4
@@ -469,7 +469,7 @@ module _ (claims· : Claims) where
 
       module _ {M : Type 1} (𝓤 : URA.URA M) (H : Wp.Heap 𝓤) (A : Atoms.Atoms 𝓤) (W : Kit.Given 𝓤 H A) (𝓣 : Wp.Tables 𝓤 H) where
         abbrev Knowns : Type 1
-        Knowns = Plain.Known 𝓤 H A W 𝓣 0 ps·0 r·0 (claims· .0) (claims· .1) "posting::charge_of"
+        Knowns = Plain.Known 𝓤 H A W 𝓣 0 ps·0 r·0 (claims· .0) (claims· .1) "formula::posting::charge_of"
 
       module _ (κs : Lifetimes.Lfts 2) (qs : Lifetimes.Shares 2) where
         abbrev G0 : Row.Cx
@@ -606,7 +606,7 @@ module _ (claims· : Claims) where
           d12 = Typed.g-pre 𝓤 H A W 𝓣 E G13 G14 b15 Δ3 (Typed.pass T13 T14 s10) at11 (Scalar.g-room 𝓤 H A W E G13 9 (LineKit.plain-ty) (LineKit.room 𝓤 H A W)) d11
 
           d13 : Typed.Typed 𝓤 H A 𝓣 E G12 b16 Δ3 at13
-          d13 = Typed.s-seq 𝓤 H A W 𝓣 E G12 G13 b8 b15 Δ3 (Typed.both s9) at12 (Plain.t-call-plain 𝓤 H A W 𝓣 0 ps·0 r·0 (claims· .0) (claims· .1) "posting::charge_of" known E (λ pos β. β) G12 (record { pos = 9; st = List.[]; d = 0; at = λ x. x }, tt) 6 List.[] (Call.sub-id 𝓤 H A W (G12 .slots)) ((LineKit.yields 𝓤 H A W, Path'.refl), tt) (Reads.room-gone 𝓤 H A (Syntax.tyInt Syntax.w64)) tt Path'.refl) d12
+          d13 = Typed.s-seq 𝓤 H A W 𝓣 E G12 G13 b8 b15 Δ3 (Typed.both s9) at12 (Plain.t-call-plain 𝓤 H A W 𝓣 0 ps·0 r·0 (claims· .0) (claims· .1) "formula::posting::charge_of" known E (λ pos β. β) G12 (record { pos = 9; st = List.[]; d = 0; at = λ x. x }, tt) 6 List.[] (Call.sub-id 𝓤 H A W (G12 .slots)) ((LineKit.yields 𝓤 H A W, Path'.refl), tt) (Reads.room-gone 𝓤 H A (Syntax.tyInt Syntax.w64)) tt Path'.refl) d12
 
           d14 : Typed.Typed 𝓤 H A 𝓣 E G11 b16 Δ3 at14
           d14 = Typed.g-pre 𝓤 H A W 𝓣 E G11 G12 b16 Δ3 (Typed.pass T11 T12 s8) at13 (Scalar.g-room 𝓤 H A W E G11 8 Syntax.tyPtr (Scalar.room-sc 𝓤 H A W Row.sPtr)) d13
@@ -861,6 +861,6 @@ module _ (claims· : Claims) where
           pub asked : (a : Kinds.Dens κs ps) → (good : Kinds.GoodsP κs ps a) → (pre : Pre· κs a) → (bs : List.List Nat.ℕ) → Φ (Any.wantQ 2 ps r xs m κs qs a (Post· κs a)) (Function.init 2 ps r xs m κs qs a)
           asked = λ a good pre bs. laid record { κs = κs; args = record { lines = a .0; n = a .1 .0; charges = a .1 .1 .0 }; good = good; fits = record { n = record { fits = good .1 .0 .1 } }; pre = pre }
 
-        module _ {M : Type 1} (𝓤 : URA.URA M) (H : Wp.Heap 𝓤) (A : Atoms.Atoms 𝓤) (W : Kit.Given 𝓤 H A) (𝓣 : Wp.Tables 𝓤 H) (known0 : Plain.Known 𝓤 H A W 𝓣 0 ps·0 r·0 (claims· .0) (claims· .1) "posting::charge_of") where
+        module _ {M : Type 1} (𝓤 : URA.URA M) (H : Wp.Heap 𝓤) (A : Atoms.Atoms 𝓤) (W : Kit.Given 𝓤 H A) (𝓣 : Wp.Tables 𝓤 H) (known0 : Plain.Known 𝓤 H A W 𝓣 0 ps·0 r·0 (claims· .0) (claims· .1) "formula::posting::charge_of") where
           pub spec : Statement.Triple 𝓤 (Wp.WpFn 𝓤 H (𝓣 .C) (𝓣 .Λ) (Function.fnOf 2 ps r xs m hs body)) (Function.plainOf 𝓤 H A 2 ps r Pre· Post·)
           spec = Plain.t-fn-plain 𝓤 H A W 𝓣 2 ps r xs m hs body (λ κs qs bs. Φ) (λ κs qs bs bd. typed κs qs 𝓤 H A W 𝓣 known0 bs bd) Pre· Post· asked

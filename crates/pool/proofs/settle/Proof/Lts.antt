@@ -168,7 +168,7 @@ abbrev b12 : Syntax.Body
 b12 = Syntax.assign (Syntax.place 15 List.[]) (Syntax.aggregate (List._∷_ (Syntax.copy (Syntax.place 14 List.[])) (List._∷_ (Syntax.copy (Syntax.place 5 (List._∷_ (Syntax.field 1) List.[]))) List.[])))
 
 abbrev b13 : Syntax.Body
-b13 = Syntax.call "deviations::put_deviations" (List._∷_ (Syntax.copy (Syntax.place 1 List.[])) (List._∷_ (Syntax.copy (Syntax.place 15 List.[])) List.[])) (Syntax.place 13 List.[])
+b13 = Syntax.call "byrecord::deviations::put_deviations" (List._∷_ (Syntax.copy (Syntax.place 1 List.[])) (List._∷_ (Syntax.copy (Syntax.place 15 List.[])) List.[])) (Syntax.place 13 List.[])
 
 abbrev b14 : Syntax.Body
 b14 = Syntax.assign (Syntax.place 8 List.[]) (Syntax.rvOpd (Syntax.copy (Syntax.place 6 (List._∷_ (Syntax.field 1) List.[]))))
@@ -180,7 +180,7 @@ abbrev b16 : Syntax.Body
 b16 = Syntax.assign (Syntax.place 17 List.[]) (Syntax.aggregate (List._∷_ (Syntax.copy (Syntax.place 16 List.[])) (List._∷_ (Syntax.copy (Syntax.place 4 (List._∷_ (Syntax.field 1) List.[]))) List.[])))
 
 abbrev b17 : Syntax.Body
-b17 = Syntax.call "sharing::put_shares" (List._∷_ (Syntax.copy (Syntax.place 1 List.[])) (List._∷_ (Syntax.copy (Syntax.place 8 List.[])) (List._∷_ (Syntax.copy (Syntax.place 17 List.[])) List.[]))) (Syntax.place 13 List.[])
+b17 = Syntax.call "byrecord::shares::put_shares" (List._∷_ (Syntax.copy (Syntax.place 1 List.[])) (List._∷_ (Syntax.copy (Syntax.place 8 List.[])) (List._∷_ (Syntax.copy (Syntax.place 17 List.[])) List.[]))) (Syntax.place 13 List.[])
 
 abbrev b18 : Syntax.Body
 b18 = Syntax.assign (Syntax.place 18 List.[]) (Syntax.addrOf (Syntax.place 5 (List._∷_ (Syntax.field 0) (List._∷_ (Syntax.deref (Syntax.tyInt Syntax.w64)) List.[]))))
@@ -822,7 +822,7 @@ module _ (claims· : Claims) where
   module _ (Pre· : (κs : Lifetimes.Lfts 5) → Kinds.Dens κs ps → Type 0) (Post· : (κs : Lifetimes.Lfts 5) → (a : Kinds.Dens κs ps) → Kinds.Plain 5 ps r κs) where
     module _ (M : Type 1) where
       abbrev pub Closed : Type 2
-      Closed = (𝓤 : URA.URA M) (H : Wp.Heap 𝓤) (A : Atoms.Atoms 𝓤) (W : Kit.Given 𝓤 H A) (𝓣 : Wp.Tables 𝓤 H) (known0 : Plain.Known 𝓤 H A W 𝓣 1 ps·0 r·0 (claims· .0) (claims· .1) "pool::answered") (known1 : Plain.Known 𝓤 H A W 𝓣 2 ps·1 r·1 (claims· .2) (claims· .3) "deviations::put_deviations") (known2 : Plain.Known 𝓤 H A W 𝓣 2 ps·2 r·2 (claims· .4) (claims· .5) "sharing::put_shares") (known3 : Plain.Known 𝓤 H A W 𝓣 4 ps·3 r·3 (claims· .6) (claims· .7) "lines::put_lines") (known4 : Plain.Known 𝓤 H A W 𝓣 1 ps·4 r·4 (claims· .8) (claims· .9) "hour::members") (known5 : Plain.Known 𝓤 H A W 𝓣 2 ps·5 r·5 (claims· .10) (claims· .11) "lines::put_charges") → Statement.Triple 𝓤 (Wp.WpFn 𝓤 H (𝓣 .C) (𝓣 .Λ) (Function.fnOf 5 ps r xs m hs body)) (Function.plainOf 𝓤 H A 5 ps r Pre· Post·)
+      Closed = (𝓤 : URA.URA M) (H : Wp.Heap 𝓤) (A : Atoms.Atoms 𝓤) (W : Kit.Given 𝓤 H A) (𝓣 : Wp.Tables 𝓤 H) (known0 : Plain.Known 𝓤 H A W 𝓣 1 ps·0 r·0 (claims· .0) (claims· .1) "pool::answered") (known1 : Plain.Known 𝓤 H A W 𝓣 2 ps·1 r·1 (claims· .2) (claims· .3) "byrecord::deviations::put_deviations") (known2 : Plain.Known 𝓤 H A W 𝓣 2 ps·2 r·2 (claims· .4) (claims· .5) "byrecord::shares::put_shares") (known3 : Plain.Known 𝓤 H A W 𝓣 4 ps·3 r·3 (claims· .6) (claims· .7) "lines::put_lines") (known4 : Plain.Known 𝓤 H A W 𝓣 1 ps·4 r·4 (claims· .8) (claims· .9) "hour::members") (known5 : Plain.Known 𝓤 H A W 𝓣 2 ps·5 r·5 (claims· .10) (claims· .11) "lines::put_charges") → Statement.Triple 𝓤 (Wp.WpFn 𝓤 H (𝓣 .C) (𝓣 .Λ) (Function.fnOf 5 ps r xs m hs body)) (Function.plainOf 𝓤 H A 5 ps r Pre· Post·)
 
     module _ where
       abbrev at0 : (bs : List.List Nat.ℕ) → Typed.TF T15 O1
@@ -1070,7 +1070,7 @@ module _ (claims· : Claims) where
 
       module _ {M : Type 1} (𝓤 : URA.URA M) (H : Wp.Heap 𝓤) (A : Atoms.Atoms 𝓤) (W : Kit.Given 𝓤 H A) (𝓣 : Wp.Tables 𝓤 H) where
         abbrev Knowns : Type 1
-        Knowns = Plain.Known 𝓤 H A W 𝓣 1 ps·0 r·0 (claims· .0) (claims· .1) "pool::answered" × Plain.Known 𝓤 H A W 𝓣 2 ps·1 r·1 (claims· .2) (claims· .3) "deviations::put_deviations" × Plain.Known 𝓤 H A W 𝓣 2 ps·2 r·2 (claims· .4) (claims· .5) "sharing::put_shares" × Plain.Known 𝓤 H A W 𝓣 4 ps·3 r·3 (claims· .6) (claims· .7) "lines::put_lines" × Plain.Known 𝓤 H A W 𝓣 1 ps·4 r·4 (claims· .8) (claims· .9) "hour::members" × Plain.Known 𝓤 H A W 𝓣 2 ps·5 r·5 (claims· .10) (claims· .11) "lines::put_charges"
+        Knowns = Plain.Known 𝓤 H A W 𝓣 1 ps·0 r·0 (claims· .0) (claims· .1) "pool::answered" × Plain.Known 𝓤 H A W 𝓣 2 ps·1 r·1 (claims· .2) (claims· .3) "byrecord::deviations::put_deviations" × Plain.Known 𝓤 H A W 𝓣 2 ps·2 r·2 (claims· .4) (claims· .5) "byrecord::shares::put_shares" × Plain.Known 𝓤 H A W 𝓣 4 ps·3 r·3 (claims· .6) (claims· .7) "lines::put_lines" × Plain.Known 𝓤 H A W 𝓣 1 ps·4 r·4 (claims· .8) (claims· .9) "hour::members" × Plain.Known 𝓤 H A W 𝓣 2 ps·5 r·5 (claims· .10) (claims· .11) "lines::put_charges"
 
       module _ (κs : Lifetimes.Lfts 5) (qs : Lifetimes.Shares 5) where
         abbrev g14 : List.List Row.Entry
@@ -1546,7 +1546,7 @@ module _ (claims· : Claims) where
           d54 = Typed.g-pre 𝓤 H A W 𝓣 E G31 G32 b46 Δ0 (Typed.pass T31 T32 (s29 bs)) (at53 bs) (Scalar.g-room 𝓤 H A W E G31 8 (Syntax.tyArray (Syntax.tyInt Syntax.w64) 8) (Init.room-arr 𝓤 H A W (DenSigned.SInt Syntax.w64) 8 0 8 Path'.refl)) d53
 
           d55 : Typed.Typed 𝓤 H A 𝓣 E G30 b47 Δ0 (at55 bs)
-          d55 = Typed.s-seq 𝓤 H A W 𝓣 E G30 G31 b17 b46 Δ0 (Typed.both (s28 bs)) (at54 bs) (Plain.t-call-plain 𝓤 H A W 𝓣 2 ps·2 r·2 (claims· .4) (claims· .5) "sharing::put_shares" (known .2) E (λ pos β. β) G30 (record { pos = 1; ty = Syntax.tyRef (Syntax.named 0) Syntax.imm (Syntax.tyInt Syntax.w8); ref = λ x. x }, (record { pos = 8; st = List.[]; d = 0; at = λ x. x }, (record { pos = 17; ty = Syntax.tyRef Syntax.erased Syntax.mut (Syntax.tyInt Syntax.w64); ref = λ x. x }, tt))) 13 (List._∷_ 0 (List._∷_ 6 List.[])) (Call.sub-id 𝓤 H A W (G30 .slots)) (ShrSlice.spares-sslice 𝓤 H A W (Referent.rtF (Referent.fInt Syntax.w8)) (Syntax.tyRef (Syntax.named 0) Syntax.imm (Syntax.tyInt Syntax.w8)) 0, Shared.reads-sslice 𝓤 H A W (Referent.rtF (Referent.fInt Syntax.w8)) (Syntax.tyRef (Syntax.named 0) Syntax.imm (Syntax.tyInt Syntax.w8)) 0, Path'.refl, ((Array.arr-yields 𝓤 H A W (Array.eSInt Syntax.w64) (Array.eSInt-laws Syntax.w64) 8, Path'.refl), (Reads'.as-is 𝓤 H A (Mut.mslice (DenSigned.SInt Syntax.w64) (Syntax.tyRef Syntax.erased Syntax.mut (Syntax.tyInt Syntax.w64)) 6), Mut.reads-mslice 𝓤 H A W (DenSigned.SInt Syntax.w64) (Syntax.tyRef Syntax.erased Syntax.mut (Syntax.tyInt Syntax.w64)) 6, Path'.refl, tt))) (Reads'.room-gone 𝓤 H A Syntax.tyUnit) (tt, (tt, tt)) Path'.refl) d54
+          d55 = Typed.s-seq 𝓤 H A W 𝓣 E G30 G31 b17 b46 Δ0 (Typed.both (s28 bs)) (at54 bs) (Plain.t-call-plain 𝓤 H A W 𝓣 2 ps·2 r·2 (claims· .4) (claims· .5) "byrecord::shares::put_shares" (known .2) E (λ pos β. β) G30 (record { pos = 1; ty = Syntax.tyRef (Syntax.named 0) Syntax.imm (Syntax.tyInt Syntax.w8); ref = λ x. x }, (record { pos = 8; st = List.[]; d = 0; at = λ x. x }, (record { pos = 17; ty = Syntax.tyRef Syntax.erased Syntax.mut (Syntax.tyInt Syntax.w64); ref = λ x. x }, tt))) 13 (List._∷_ 0 (List._∷_ 6 List.[])) (Call.sub-id 𝓤 H A W (G30 .slots)) (ShrSlice.spares-sslice 𝓤 H A W (Referent.rtF (Referent.fInt Syntax.w8)) (Syntax.tyRef (Syntax.named 0) Syntax.imm (Syntax.tyInt Syntax.w8)) 0, Shared.reads-sslice 𝓤 H A W (Referent.rtF (Referent.fInt Syntax.w8)) (Syntax.tyRef (Syntax.named 0) Syntax.imm (Syntax.tyInt Syntax.w8)) 0, Path'.refl, ((Array.arr-yields 𝓤 H A W (Array.eSInt Syntax.w64) (Array.eSInt-laws Syntax.w64) 8, Path'.refl), (Reads'.as-is 𝓤 H A (Mut.mslice (DenSigned.SInt Syntax.w64) (Syntax.tyRef Syntax.erased Syntax.mut (Syntax.tyInt Syntax.w64)) 6), Mut.reads-mslice 𝓤 H A W (DenSigned.SInt Syntax.w64) (Syntax.tyRef Syntax.erased Syntax.mut (Syntax.tyInt Syntax.w64)) 6, Path'.refl, tt))) (Reads'.room-gone 𝓤 H A Syntax.tyUnit) (tt, (tt, tt)) Path'.refl) d54
 
           d56 : Typed.Typed 𝓤 H A 𝓣 E G29 b48 Δ0 (at56 bs)
           d56 = Typed.s-seq 𝓤 H A W 𝓣 E G29 G30 b16 b47 Δ0 (Typed.ask (s27 bs)) (at55 bs) (Relend.t-sl-aggregate 𝓤 H A W E (DenSigned.SInt Syntax.w64) 𝓣 (Relend.asMut (DenSigned.SInt Syntax.w64)) G29 16 17 6 (Syntax.tyRef Syntax.erased Syntax.mut (Syntax.tyInt Syntax.w64)) (Syntax.tyRef Syntax.erased Syntax.mut (Syntax.tyInt Syntax.w64)) (λ x. x) (Scalar.oFld 4 (List._∷_ (Syntax.field 1) List.[]) (Syntax.tyInt Syntax.w64) 8 λ v. Shared.lenV (v .0)) (Reads'.as-is 𝓤 H A (Relend.msptr (DenSigned.SInt Syntax.w64) (Syntax.tyRef Syntax.erased Syntax.mut (Syntax.tyInt Syntax.w64)) 6)) (Reads'.room-gone 𝓤 H A (Syntax.tyStruct (List._∷_ 38 (List._∷_ 91 (List._∷_ 93 List.[]))) (Syntax.tcons (Syntax.tyRef Syntax.erased Syntax.mut (Syntax.tyInt Syntax.w64)) (Syntax.tcons (Syntax.tyInt Syntax.w64) Syntax.tnil)))) (Relend.reads-owed-len 𝓤 H A W (DenSigned.SInt Syntax.w64) (Syntax.tyRef (Syntax.named 3) Syntax.mut (Syntax.tyInt Syntax.w64)) 3 6 (Row.lease (κs .1 .1 .1 .0) (qs .1 .1 .1 .0)) 8 Path'.refl, Path'.refl) Path'.refl Path'.refl λ b o k. tt) d55
@@ -1573,7 +1573,7 @@ module _ (claims· : Claims) where
           d63 = Typed.g-pre 𝓤 H A W 𝓣 E G22 G23 b50 Δ0 (Typed.pass T22 T23 (s20 bs)) (at62 bs) (Scalar.g-room 𝓤 H A W E G22 13 Syntax.tyUnit (Scalar.room-sc 𝓤 H A W Row.sUnit)) d62
 
           d64 : Typed.Typed 𝓤 H A 𝓣 E G21 b51 Δ0 (at64 bs)
-          d64 = Typed.s-seq 𝓤 H A W 𝓣 E G21 G22 b13 b50 Δ0 (Typed.both (s19 bs)) (at63 bs) (Plain.t-call-plain 𝓤 H A W 𝓣 2 ps·1 r·1 (claims· .2) (claims· .3) "deviations::put_deviations" (known .1) E (λ pos β. β) G21 (record { pos = 1; ty = Syntax.tyRef (Syntax.named 0) Syntax.imm (Syntax.tyInt Syntax.w8); ref = λ x. x }, (record { pos = 15; ty = Syntax.tyRef Syntax.erased Syntax.mut (Syntax.tyInt Syntax.w64); ref = λ x. x }, tt)) 13 (List._∷_ 0 (List._∷_ 5 List.[])) (Call.sub-id 𝓤 H A W (G21 .slots)) (ShrSlice.spares-sslice 𝓤 H A W (Referent.rtF (Referent.fInt Syntax.w8)) (Syntax.tyRef (Syntax.named 0) Syntax.imm (Syntax.tyInt Syntax.w8)) 0, Shared.reads-sslice 𝓤 H A W (Referent.rtF (Referent.fInt Syntax.w8)) (Syntax.tyRef (Syntax.named 0) Syntax.imm (Syntax.tyInt Syntax.w8)) 0, Path'.refl, (Reads'.as-is 𝓤 H A (Mut.mslice (DenSigned.SInt Syntax.w64) (Syntax.tyRef Syntax.erased Syntax.mut (Syntax.tyInt Syntax.w64)) 5), Mut.reads-mslice 𝓤 H A W (DenSigned.SInt Syntax.w64) (Syntax.tyRef Syntax.erased Syntax.mut (Syntax.tyInt Syntax.w64)) 5, Path'.refl, tt)) (Reads'.room-gone 𝓤 H A Syntax.tyUnit) (tt, (tt, tt)) Path'.refl) d63
+          d64 = Typed.s-seq 𝓤 H A W 𝓣 E G21 G22 b13 b50 Δ0 (Typed.both (s19 bs)) (at63 bs) (Plain.t-call-plain 𝓤 H A W 𝓣 2 ps·1 r·1 (claims· .2) (claims· .3) "byrecord::deviations::put_deviations" (known .1) E (λ pos β. β) G21 (record { pos = 1; ty = Syntax.tyRef (Syntax.named 0) Syntax.imm (Syntax.tyInt Syntax.w8); ref = λ x. x }, (record { pos = 15; ty = Syntax.tyRef Syntax.erased Syntax.mut (Syntax.tyInt Syntax.w64); ref = λ x. x }, tt)) 13 (List._∷_ 0 (List._∷_ 5 List.[])) (Call.sub-id 𝓤 H A W (G21 .slots)) (ShrSlice.spares-sslice 𝓤 H A W (Referent.rtF (Referent.fInt Syntax.w8)) (Syntax.tyRef (Syntax.named 0) Syntax.imm (Syntax.tyInt Syntax.w8)) 0, Shared.reads-sslice 𝓤 H A W (Referent.rtF (Referent.fInt Syntax.w8)) (Syntax.tyRef (Syntax.named 0) Syntax.imm (Syntax.tyInt Syntax.w8)) 0, Path'.refl, (Reads'.as-is 𝓤 H A (Mut.mslice (DenSigned.SInt Syntax.w64) (Syntax.tyRef Syntax.erased Syntax.mut (Syntax.tyInt Syntax.w64)) 5), Mut.reads-mslice 𝓤 H A W (DenSigned.SInt Syntax.w64) (Syntax.tyRef Syntax.erased Syntax.mut (Syntax.tyInt Syntax.w64)) 5, Path'.refl, tt)) (Reads'.room-gone 𝓤 H A Syntax.tyUnit) (tt, (tt, tt)) Path'.refl) d63
 
           d65 : Typed.Typed 𝓤 H A 𝓣 E G20 b52 Δ0 (at65 bs)
           d65 = Typed.s-seq 𝓤 H A W 𝓣 E G20 G21 b12 b51 Δ0 (Typed.ask (s18 bs)) (at64 bs) (Relend.t-sl-aggregate 𝓤 H A W E (DenSigned.SInt Syntax.w64) 𝓣 (Relend.asMut (DenSigned.SInt Syntax.w64)) G20 14 15 5 (Syntax.tyRef Syntax.erased Syntax.mut (Syntax.tyInt Syntax.w64)) (Syntax.tyRef Syntax.erased Syntax.mut (Syntax.tyInt Syntax.w64)) (λ x. x) (Scalar.oFld 5 (List._∷_ (Syntax.field 1) List.[]) (Syntax.tyInt Syntax.w64) 8 λ v. Shared.lenV (v .0)) (Reads'.as-is 𝓤 H A (Relend.msptr (DenSigned.SInt Syntax.w64) (Syntax.tyRef Syntax.erased Syntax.mut (Syntax.tyInt Syntax.w64)) 5)) (Reads'.room-gone 𝓤 H A (Syntax.tyStruct (List._∷_ 38 (List._∷_ 91 (List._∷_ 93 List.[]))) (Syntax.tcons (Syntax.tyRef Syntax.erased Syntax.mut (Syntax.tyInt Syntax.w64)) (Syntax.tcons (Syntax.tyInt Syntax.w64) Syntax.tnil)))) (Relend.reads-owed-len 𝓤 H A W (DenSigned.SInt Syntax.w64) (Syntax.tyRef (Syntax.named 4) Syntax.mut (Syntax.tyInt Syntax.w64)) 4 5 (Row.lease (κs .1 .1 .1 .1 .0) (qs .1 .1 .1 .1 .0)) 8 Path'.refl, Path'.refl) Path'.refl Path'.refl λ b o k. tt) d64
@@ -2074,6 +2074,6 @@ module _ (claims· : Claims) where
           pub asked : (a : Kinds.Dens κs ps) → (good : Kinds.GoodsP κs ps a) → (pre : Pre· κs a) → (bs : List.List Nat.ℕ) → Φ bs (Any.wantQ 5 ps r xs m κs qs a (Post· κs a)) (Function.init 5 ps r xs m κs qs a)
           asked = λ a good pre bs. laid record { κs = κs; args = record { file = a .0; lines = a .1 .0; charges = a .1 .1 .0; shares = a .1 .1 .1 .0; deviations = a .1 .1 .1 .1 .0 }; blocks = bs; good = good; pre = pre }
 
-        module _ {M : Type 1} (𝓤 : URA.URA M) (H : Wp.Heap 𝓤) (A : Atoms.Atoms 𝓤) (W : Kit.Given 𝓤 H A) (𝓣 : Wp.Tables 𝓤 H) (known0 : Plain.Known 𝓤 H A W 𝓣 1 ps·0 r·0 (claims· .0) (claims· .1) "pool::answered") (known1 : Plain.Known 𝓤 H A W 𝓣 2 ps·1 r·1 (claims· .2) (claims· .3) "deviations::put_deviations") (known2 : Plain.Known 𝓤 H A W 𝓣 2 ps·2 r·2 (claims· .4) (claims· .5) "sharing::put_shares") (known3 : Plain.Known 𝓤 H A W 𝓣 4 ps·3 r·3 (claims· .6) (claims· .7) "lines::put_lines") (known4 : Plain.Known 𝓤 H A W 𝓣 1 ps·4 r·4 (claims· .8) (claims· .9) "hour::members") (known5 : Plain.Known 𝓤 H A W 𝓣 2 ps·5 r·5 (claims· .10) (claims· .11) "lines::put_charges") where
+        module _ {M : Type 1} (𝓤 : URA.URA M) (H : Wp.Heap 𝓤) (A : Atoms.Atoms 𝓤) (W : Kit.Given 𝓤 H A) (𝓣 : Wp.Tables 𝓤 H) (known0 : Plain.Known 𝓤 H A W 𝓣 1 ps·0 r·0 (claims· .0) (claims· .1) "pool::answered") (known1 : Plain.Known 𝓤 H A W 𝓣 2 ps·1 r·1 (claims· .2) (claims· .3) "byrecord::deviations::put_deviations") (known2 : Plain.Known 𝓤 H A W 𝓣 2 ps·2 r·2 (claims· .4) (claims· .5) "byrecord::shares::put_shares") (known3 : Plain.Known 𝓤 H A W 𝓣 4 ps·3 r·3 (claims· .6) (claims· .7) "lines::put_lines") (known4 : Plain.Known 𝓤 H A W 𝓣 1 ps·4 r·4 (claims· .8) (claims· .9) "hour::members") (known5 : Plain.Known 𝓤 H A W 𝓣 2 ps·5 r·5 (claims· .10) (claims· .11) "lines::put_charges") where
           pub spec : Statement.Triple 𝓤 (Wp.WpFn 𝓤 H (𝓣 .C) (𝓣 .Λ) (Function.fnOf 5 ps r xs m hs body)) (Function.plainOf 𝓤 H A 5 ps r Pre· Post·)
           spec = Plain.t-fn-plain 𝓤 H A W 𝓣 5 ps r xs m hs body (λ κs qs bs. Φ bs) (λ κs qs bs bd. typed κs qs 𝓤 H A W 𝓣 (known0, known1, known2, known3, known4, known5) bs bd) Pre· Post· asked

@@ -81,7 +81,7 @@ abbrev pub hs : List.List Syntax.Home
 hs = List._∷_ Syntax.valueLocal (List._∷_ Syntax.valueLocal (List._∷_ Syntax.valueLocal (List._∷_ Syntax.valueLocal (List._∷_ Syntax.valueLocal (List._∷_ Syntax.memorySlot (List._∷_ Syntax.valueLocal (List._∷_ Syntax.valueLocal (List._∷_ Syntax.valueLocal (List._∷_ Syntax.valueLocal (List._∷_ Syntax.valueLocal (List._∷_ Syntax.valueLocal (List._∷_ Syntax.valueLocal (List._∷_ Syntax.valueLocal (List._∷_ Syntax.valueLocal List.[]))))))))))))))
 
 abbrev b0 : Syntax.Body
-b0 = Syntax.call "posting::empty_line" List.[] (Syntax.place 6 List.[])
+b0 = Syntax.call "formula::posting::empty_line" List.[] (Syntax.place 6 List.[])
 
 abbrev b1 : Syntax.Body
 b1 = Syntax.assign (Syntax.place 5 List.[]) (Syntax.repeat (Syntax.copy (Syntax.place 6 List.[])) 32)
@@ -339,7 +339,7 @@ module _ (claims· : Claims) where
   module _ (Pre· : (κs : Lifetimes.Lfts 4) → Kinds.Dens κs ps → Type 0) (Post· : (κs : Lifetimes.Lfts 4) → (a : Kinds.Dens κs ps) → Kinds.Plain 4 ps r κs) where
     module _ (M : Type 1) where
       abbrev pub Closed : Type 2
-      Closed = (𝓤 : URA.URA M) (H : Wp.Heap 𝓤) (A : Atoms.Atoms 𝓤) (W : Kit.Given 𝓤 H A) (𝓣 : Wp.Tables 𝓤 H) (known0 : Plain.Known 𝓤 H A W 𝓣 0 ps·0 r·0 (claims· .0) (claims· .1) "posting::empty_line") (known1 : Plain.Known 𝓤 H A W 𝓣 5 ps·1 r·1 (claims· .2) (claims· .3) "pool::settle") → Statement.Triple 𝓤 (Wp.WpFn 𝓤 H (𝓣 .C) (𝓣 .Λ) (Function.fnOf 4 ps r xs m hs body)) (Function.plainOf 𝓤 H A 4 ps r Pre· Post·)
+      Closed = (𝓤 : URA.URA M) (H : Wp.Heap 𝓤) (A : Atoms.Atoms 𝓤) (W : Kit.Given 𝓤 H A) (𝓣 : Wp.Tables 𝓤 H) (known0 : Plain.Known 𝓤 H A W 𝓣 0 ps·0 r·0 (claims· .0) (claims· .1) "formula::posting::empty_line") (known1 : Plain.Known 𝓤 H A W 𝓣 5 ps·1 r·1 (claims· .2) (claims· .3) "pool::settle") → Statement.Triple 𝓤 (Wp.WpFn 𝓤 H (𝓣 .C) (𝓣 .Λ) (Function.fnOf 4 ps r xs m hs body)) (Function.plainOf 𝓤 H A 4 ps r Pre· Post·)
 
     module _ where
       abbrev at0 : (bs : List.List Nat.ℕ) → Typed.TF T31 O0
@@ -443,7 +443,7 @@ module _ (claims· : Claims) where
 
       module _ {M : Type 1} (𝓤 : URA.URA M) (H : Wp.Heap 𝓤) (A : Atoms.Atoms 𝓤) (W : Kit.Given 𝓤 H A) (𝓣 : Wp.Tables 𝓤 H) where
         abbrev Knowns : Type 1
-        Knowns = Plain.Known 𝓤 H A W 𝓣 0 ps·0 r·0 (claims· .0) (claims· .1) "posting::empty_line" × Plain.Known 𝓤 H A W 𝓣 5 ps·1 r·1 (claims· .2) (claims· .3) "pool::settle"
+        Knowns = Plain.Known 𝓤 H A W 𝓣 0 ps·0 r·0 (claims· .0) (claims· .1) "formula::posting::empty_line" × Plain.Known 𝓤 H A W 𝓣 5 ps·1 r·1 (claims· .2) (claims· .3) "pool::settle"
 
       module _ (κs : Lifetimes.Lfts 4) (qs : Lifetimes.Shares 4) where
         abbrev g8 : List.List Row.Entry
@@ -676,7 +676,7 @@ module _ (claims· : Claims) where
           d29 = Typed.s-seq 𝓤 H A W 𝓣 E G3 G4 b1 b20 Δ0 (Typed.pass T3 T4 (s2 bs)) (at28 bs) (Repeat.t-repeat-by 𝓤 H A W E 𝓣 (LineKit.R) (LineKit.lawful 𝓤 H A W) (LineKit.cp .copy 𝓤 H A W) 32 G3 5 (Scalar.oAt 6 (LineKit.plain-ty) λ x. Steps.only (LineKit.cp .vals x)) (λ m. m .1 .1 .1 .1 .1 .1 .0) (λ ρ. Unit) (Reads.room-gone 𝓤 H A (Syntax.tyArray (LineKit.plain-ty) 32)) (LineKit.reads 𝓤 H A W, Path'.refl) Path'.refl (Own.told-none 𝓤 H A (G3 .slots)) λ ρ m pf wa. Gives.elem-local 𝓤 H A W E ρ (LineKit.R) (λ x. Steps.only (LineKit.cp .vals x)) (LineKit.cp .tells) (Row.out 5 (G3 .locals)) m (λ ρ. Unit) pf 6 (LineKit.plain-ty) (λ x. x) (Yields.yields-copy 𝓤 H A W (λ ρ. Unit) (LineKit.R) Path'.refl (LineKit.cp .copy 𝓤 H A W) (LineKit.row) (λ x. x) (λ x. x) (λ ρ told. LineKit.mem 𝓤 H A W ρ) λ ρ told. LineKit.of-mem 𝓤 H A W ρ)) d28
 
           d30 : Typed.Typed 𝓤 H A 𝓣 E G2 b22 Δ0 (at30 bs)
-          d30 = Typed.s-seq 𝓤 H A W 𝓣 E G2 G3 b0 b21 Δ0 (Typed.both (s1 bs)) (at29 bs) (Plain.t-call-plain 𝓤 H A W 𝓣 0 ps·0 r·0 (claims· .0) (claims· .1) "posting::empty_line" (known .0) E (λ pos β. β) G2 tt 6 List.[] (Call.sub-id 𝓤 H A W (G2 .slots)) tt (Reads.room-gone 𝓤 H A (LineKit.plain-ty)) tt Path'.refl) d29
+          d30 = Typed.s-seq 𝓤 H A W 𝓣 E G2 G3 b0 b21 Δ0 (Typed.both (s1 bs)) (at29 bs) (Plain.t-call-plain 𝓤 H A W 𝓣 0 ps·0 r·0 (claims· .0) (claims· .1) "formula::posting::empty_line" (known .0) E (λ pos β. β) G2 tt 6 List.[] (Call.sub-id 𝓤 H A W (G2 .slots)) tt (Reads.room-gone 𝓤 H A (LineKit.plain-ty)) tt Path'.refl) d29
 
           d31 : Typed.Typed 𝓤 H A 𝓣 E G0 b22 Δ0 (at31 bs)
           d31 = Typed.g-pre 𝓤 H A W 𝓣 E G0 G2 b22 Δ0 (Typed.give (s0 bs)) (at30 bs) (Know.g-shs-known 𝓤 H A W (Referent.fInt Syntax.w8) E G0 1 0 (Syntax.tyRef (Syntax.named 0) Syntax.imm (Syntax.tyInt Syntax.w8)) (Row.lease (κs .0) (qs .0)) 0 (λ x. x) record { fits = Dec'.lit< tt } (Reads.as-is 𝓤 H A (Rows'.sslice (Referent.rtF (Referent.fInt Syntax.w8)) (Syntax.tyRef (Syntax.named 0) Syntax.imm (Syntax.tyInt Syntax.w8)) 0)) Path'.refl tt) d30
@@ -893,6 +893,6 @@ module _ (claims· : Claims) where
           pub asked : (a : Kinds.Dens κs ps) → (good : Kinds.GoodsP κs ps a) → (pre : Pre· κs a) → (bs : List.List Nat.ℕ) → Φ bs (Any.wantQ 4 ps r xs m κs qs a (Post· κs a)) (Function.init 4 ps r xs m κs qs a)
           asked = λ a good pre bs. laid record { κs = κs; args = record { file = a .0; charges = a .1 .0; shares = a .1 .1 .0; deviations = a .1 .1 .1 .0 }; blocks = bs; good = good; pre = pre }
 
-        module _ {M : Type 1} (𝓤 : URA.URA M) (H : Wp.Heap 𝓤) (A : Atoms.Atoms 𝓤) (W : Kit.Given 𝓤 H A) (𝓣 : Wp.Tables 𝓤 H) (known0 : Plain.Known 𝓤 H A W 𝓣 0 ps·0 r·0 (claims· .0) (claims· .1) "posting::empty_line") (known1 : Plain.Known 𝓤 H A W 𝓣 5 ps·1 r·1 (claims· .2) (claims· .3) "pool::settle") where
+        module _ {M : Type 1} (𝓤 : URA.URA M) (H : Wp.Heap 𝓤) (A : Atoms.Atoms 𝓤) (W : Kit.Given 𝓤 H A) (𝓣 : Wp.Tables 𝓤 H) (known0 : Plain.Known 𝓤 H A W 𝓣 0 ps·0 r·0 (claims· .0) (claims· .1) "formula::posting::empty_line") (known1 : Plain.Known 𝓤 H A W 𝓣 5 ps·1 r·1 (claims· .2) (claims· .3) "pool::settle") where
           pub spec : Statement.Triple 𝓤 (Wp.WpFn 𝓤 H (𝓣 .C) (𝓣 .Λ) (Function.fnOf 4 ps r xs m hs body)) (Function.plainOf 𝓤 H A 4 ps r Pre· Post·)
           spec = Plain.t-fn-plain 𝓤 H A W 𝓣 4 ps r xs m hs body (λ κs qs bs. Φ bs) (λ κs qs bs bd. typed κs qs 𝓤 H A W 𝓣 (known0, known1) bs bd) Pre· Post· asked

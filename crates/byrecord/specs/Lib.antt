@@ -1,0 +1,2 @@
+-- What the contracts of `byrecord` cite beside `rules`.
+pub mod Shared

@@ -1,2 +1,0 @@
--- What the floors above learn of a file: where its words lie.
-pub mod Rows

@@ -1,2 +1,0 @@
--- What the contracts of `posting` cite beside `rules`.
-pub mod Room

@@ -1,2 +1,0 @@
--- What the contracts of `sharing` cite beside `rules`.
-pub mod Shared
