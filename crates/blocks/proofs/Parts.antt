@@ -6,7 +6,8 @@ use native.Mathlib.Omega.{arith}
 use lib.ListN.{length, drop, length-drop}
 use lib.Seq.{length-take-le}
 use Rattle.rules.specs.declared.Layout.{Layout}
-use Rattle.rules.specs.HourFile.{FitsBody, body}
+use Rattle.rules.specs.HourFile.{body}
+use Rattle.rules.specs.Inner.Layouts.{FitsBody}
 use Rattle.rules.proofs.Layouts.{ends-inside}
 use Rattle.rules.proofs.Words.{body-length}
 use Rattle.blocks.specs.Part.{recordPart, RecordThere}

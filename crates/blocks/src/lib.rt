@@ -12,7 +12,7 @@ ghost use Rattle.whole.specs.Below.{sumBelow, firstBelow};
 ghost use Rattle.rules.specs.Record as Record;
 ghost use Rattle.rules.specs.declared.Layout as LayoutOf;
 ghost use Rattle.rules.specs.HourFile as HourFile;
-ghost use Rattle.rules.specs.HourFile.{FitsBody};
+ghost use Rattle.rules.specs.Inner.Layouts.{FitsBody};
 ghost use Rattle.rules.specs.Ranges as Ranges;
 ghost use Rattle.rules.specs.Refusals as Refusals;
 ghost use Rattle.rules.specs.Refusals.{foundAt};

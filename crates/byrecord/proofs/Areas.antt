@@ -21,7 +21,7 @@ use Rattle.rules.specs.Ufe.{inArea, ufe, demand}
 use Rattle.rules.specs.Share.{shareSize}
 use Rattle.rules.specs.Charge.{shareOf}
 use Rattle.rules.specs.HourFile.{word}
-use Rattle.rules.specs.Kept.{HourKept}
+use Rattle.rules.specs.Inner.Kept.{HourKept}
 use Rattle.rules.proofs.Shares.{size-ext, size-at-most}
 use Rattle.rules.proofs.Fair.{share-in}
 use Rattle.rules.proofs.Bounds.{ufe-under}

@@ -11,7 +11,7 @@ use Rattle.rules.specs.Record.{Hour, areas, areaOf, isLoad}
 use Rattle.rules.specs.Ufe.{inArea, demand}
 use Rattle.rules.specs.Charge.{shareOf}
 use Rattle.rules.specs.Settling.{ufeFigures}
-use Rattle.rules.specs.Kept.{FileKept}
+use Rattle.rules.specs.Inner.Kept.{FileKept}
 use Rattle.hour.specs.Hour.{hourIn}
 
 module _ (h : Hour) where

@@ -6,7 +6,7 @@ ghost use lib.ListN.{length};
 ghost use Rattle.whole.specs.Below.{replacingFirst};
 ghost use Rattle.rules.specs.Record.{entryOf};
 ghost use Rattle.rules.specs.Deviation.{deviation};
-ghost use Rattle.rules.specs.Kept.{FileKept};
+ghost use Rattle.rules.specs.Inner.Kept.{FileKept};
 ghost use Rattle.hour.specs.Hour.{hourIn};
 
 // Record `i`'s.

@@ -11,7 +11,7 @@ ghost use Rattle.whole.specs.Below.{valuesBelow, replacingFirst};
 ghost use Rattle.whole.specs.Signed.{withSignOf};
 ghost use Rattle.rules.specs.Record.{areaOf};
 ghost use Rattle.rules.specs.Charge.{shareOf};
-ghost use Rattle.rules.specs.Kept.{FileKept};
+ghost use Rattle.rules.specs.Inner.Kept.{FileKept};
 ghost use Rattle.hour.specs.Hour.{hourIn};
 ghost use Rattle.byrecord.specs.Shared.{demandIn, sharesBelow, withSizes, Sharing, SharedUpTo, Sized};
 

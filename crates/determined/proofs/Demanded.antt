@@ -12,7 +12,7 @@ use Rattle.rules.specs.declared.Line.{Line}
 use Rattle.rules.specs.Refusals.{Verdict, refusedAt, verdictOf}
 use Rattle.rules.specs.Settling.{Buffers, Settlement, settle as settling}
 use Rattle.rules.specs.Statement as Statement
-use Rattle.rules.specs.Kept.{FileKept}
+use Rattle.rules.specs.Inner.Kept.{FileKept}
 use Rattle.rules.proofs.Rows.{settle-verdict, settle-changes-nothing}
 use Rattle.rules.proofs.Demands.{demand2, demand3}
 use Rattle.amount.specs.Promised.{Wrote, HasRead}

@@ -6,7 +6,7 @@ use Rattle.amount.proofs.RoundTrips.{one-reading}
 use Rattle.rules.specs.Settling.{Buffers, Settlement, Written, ReadAmount}
 use Rattle.pool.specs.Buffers.{buffers}
 use Rattle.pool.specs.Unlined.{unlined}
-use Rattle.rules.proofs.Rows.{one-result}
+use Rattle.rules.proofs.Rows.{one-settlement}
 use Rattle.determined.specs.Determined.{OneResult, OneOutcome}
 use Rattle.determined.proofs.Laws.{agree, agree-answer}
 use Rattle.amount.proofs.write.Reads as write
@@ -70,12 +70,12 @@ one-statement κs a x y s t p q = (agree (p .0) (q .0), agree (p .1) (q .1))
 
 pub one-settle : (κs : Lfts 5) →
     OneOutcome (settle.Post κs) (λ s. buffers (now (s .1 .1 .0)) (now (s .1 .1 .1 .0)) (now (s .1 .1 .1 .1 .0)) (now (s .1 .0)))
-one-settle κs a x y s t p q = one-result _ _ x y _ _ p q
+one-settle κs a x y s t p q = one-settlement _ _ x y _ _ p q
 
 pub one-settle-unlined : (κs : Lfts 4) →
     OneOutcome (settle-unlined.Post κs) (λ s. unlined (now (s .1 .0)) (now (s .1 .1 .0)) (now (s .1 .1 .1 .0)))
 one-settle-unlined κs a x y s t p q =
-    let one = one-result _ _ x y _ _ (p .fits) (q .fits) in
+    let one = one-settlement _ _ x y _ _ (p .fits) (q .fits) in
     (one .0, ap (λ (b : Buffers). unlined (b .charges) (b .shares) (b .deviations)) (one .1))
 
 -- ---- the functions for C

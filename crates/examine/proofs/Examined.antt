@@ -7,7 +7,7 @@ use Rattle.rules.specs.declared.Answer.{Answer}
 use Rattle.rules.specs.declared.Answer.the-variants.{Accepted}
 use Rattle.rules.specs.Refusals.{verdictOf, verdict, fileRows}
 use Rattle.rules.specs.Promises.{AllWhole}
-use Rattle.rules.specs.Kept.{FileKept}
+use Rattle.rules.specs.Inner.Kept.{FileKept}
 use Rattle.rules.proofs.Rows.{accepts-when-whole, file-numbered, one-answer}
 use Rattle.rules.proofs.Kept.{file-kept}
 

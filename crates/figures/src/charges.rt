@@ -1,10 +1,11 @@
 // Charges: grains to the nearest cent, halves away from zero.
+ghost use Rattle.rules.specs.Refusals.{mostGrains};
 ghost use Rattle.whole.specs.Signed.{Under};
 use streams::print;
 use streams::print_signed;
 
 fn show(grains: i64)
-    requires { ⌜ Under grains 4000000000000000000 ⌝ }
+    requires { ⌜ Under grains mostGrains ⌝ }
 {
     print(b"grains ");
     print_signed(grains);

@@ -1,5 +1,5 @@
 // Deviations: the figures of document 01, and what N changes for a generator and an import.
-ghost use Rattle.rules.specs.Kept.{EntryKept};
+ghost use Rattle.rules.specs.Inner.Kept.{EntryKept};
 ghost use Rattle.formula.specs.Meant.{meant};
 use formula::deviation::deviation;
 use formula::entry::Entry;

@@ -6,11 +6,11 @@ mod deviations;
 mod shares;
 
 fn main() {
-    byrecord::deviations::show_generators();
-    byrecord::deviations::show_loads();
-    byrecord::deviations::show_profile_loads();
-    byrecord::deviations::show_imports();
-    byrecord::deviations::show_exports();
+    deviations::show_generators();
+    deviations::show_loads();
+    deviations::show_profile_loads();
+    deviations::show_imports();
+    deviations::show_exports();
     shares::show_shares();
     charges::show_charges();
 }

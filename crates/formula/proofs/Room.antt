@@ -6,11 +6,11 @@ use lib.ListN.{getD}
 use Rattle.whole.proofs.Tests.{cond-ind}
 use Rattle.whole.proofs.Ranges.{_u+_, u-fits}
 use Rattle.whole.proofs.Sums.{count-most}
-use Rattle.rules.specs.Record.{Hour, memberOf, areaOf, entryOf, isLoad}
+use Rattle.rules.specs.Record.{Hour, memberOf, areaOf, entry, entryOf, isLoad}
 use Rattle.rules.specs.Ufe.{demand}
 use Rattle.rules.specs.Charge.{grains}
-use Rattle.rules.specs.Posting.{accounted, demandOf, tallyAfter}
-use Rattle.rules.specs.Kept.{HourKept}
+use Rattle.rules.specs.Inner.Posting.{accounted, demandBy, demandOf, tallyAfter}
+use Rattle.rules.specs.Inner.Kept.{HourKept}
 use Rattle.rules.proofs.Posting.{tally-records, tally-demand, tally-energy, lineAfter}
 use Rattle.rules.proofs.Bounds.{accounted-under, demand-running, energy-running, grains-under, amount-running}
 use Rattle.formula.specs.Room.{TallyRoom, LineRoom}
@@ -20,7 +20,7 @@ module _ {h : Hour} (kept : HourKept h) (n : ℕ) (there : n < h .count) where
   area-there = omega (arith, kept .record-kept n there .area-there, kept .areas-most)
 
   demand-most : demandOf h n ≤ 100000
-  unfolding demandOf
+  unfolding demandBy entryOf entry
   demand-most = cond-ind (isLoad (entryOf h n .kind)) (demand h n) 0 (λ d. d ≤ 100000) (λ t. kept .record-kept n there .demand-most)
       (λ t. omega arith)
 

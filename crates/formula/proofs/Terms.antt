@@ -2,7 +2,7 @@
 use lib.IntN.{pos}
 use Rattle.whole.proofs.Machine.{Num, #, at, at0, _:-_, _:*_}
 use Rattle.rules.specs.Record.{Entry}
-use Rattle.rules.specs.Kept.{EntryKept}
+use Rattle.rules.specs.Inner.Kept.{EntryKept}
 
 module _ {r : Entry} (k : EntryKept r) where
   open EntryKept k using (S-in, A-in, J-in, N-in, O-in, M-in, F-in, H-in)

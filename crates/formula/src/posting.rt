@@ -3,7 +3,9 @@
 ghost use mathlib.Core.Path.{_≡_};
 ghost use Rattle.whole.specs.Signed.{Under};
 ghost use Rattle.rules.specs.Charge as Charge;
-ghost use Rattle.rules.specs.Posting as Posting;
+ghost use Rattle.rules.specs.Refusals.{mostGrains};
+ghost use Rattle.rules.specs.Settling as Settling;
+ghost use Rattle.rules.specs.Inner.Posting as Posting;
 ghost use Rattle.formula.specs.Room.{TallyRoom, LineRoom};
 use rules::Line;
 use rules::Tally;
@@ -31,7 +33,7 @@ pub fn tallied(t: Tally, area: usize, demand: u64, energy: i64) -> Tally
 }
 
 pub fn empty_line() -> Line
-    ensures { λ l. ⌜ l ≡ Posting.emptyLine ⌝ }
+    ensures { λ l. ⌜ l ≡ Settling.emptyLine ⌝ }
 {
     Line {
         amount: 0,
@@ -52,7 +54,7 @@ pub fn line_with(l: Line, grains: i64) -> Line
 
 // Grains to the nearest cent, halves away from zero: half a cent away from zero first, since `/` goes toward it.
 pub fn cents(grains: i64) -> i64
-    requires { ⌜ Under grains 4000000000000000000 ⌝ }
+    requires { ⌜ Under grains mostGrains ⌝ }
     ensures { λ r. ⌜ r ≡ Charge.cents grains ⌝ }
 {
     if grains < 0 {
@@ -64,7 +66,7 @@ pub fn cents(grains: i64) -> i64
 
 // A member's charge: its line's grains in cents.
 pub fn charge_of(l: Line) -> i64
-    requires { ⌜ Under (l .amount) 4000000000000000000 ⌝ }
+    requires { ⌜ Under (l .amount) mostGrains ⌝ }
     ensures { λ r. ⌜ r ≡ Charge.cents (l .amount) ⌝ }
 {
     cents(l.amount)

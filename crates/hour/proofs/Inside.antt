@@ -7,7 +7,7 @@ use Prim.Native.Nat.{ℕ, _+_, _*_, _/_, _%_, _≤_, _<_}
 use native.Mathlib.Omega.{arith}
 use lib.ListN.{length}
 use Rattle.rules.specs.HourFile.{hourly, word, lengthBad, blocks, blockWord, recordWord, hourOf}
-use Rattle.rules.specs.Kept.{FileKept}
+use Rattle.rules.specs.Inner.Kept.{FileKept}
 use Rattle.rules.proofs.Layouts.{hourly-fits}
 use Rattle.rules.proofs.Words.{length-is-whole, record-count, record-word, head-word}
 use Rattle.rules.proofs.PartWords.{word-past, record-part-word}

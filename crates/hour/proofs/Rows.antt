@@ -6,11 +6,11 @@ use native.Mathlib.Omega.{arith}
 use lib.ListN.{length}
 use Rattle.rules.specs.Record.{memberOf, areaOf, entry, entryOf, kindOf}
 use Rattle.rules.specs.HourFile.{hourly, word}
-use Rattle.rules.specs.Posting.{demandOf}
-use Rattle.rules.specs.Kept.{FileKept, EntryKept}
+use Rattle.rules.specs.Inner.Posting.{demandBy, demandOf}
+use Rattle.rules.specs.Inner.Kept.{FileKept, EntryKept}
 use Rattle.blocks.specs.Part.{recordPart}
 use Rattle.hour.proofs.Inside.{row-length, row-word}
-use Rattle.hour.specs.Hour.{hourIn, demandBy}
+use Rattle.hour.specs.Hour.{hourIn}
 
 -- row is record i's part of a file that keeps its ranges
 pub record PartOf (s : List ℕ) (i : ℕ) (row : List ℕ) : Type 0 where
@@ -56,5 +56,5 @@ module _ {s row : List ℕ} {i : ℕ} (p : PartOf s i row) where
   part-entry-kept = rw part-entry (p .kept .hour-kept .record-kept i (p .there) .entry-kept)
 
   pub part-demand : demandBy (word row) ≡ demandOf (hourIn s) i
-  unfolding demandBy demandOf entryOf entry
+  unfolding demandBy
   part-demand = rw (says 0 (omega arith), says 4 (omega arith))

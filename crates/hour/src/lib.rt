@@ -7,11 +7,11 @@ ghost use lib.ListN.{length};
 ghost use Rattle.rules.specs.Record as Record;
 ghost use Rattle.rules.specs.HourFile as HourFile;
 ghost use Rattle.rules.specs.HourFile.{hourly, word};
-ghost use Rattle.rules.specs.Posting.{demandOf};
-ghost use Rattle.rules.specs.Kept.{FileKept};
+ghost use Rattle.rules.specs.Inner.Posting.{demandBy, demandOf};
+ghost use Rattle.rules.specs.Inner.Kept.{FileKept};
 ghost use Rattle.blocks.specs.Part.{recordPart, RecordThere};
 ghost use Rattle.formula.specs.Meant.{meant};
-ghost use Rattle.hour.specs.Hour.{hourIn, demandBy};
+ghost use Rattle.hour.specs.Hour.{hourIn};
 use formula::entry::Entry;
 use rules::Kind;
 

@@ -11,8 +11,9 @@ use Rattle.whole.proofs.Buffers.{getD-replacing, length-replacing}
 use Rattle.rules.specs.declared.Line.{Line}
 use Rattle.rules.specs.Record.{Hour, members, memberOf}
 use Rattle.rules.specs.Charge.{grains}
-use Rattle.rules.specs.Posting.{emptyLine, linesWith, linesAfter}
-use Rattle.rules.specs.Kept.{HourKept}
+use Rattle.rules.specs.Inner.Posting.{linesWith, linesAfter}
+use Rattle.rules.specs.Settling.{emptyLine}
+use Rattle.rules.specs.Inner.Kept.{HourKept}
 use Rattle.rules.proofs.Posting.{lineAfter, lines-after}
 use Rattle.formula.specs.Room.{LineRoom}
 use Rattle.formula.proofs.Room as Room

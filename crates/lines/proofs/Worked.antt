@@ -10,7 +10,7 @@ use Rattle.whole.proofs.Buffers.{getD-replacing, length-replacing}
 use Rattle.rules.specs.Record.{Hour, entryOf}
 use Rattle.rules.specs.Deviation.{deviation}
 use Rattle.rules.specs.Charge.{shareOf}
-use Rattle.rules.specs.Kept.{FileKept}
+use Rattle.rules.specs.Inner.Kept.{FileKept}
 use Rattle.hour.specs.Hour.{hourIn}
 use Rattle.lines.specs.Lined.{AllWorked}
 

@@ -7,7 +7,7 @@ use lib.ListN.{length, getD}
 use Rattle.rules.specs.Record.{entryOf}
 use Rattle.rules.specs.Deviation as Deviation
 use Rattle.rules.specs.Charge.{shareOf}
-use Rattle.rules.specs.Kept.{FileKept}
+use Rattle.rules.specs.Inner.Kept.{FileKept}
 use Rattle.hour.specs.Hour.{hourIn}
 
 -- record i is there, and its deviation and share are worked

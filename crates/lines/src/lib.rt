@@ -7,7 +7,9 @@ ghost use Rattle.whole.specs.Below.{replacingFirst};
 ghost use Rattle.whole.specs.Signed.{Under};
 ghost use Rattle.rules.specs.Record as Record;
 ghost use Rattle.rules.specs.Charge as Charge;
-ghost use Rattle.rules.specs.Posting as Posting;
+ghost use Rattle.rules.specs.Refusals.{mostGrains};
+ghost use Rattle.rules.specs.Settling as Settling;
+ghost use Rattle.rules.specs.Inner.Posting as Posting;
 ghost use Rattle.formula.specs.Room.{LineRoom};
 ghost use Rattle.hour.specs.Hour.{hourIn};
 ghost use Rattle.lines.specs.Lined.{Worked, AllWorked};
@@ -26,7 +28,7 @@ pub fn grains(file: &[u8], i: usize, deviation: i64, share: i64) -> i64
 
 // Touches the member's line and no other.
 fn post_line(lines: &mut [Line], member: usize, grains: i64)
-    requires { ⌜ (member < length (now lines)) × LineRoom (getD (now lines) member Posting.emptyLine) grains ⌝ }
+    requires { ⌜ (member < length (now lines)) × LineRoom (getD (now lines) member Settling.emptyLine) grains ⌝ }
     ensures { λ _. ⌜ now (lines .exit) ≡ Posting.linesWith (now (lines .entry)) member grains ⌝ }
 {
     let before = lines[member];
@@ -36,7 +38,7 @@ fn post_line(lines: &mut [Line], member: usize, grains: i64)
 // The first `n` lines empty.
 fn clear_lines(lines: &mut [Line], n: usize)
     requires { ⌜ n ≤ length (now lines) ⌝ }
-    ensures { λ _. ⌜ now (lines .exit) ≡ replacingFirst (λ m. Posting.emptyLine) n (now (lines .entry)) ⌝ }
+    ensures { λ _. ⌜ now (lines .exit) ≡ replacingFirst (λ m. Settling.emptyLine) n (now (lines .entry)) ⌝ }
 {
     let mut m = 0;
     while m < n {
@@ -65,9 +67,9 @@ pub fn put_lines(file: &[u8], deviations: &[i64], shares: &[i64], lines: &mut [L
 // The first `n` members' charges, from their lines; the places past them are unchanged.
 pub fn put_charges(lines: &[Line], n: usize, charges: &mut [i64])
     requires { ⌜ (n ≤ length (now lines)) × (n ≤ length (now charges))
-        × ((m : ℕ) → m < n → Under (getD (now lines) m Posting.emptyLine .amount) 4000000000000000000) ⌝ }
+        × ((m : ℕ) → m < n → Under (getD (now lines) m Settling.emptyLine .amount) mostGrains) ⌝ }
     ensures { λ _. ⌜ now (charges .exit)
-        ≡ replacingFirst (λ m. Charge.cents (getD (now (lines .entry)) m Posting.emptyLine .amount)) n (now (charges .entry)) ⌝ }
+        ≡ replacingFirst (λ m. Charge.cents (getD (now (lines .entry)) m Settling.emptyLine .amount)) n (now (charges .entry)) ⌝ }
 {
     let mut m = 0;
     while m < n {

@@ -20,11 +20,11 @@ use Rattle.rules.specs.declared.Settled.{Settled}
 use Rattle.rules.specs.Record.{Hour, members, entryOf}
 use Rattle.rules.specs.Deviation.{deviation}
 use Rattle.rules.specs.Charge.{shareOf, cents, charge}
-use Rattle.rules.specs.Refusals.{Row, row, accepted, verdictOf, verdict, badArea, badAmount, tooShort, tableRows, fileRows}
-use Rattle.rules.specs.Settling.{Buffers, lineOf, filled, settleRows, ufeFigures, noFigures, settle}
-use Rattle.rules.specs.Posting.{emptyLine, linesAfter}
+use Rattle.rules.specs.Refusals.{Row, row, accepted, verdictOf, verdict, badArea, badAmount, mostGrains, tooShort, tableRows, fileRows}
+use Rattle.rules.specs.Settling.{Buffers, lineOf, filled, settleRows, ufeFigures, noFigures, settle, emptyLine}
+use Rattle.rules.specs.Inner.Posting.{linesAfter}
 use Rattle.rules.specs.Promises.{Accepts, Fits}
-use Rattle.rules.specs.Kept.{FileKept}
+use Rattle.rules.specs.Inner.Kept.{FileKept}
 use Rattle.rules.proofs.Rows.{accepts-when-whole, passed-on, file-numbered, file-decides, one-answer}
 use Rattle.rules.proofs.Rows.{settle-verdict, settle-whole, settle-changes-nothing, settle-fills}
 use Rattle.rules.proofs.Kept.{passed-kept}
@@ -137,12 +137,12 @@ module _ (s : List ℕ) (b : Buffers) where
           line-at m l = rw lines-written (getD-replacing (lineOf h) (members h) (b .lines) m emptyLine l)
 
           -- no line is too large for cents
-          line-small : (m : ℕ) → m < n → Under (getD lines m emptyLine .amount) 4000000000000000000
+          line-small : (m : ℕ) → m < n → Under (getD lines m emptyLine .amount) mostGrains
           unfolding lineOf
           line-small m l = rw (line-at m (omega (arith, all))) (u-le (amount-under (kept .hour-kept) m) (omega arith))
 
           pub can-put-charges : (n ≤ length lines) × (n ≤ length (b .charges))
-              × ((m : ℕ) → m < n → Under (getD lines m emptyLine .amount) 4000000000000000000)
+              × ((m : ℕ) → m < n → Under (getD lines m emptyLine .amount) mostGrains)
           can-put-charges = (
             omega (
               arith,

@@ -5,8 +5,7 @@ use lib.IntN.{ℤ}
 use lib.ListN.{replicate}
 use Rattle.rules.specs.declared.Line.{Line}
 use Rattle.rules.specs.declared.Settled.{Settled}
-use Rattle.rules.specs.Settling.{Buffers}
-use Rattle.rules.specs.Posting.{emptyLine}
+use Rattle.rules.specs.Settling.{Buffers, emptyLine}
 use Rattle.rules.specs.Promises.{Fits}
 use Rattle.pool.specs.Buffers.{buffers}
 

@@ -12,7 +12,7 @@ use Rattle.rules.specs.Record.{members}
 use Rattle.rules.specs.Charge.{charge}
 use Rattle.rules.specs.Refusals.{verdictOf, verdict, hourRows}
 use Rattle.rules.specs.Statement.{statement}
-use Rattle.rules.specs.Kept.{FileKept}
+use Rattle.rules.specs.Inner.Kept.{FileKept}
 use Rattle.hour.specs.Hour.{hourIn}
 
 -- the bytes put, and the slice afterwards

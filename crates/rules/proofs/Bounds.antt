@@ -24,10 +24,11 @@ use Rattle.rules.specs.Record.{Hour, Entry, members, areas, price, zoneO
 use Rattle.rules.specs.Deviation.{unitsPerKWh, generatorUnavailable, generatorDeviation, loadUnavailable, loadDeviation}
 use Rattle.rules.specs.Deviation.{importDeviation, exportDeviation, deviationAs, deviation}
 use Rattle.rules.specs.Ufe.{inArea, ufe, demand, demands}
+use Rattle.rules.specs.Share.{allDemand}
 use Rattle.rules.specs.Charge.{enteringAs, entering, nearestCent, cents, shareOf, grains, amount, charge}
-use Rattle.rules.specs.Posting.{accountedAs, accounted}
-use Rattle.rules.specs.Refusals.{badAmount}
-use Rattle.rules.specs.Kept.{EntryKept, HourKept}
+use Rattle.rules.specs.Inner.Posting.{accountedAs, accounted}
+use Rattle.rules.specs.Refusals.{mostGrains, badAmount}
+use Rattle.rules.specs.Inner.Kept.{EntryKept, HourKept}
 use Rattle.rules.proofs.Tariff.{ufe-by-record}
 use Rattle.rules.proofs.Fair.{share-sizes-at-most}
 
@@ -126,7 +127,7 @@ module _ {h : Hour} (kept : HourKept h) where
           (λ t. zero-le)
 
   pub demands-most : (a : ℕ) → demands h a ≤ 25000000
-  unfolding demands
+  unfolding demands allDemand
   demands-most a = demand-running a (h .count) (le-refl (h .count))
 
   energy-at : (i : ℕ) → i < h .count → Under (accounted (entryOf h i)) 2000000000
@@ -235,7 +236,7 @@ module _ {h : Hour} (kept : HourKept h) where
   -- Row 7 is never broken.
   pub row-7-never : badAmount h ≡ none
   unfolding badAmount
-  row-7-never = none-below _ (members h) (λ m l. le-ltb 4000000000000000000 (natAbs (amount h m)) (let u = amount-under m in omega arith))
+  row-7-never = none-below _ (members h) (λ m l. le-ltb mostGrains (natAbs (amount h m)) (let u = amount-under m in omega arith))
 
   -- No charge is over 355,000,000,000 cents in size.
   pub charge-under : (m : ℕ) → Under (charge h m) 355000000000

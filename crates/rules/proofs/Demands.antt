@@ -23,10 +23,9 @@ use Rattle.rules.specs.Charge.{shareOf, amount, recordsOf, cents, neares
 use Rattle.rules.specs.Text.{bytes, digitByte, amountText, amountField}
 use Rattle.rules.specs.HourFile.{hourly, hourOf}
 use Rattle.rules.specs.Refusals.{badArea, tooShort, tableRows, hourRows}
-use Rattle.rules.specs.Settling.{Buffers, settle, filled, ufeFigures, lineOf}
-use Rattle.rules.specs.Posting.{emptyLine}
+use Rattle.rules.specs.Settling.{Buffers, settle, filled, ufeFigures, lineOf, emptyLine}
 use Rattle.rules.specs.Statement.{memberLine}
-use Rattle.rules.specs.Kept.{HourKept}
+use Rattle.rules.specs.Inner.Kept.{HourKept}
 use Rattle.rules.specs.Promises.{Accepts, AllWhole, Demand1, ByFormula, allZones, Demand2, FairOutcome, Demand3}
 use Rattle.rules.proofs.Tariff.{deviation-renders, ufe-renders, amount-is-IEC}
 use Rattle.rules.proofs.Rows.{no-place, accepts-when-whole, hour-numbered, settle-accepts, settle-whole, settle-refuses}

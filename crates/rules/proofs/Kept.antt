@@ -20,10 +20,10 @@ use Rattle.rules.specs.declared.Rule.{Rule}
 use Rattle.rules.specs.Record.{Hour, members, zones, areas, zonePrice, zoneOf, tieIn, tieOut, memberOf, areaOf, entry, entryOf}
 use Rattle.rules.specs.Record.{kindOf, isGenerator, isImport, signed}
 use Rattle.rules.specs.HourFile.{hourly, lengthBad, blocks, blockWord, recordCount, hourOf}
-use Rattle.rules.specs.Ranges.{firstBroken, mustBeZero, countRule, blockRule, areaRule, headRule, rowOf, recordRule}
+use Rattle.rules.specs.Ranges.{firstBroken, mustBeZero, countRule, blockRule, areaRule, headRule, rulesOf, recordRule}
 use Rattle.rules.specs.Refusals.{isBroken, badLength, badBlock, badHead, badWord, badRecord, tableRows, fileRows, hourRows}
 use Rattle.rules.specs.Promises.{AllWhole}
-use Rattle.rules.specs.Kept.{EntryKept, RecordKept, AreaKept, HourKept, FileKept}
+use Rattle.rules.specs.Inner.Kept.{EntryKept, RecordKept, AreaKept, HourKept, FileKept}
 use Rattle.rules.proofs.Rows.{no-place, file-whole}
 use Rattle.rules.proofs.Words.{Holds, holds, length-is-whole}
 
@@ -57,8 +57,8 @@ unfolding signed
 signed-zero w h = let z : w ≡ 0 = omega arith in rw z (record { under = zero-le })
 
 -- an unknown kind has no row, so that all its words are zero
-entry-kept : (K : Kind) (v : ℕ → ℕ) → RowHeld (rowOf K) v → EntryKept (entry v)
-unfolding rowOf entry
+entry-kept : (K : Kind) (v : ℕ → ℕ) → RowHeld (rulesOf K) v → EntryKept (entry v)
+unfolding rulesOf entry
 entry-kept Generator v f = omega (arith, zo)
 entry-kept RealTimeLoad v f = omega (arith, zo)
 entry-kept ProfileLoad v f = omega (arith, zo)
@@ -67,8 +67,8 @@ entry-kept Export v f = omega (arith, zo)
 entry-kept Unknown v f = let j = signed-zero (v 5) (f .J-held .1) in omega (arith, zo)
 
 -- the kinds that use the multipliers
-multipliers-least : (K : Kind) (v : ℕ → ℕ) → RowHeld (rowOf K) v → (isGenerator K || isImport K) ≡ true → (1 ≤ v 9) × (1 ≤ v 10)
-unfolding rowOf
+multipliers-least : (K : Kind) (v : ℕ → ℕ) → RowHeld (rulesOf K) v → (isGenerator K || isImport K) ≡ true → (1 ≤ v 9) × (1 ≤ v 10)
+unfolding rulesOf
 multipliers-least Generator v f used = (f .F-held .0, f .H-held .0)
 multipliers-least RealTimeLoad v f used = never used refl
 multipliers-least ProfileLoad v f used = never used refl
@@ -128,7 +128,7 @@ module _ (h : Hour) (head-whole : badHead h ≡ none) (records-whole : badRecord
   word-holds i w l m =
       all-hold (recordRule (members h) (areas h) (h .rec i 0)) (h .rec i) 12 (unbroken _ (first-none _ (h .count) records-whole i l)) w m
 
-  row-held : (i : ℕ) → i < h .count → RowHeld (rowOf (kindOf (h .rec i 0))) (h .rec i)
+  row-held : (i : ℕ) → i < h .count → RowHeld (rulesOf (kindOf (h .rec i 0))) (h .rec i)
   unfolding recordRule
   row-held i l = record {
     S-held = word-holds i 3 l (omega arith);

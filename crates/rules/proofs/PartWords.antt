@@ -9,7 +9,8 @@ use lib.Seq.{getD-drop, getD-take}
 use Rattle.whole.specs.Below.{sumBelow}
 use Rattle.whole.proofs.Sums.{sum-ext}
 use Rattle.rules.specs.declared.Layout.{Layout}
-use Rattle.rules.specs.HourFile.{hourly, FitsBody, word, blockWord, blockSum, lengthBad, body, recordCount, recordWord, hourOf}
+use Rattle.rules.specs.HourFile.{hourly, word, blockWord, blockSum, lengthBad, body, recordCount, recordWord, hourOf}
+use Rattle.rules.specs.Inner.Layouts.{FitsBody}
 use Rattle.rules.proofs.Words.{body-word, head-word, record-word}
 use Rattle.rules.proofs.Layouts.{ends-inside}
 

@@ -17,9 +17,10 @@ use Rattle.rules.specs.declared.Line.{Line}
 use Rattle.rules.specs.Record.{Hour, members, tieIn, tieOut, memberOf, areaOf, entry, entryOf, isLoad}
 use Rattle.rules.specs.Deviation.{unitsPerKWh}
 use Rattle.rules.specs.Ufe.{inArea, ufe, demand, demands}
+use Rattle.rules.specs.Share.{allDemand}
 use Rattle.rules.specs.Charge.{grains, amount, recordsOf}
-use Rattle.rules.specs.Settling.{lineOf}
-use Rattle.rules.specs.Posting.{accounted, emptyTally, tallied, demandOf, tallyAfter, emptyLine, lineWith, linesWith, linesAfter}
+use Rattle.rules.specs.Settling.{lineOf, emptyLine}
+use Rattle.rules.specs.Inner.Posting.{accounted, emptyTally, tallied, demandBy, demandOf, tallyAfter, lineWith, linesWith, linesAfter}
 use Rattle.rules.proofs.Tariff.{ufe-by-record}
 
 -- ---- D
@@ -57,7 +58,7 @@ module _ (h : Hour) where
   module _ (a : ℕ) (area : a < 8) where
     -- After n records an area's demand is that of its loads among them.
     pub tally-demand : (n : ℕ) → getD (tallyAfter h n .demand) a 0 ≡ sumBelow (λ i. cond (inArea h a isLoad i) (demand h i) 0) n
-    unfolding tallyAfter emptyTally tallied demandOf inArea sumBelow
+    unfolding tallyAfter emptyTally tallied demandBy entryOf entry inArea sumBelow
     tally-demand zero = getD-replicate 8 a 0 0 area
     tally-demand (suc n) =
         getD-changed (λ x. x + demandOf h n) (tallyAfter h n .demand) (areaOf h n) a 0 (let e = tally-demand-length n in omega arith)
@@ -77,7 +78,7 @@ module _ (h : Hour) where
 
     -- Once all records are posted, the tally has each area's demand, T, and all of its UFE that its ties do not bring.
     pub tally-gives-demands : getD (tallyAfter h (h .count) .demand) a 0 ≡ demands h a
-    unfolding demands
+    unfolding demands allDemand
     tally-gives-demands = tally-demand (h .count)
 
     pub tally-gives-ufe : ufe h a ≡ unitsPerKWh *ℤ (tieIn h a -ℤ tieOut h a) +ℤ getD (tallyAfter h (h .count) .energy) a (pos 0)

@@ -25,7 +25,7 @@ unfolding Below.countBelow Below.sumBelow Below.totalBelow Below.valuesBelow Bel
     Charge.cents Charge.shareOf Charge.grains Charge.amount Charge.recordsOf Charge.charge Text.digitsUpTo Text.decimal Text.amountText
     Text.amountField HourFile.word HourFile.blocks HourFile.blockWord HourFile.blockSum HourFile.lengthBad HourFile.recordCount
     HourFile.recordWord HourFile.hourOf Ranges.keeps Ranges.firstBroken Ranges.countRule Ranges.pastRule Ranges.blockRule Ranges.areaRule
-    Ranges.headRule Ranges.rowOf Ranges.recordRule Refusals.verdict Refusals.badLength Refusals.badSum Refusals.badBlock Refusals.badHead
+    Ranges.headRule Ranges.rulesOf Ranges.recordRule Refusals.verdict Refusals.badLength Refusals.badSum Refusals.badBlock Refusals.badHead
     Refusals.badWord Refusals.badRecord Refusals.badArea Refusals.badAmount Refusals.tooShort Refusals.outOfRange Refusals.tooNarrow
     Refusals.tableRows Refusals.hourRows Refusals.writeRows Settling.lineOf Settling.filled Settling.ufeFigures Settling.settle Settling.write Statement.firstLine
     Statement.memberLine Statement.memberLines Statement.acceptedLines Statement.statement wordBytes printedFile usedBuffers

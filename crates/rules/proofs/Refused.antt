@@ -4,6 +4,7 @@ use mathlib.Core.Option.{orElse}
 use Rattle.whole.specs.Below
 use Rattle.rules.specs.Record
 use Rattle.rules.specs.Ufe
+use Rattle.rules.specs.Share
 use Rattle.rules.specs.Charge
 use Rattle.rules.specs.HourFile
 use Rattle.rules.specs.Ranges
@@ -14,9 +15,9 @@ use Rattle.rules.specs.Refused.{RefusedRight, sealed, refusals}
 
 pub refused-right : RefusedRight
 unfolding Below.sumBelow Below.totalBelow Below.firstBelow orElse Record.signed Record.kindOf Record.zoneOf Record.tieIn Record.tieOut
-    Ufe.areaSum Ufe.losses Ufe.ufe Ufe.demands Charge.amount HourFile.word HourFile.blocks HourFile.blockWord HourFile.blockSum
+    Ufe.areaSum Ufe.losses Ufe.ufe Ufe.demands Share.allDemand Charge.amount HourFile.word HourFile.blocks HourFile.blockWord HourFile.blockSum
     HourFile.lengthBad HourFile.recordCount HourFile.recordWord HourFile.hourOf Ranges.keeps Ranges.firstBroken Ranges.countRule
-    Ranges.pastRule Ranges.blockRule Ranges.areaRule Ranges.headRule Ranges.rowOf Ranges.recordRule Refusals.verdict Refusals.badLength
+    Ranges.pastRule Ranges.blockRule Ranges.areaRule Ranges.headRule Ranges.rulesOf Ranges.recordRule Refusals.verdict Refusals.badLength
     Refusals.badSum Refusals.badBlock Refusals.badHead Refusals.badWord Refusals.badRecord Refusals.badArea Refusals.badAmount
     Refusals.tooShort Refusals.tableRows Settling.settle wordBytes usedBuffers sealed refusals
 refused-right = (refl, (refl, (refl, (refl, (refl, (refl, (refl, (refl, tt))))))))

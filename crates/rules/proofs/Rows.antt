@@ -18,9 +18,8 @@ use Rattle.rules.specs.Record.{Hour}
 use Rattle.rules.specs.HourFile.{hourly, hourOf}
 use Rattle.rules.specs.Refusals.{Row, row, Verdict, accepted, refusedAt, verdictOf, verdict, placeZeroIf, badArea, badAmount, tooShort}
 use Rattle.rules.specs.Refusals.{tableRows, fileRows, hourRows, writeRows}
-use Rattle.rules.specs.Settling.{Buffers, Settlement, isAccepted, settleRows, filled, ufeFigures, noFigures, settle}
-use Rattle.rules.specs.Settling.{write}
-use Rattle.rules.specs.Promises.{Accepts, AllWhole, FirstBrokenRow, OneResult}
+use Rattle.rules.specs.Settling.{Buffers, Settlement, isAccepted, settleRows, filled, ufeFigures, noFigures, settle, write}
+use Rattle.rules.specs.Promises.{Accepts, AllWhole, FirstBrokenRow, OneSettlement}
 
 -- ---- any table
 
@@ -233,8 +232,8 @@ pub one-answer : (a b : Answer) → verdictOf a ≡ verdictOf b → a ≡ b
 one-answer a b e = sym (told a) ∙ ap answerOf e ∙ told b
 
 -- what settling answers and leaves in the buffers is determined by the file and by what the buffers held
-pub one-result : OneResult
-one-result s b r t x y f g = (
+pub one-settlement : OneSettlement
+one-settlement s b r t x y f g = (
   ap₂ (λ (a : Answer) (u : List ℤ). record { answer = a; ufe = u })
       (one-answer (r .answer) (t .answer) (f .verdict-is ∙ sym (g .verdict-is))) (f .ufe-is ∙ sym (g .ufe-is)),
   f .buffers-are ∙ sym (g .buffers-are),

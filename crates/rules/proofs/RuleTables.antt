@@ -17,7 +17,7 @@ use Rattle.rules.specs.declared.Kind.the-variants.{Generator, RealTimeLo
 use Rattle.rules.specs.declared.Rule.{Rule}
 use Rattle.rules.specs.declared.Rule.the-variants.{Any, Between, LessThan}
 use Rattle.rules.specs.Record.{signed, kindOf}
-use Rattle.rules.specs.Ranges.{keeps, mustBeZero, countRules, areaRule, energy, adjustment, multiplier, rowOf, recordRule}
+use Rattle.rules.specs.Ranges.{keeps, mustBeZero, countRules, areaRule, energy, adjustment, multiplier, rulesOf, recordRule}
 
 -- ---- the size of a negative number in two's complement
 
@@ -81,10 +81,10 @@ module _ (zones : ℕ) where
 
 -- the row of a kind, at a word as the document numbers it
 abbrev wordOf : Kind → ℕ → Rule
-wordOf K w = getD (rowOf K) (w - 3) mustBeZero
+wordOf K w = getD (rulesOf K) (w - 3) mustBeZero
 
-row-most : (K : Kind) → length (rowOf K) ≤ 9
-unfolding rowOf
+row-most : (K : Kind) → length (rulesOf K) ≤ 9
+unfolding rulesOf
 row-most Generator = omega arith
 row-most RealTimeLoad = omega arith
 row-most ProfileLoad = omega arith
@@ -93,13 +93,13 @@ row-most Export = omega arith
 row-most Unknown = omega arith
 
 no-word : (K : Kind) (w : ℕ) → 12 ≤ w → wordOf K w ≡ mustBeZero
-no-word K w l = List·getD-eq-default (rowOf K) mustBeZero {n = w - 3} (omega (arith, row-most K))
+no-word K w l = List·getD-eq-default (rulesOf K) mustBeZero {n = w - 3} (omega (arith, row-most K))
 
 abbrev generatorTests : ℕ → Rule
 generatorTests w = cond (eqb w 5) adjustment (cond (ltb w 9) energy (cond (ltb w 11) multiplier mustBeZero))
 
 pub generator-words : (w : ℕ) → wordOf Generator w ≡ generatorTests w
-unfolding rowOf
+unfolding rulesOf
 generator-words = alike (wordOf Generator) generatorTests 12
     ((((((((((((tt, refl), refl), refl), refl), refl), refl), refl), refl), refl), refl), refl), refl)
     (λ w l. no-word Generator w l ∙ sym (rw (ne-eqb w 5 (λ e. omega arith), le-ltb w 9 (omega arith), le-ltb w 11 (omega arith))))
@@ -114,13 +114,13 @@ module _ (K : Kind) (tests : ℕ → Bool) where
   used-words e past = alike (usedBy K) tests 12 e (λ w l. rw (no-word K w l, past w l))
 
 pub generator-uses : (w : ℕ) → usedBy Generator w ≡ ltb w 11
-unfolding rowOf keeps signed
+unfolding rulesOf keeps signed
 generator-uses = used-words Generator (λ w. ltb w 11)
     ((((((((((((tt, refl), refl), refl), refl), refl), refl), refl), refl), refl), refl), refl), refl)
     (λ w l. le-ltb w 11 (omega arith))
 
 pub load-uses : (w : ℕ) → usedBy RealTimeLoad w ≡ ltb w 8
-unfolding rowOf keeps signed
+unfolding rulesOf keeps signed
 load-uses = used-words RealTimeLoad (λ w. ltb w 8)
     ((((((((((((tt, refl), refl), refl), refl), refl), refl), refl), refl), refl), refl), refl), refl)
     (λ w l. le-ltb w 8 (omega arith))
@@ -129,13 +129,13 @@ abbrev importTests : ℕ → Bool
 importTests w = cond (ltb w 7) true (cond (ltb w 9) false (ltb w 11))
 
 pub import-uses : (w : ℕ) → usedBy Import w ≡ importTests w
-unfolding rowOf keeps signed
+unfolding rulesOf keeps signed
 import-uses = used-words Import importTests
     ((((((((((((tt, refl), refl), refl), refl), refl), refl), refl), refl), refl), refl), refl), refl)
     (λ w l. rw (le-ltb w 7 (omega arith), le-ltb w 9 (omega arith), le-ltb w 11 (omega arith)))
 
 pub export-uses : (w : ℕ) → usedBy Export w ≡ ltb w 6
-unfolding rowOf keeps signed
+unfolding rulesOf keeps signed
 export-uses = used-words Export (λ w. ltb w 6)
     ((((((((((((tt, refl), refl), refl), refl), refl), refl), refl), refl), refl), refl), refl), refl)
     (λ w l. le-ltb w 6 (omega arith))
@@ -168,8 +168,8 @@ at-picked (r ∷ rs) [] (suc j) = at-picked rs [] j
 at-picked (r ∷ rs) (g ∷ gs) zero = refl
 at-picked (r ∷ rs) (g ∷ gs) (suc j) = at-picked rs gs j
 
-rows-picked : (K : Kind) → picked (rowOf K) (rowOf Generator) ≡ rowOf K
-unfolding rowOf keeps signed
+rows-picked : (K : Kind) → picked (rulesOf K) (rulesOf Generator) ≡ rulesOf K
+unfolding rulesOf keeps signed
 rows-picked Generator = refl
 rows-picked RealTimeLoad = refl
 rows-picked ProfileLoad = refl
@@ -179,12 +179,12 @@ rows-picked Unknown = refl
 
 -- what a kind uses has the generator's rule, and what it does not use is zero
 pub used-or-zero : (K : Kind) (w : ℕ) → wordOf K w ≡ cond (usedBy K w) (wordOf Generator w) mustBeZero
-used-or-zero K w = ap (λ (rs : List Rule). getD rs (w - 3) mustBeZero) (sym (rows-picked K)) ∙ at-picked (rowOf K) (rowOf Generator) (w - 3)
+used-or-zero K w = ap (λ (rs : List Rule). getD rs (w - 3) mustBeZero) (sym (rows-picked K)) ∙ at-picked (rulesOf K) (rulesOf Generator) (w - 3)
 
 -- from word 3 on a record has the row of its kind
 pub record-words : (members areas kind w : ℕ) → 3 ≤ w → recordRule members areas kind w ≡ wordOf (kindOf kind) w
 unfolding recordRule
 record-words members areas kind w l =
-    let rules : List Rule = Between 1 5 ∷ LessThan members ∷ LessThan areas ∷ rowOf (kindOf kind) in
+    let rules : List Rule = Between 1 5 ∷ LessThan members ∷ LessThan areas ∷ rulesOf (kindOf kind) in
     let e : 3 + (w - 3) ≡ w = omega arith in
     sym (getD-drop 3 rules (w - 3) mustBeZero ∙ ap (λ (w : ℕ). getD rules w mustBeZero) e)

@@ -16,7 +16,7 @@ use Rattle.rules.specs.HourFile.{hourly, lengthBad, hourOf, word, blockW
 use Rattle.rules.specs.Refusals.{Verdict, accepted, refusedAt, verdict, badLength, tooShort, tableRows, hourRows}
 use Rattle.rules.specs.Settling.{isAccepted}
 use Rattle.rules.specs.Statement.{firstLine, memberLine, memberLines, acceptedLines, refusedLine, statement}
-use Rattle.rules.specs.Kept.{HourKept, FileKept}
+use Rattle.rules.specs.Inner.Kept.{HourKept, FileKept}
 use Rattle.rules.proofs.Rows.{accepts-when-whole, hour-numbered, table-in-parts, zero-accepts, refused-first, passed-on}
 use Rattle.rules.proofs.Kept.{passed-kept}
 use Rattle.rules.proofs.Digits.{decimal-at-most-20, decimal-length-at-most}

@@ -18,7 +18,7 @@ use Rattle.rules.specs.Deviation.{unitsPerKWh, generatorUnavailable, gen
 use Rattle.rules.specs.Deviation.{importDeviation, exportDeviation, deviation, deviationAs}
 use Rattle.rules.specs.Ufe.{inArea, areaSum, losses, ufe}
 use Rattle.rules.specs.Charge.{enteringAs, entering, shareOf, grains, amount}
-use Rattle.rules.specs.Posting.{accountedAs, accounted}
+use Rattle.rules.specs.Inner.Posting.{accountedAs, accounted}
 use Rattle.rules.specs.Tariff.{genDev, loadDev, impDev, expDev, devAs, transmissionLosses, ufeOfTerritory, coordinatorSum, UFEC, IEC}
 use Rattle.rules.specs.Promises.{allZones}
 

@@ -6,8 +6,13 @@ use Rattle.rules.specs.declared.Kind.{Kind}
 use Rattle.rules.specs.declared.Kind.the-variants.{Generator, RealTimeLoad, ProfileLoad, Import, Export, Unknown}
 use Rattle.rules.specs.Record.{Entry}
 
+-- "units of 1/10,000 kWh"
 abbrev pub unitsPerKWh : ℤ
 unitsPerKWh = pos 10000
+
+-- "multipliers: ten-thousandths": the multiplier 1, which loses nothing
+abbrev pub multiplierOne : ℤ
+multiplierOne = pos 10000
 
 module _ (r : Entry) where
   open Entry r using (kind, S, A, J, N, O, M, F, H)

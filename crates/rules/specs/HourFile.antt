@@ -1,5 +1,5 @@
 -- The hour file: words, blocks, the block reader, and the hour that a file holds. Document 01, "The hour file".
-use Prim.Native.Nat.{ℕ, _+_, _-_, _*_, _/_, _%_, _≤_}
+use Prim.Native.Nat.{ℕ, _+_, _-_, _*_, _/_, _%_}
 use mathlib.Core.Bool.{Bool, not, cond, _&&_, _||_}
 use mathlib.Core.List.{List, []}
 use lib.ListN.{length, getD, take, drop}
@@ -19,12 +19,6 @@ hourly =
 abbrev pub tenMinutes : Layout
 tenMinutes =
     record { first = 3; other = 4; blocks = 17; records = 4; words = 30 }
-
--- the records that a block may hold fit into its body of 120 words
-pub record FitsBody (l : Layout) : Type 0 where
-  pub some-records : 1 ≤ l .records
-  pub some-words : 1 ≤ l .words
-  pub no-longer : l .words * l .records ≤ 120
 
 -- ---- words and blocks
 

@@ -9,11 +9,10 @@ pub mod HourFile
 pub mod Ranges
 pub mod Refusals
 pub mod Settling
-pub mod Posting
 pub mod Statement
 pub mod Tariff
-pub mod Kept
 pub mod Promises
 pub mod Figures
 pub mod Printed
 pub mod Refused
+pub mod Inner

@@ -18,8 +18,7 @@ use Rattle.rules.specs.Charge.{entering, shareOf, recordsOf, cents, char
 use Rattle.rules.specs.Text.{bytes, digitByte, amountText, amountField}
 use Rattle.rules.specs.HourFile.{hourly, hourOf}
 use Rattle.rules.specs.Refusals.{Row, row, accepted, refusedAt, verdictOf, verdict, hourRows, writeRows, readRows}
-use Rattle.rules.specs.Settling.{Buffers, settle, settleRows, noFigures, write, read}
-use Rattle.rules.specs.Posting.{emptyLine}
+use Rattle.rules.specs.Settling.{Buffers, settle, settleRows, noFigures, write, read, emptyLine}
 use Rattle.rules.specs.Statement.{memberLine}
 use Rattle.rules.specs.Tariff.{devAs, ufeOfTerritory, IEC}
 
@@ -75,7 +74,7 @@ rankedSize takes D n U i = cond (takes i && not (eqb (allDemand takes D n) 0))
 unfoldable pub rankedShare : Hour → ℕ → ℤ
 rankedShare h i = let a = areaOf h i in withSignOf (ufe h a) (rankedSize (inArea h a isLoad) (demand h) (h .count) (natAbs (ufe h a)) i)
 
--- a member's unrounded amount: its IEC in every zone
+-- a member's exact amount a second way: its IEC in every zone
 unfoldable pub allZones : Hour → ℕ → ℤ
 allZones h m = totalBelow (IEC h (shareOf h) m) (zones h)
 
@@ -170,5 +169,5 @@ pub record Fits (s : List ℕ) (b : Buffers) (answered : Settled) (after : Buffe
   pub ufe-is : answered .ufe ≡ settle s b .ufe
   pub buffers-are : after ≡ settle s b .buffers
 
-abbrev pub OneResult : Type 0
-OneResult = (s : List ℕ) (b : Buffers) (r t : Settled) (x y : Buffers) → Fits s b r x → Fits s b t y → (r ≡ t) × (x ≡ y)
+abbrev pub OneSettlement : Type 0
+OneSettlement = (s : List ℕ) (b : Buffers) (r t : Settled) (x y : Buffers) → Fits s b r x → Fits s b t y → (r ≡ t) × (x ≡ y)

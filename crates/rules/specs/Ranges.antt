@@ -1,4 +1,5 @@
--- What each word may be. A rule is a test of one word, a table gives the rule of every word; a word that no row names must be zero.
+-- What each word may be. A rule is a test of one word, a table gives the rule of every word; a word of the head or of a record that no table
+-- names must be zero.
 -- Document 01, "Units and ranges" and "The hour file"; rows 3 to 5 of the table of refusals cite these.
 use Prim.Native.Nat.{ℕ, _+_, _-_, _*_, _/_, _%_}
 use mathlib.Core.Bool.{Bool, true, not, cond, _&&_}
@@ -82,15 +83,15 @@ abbrev pub unused : Rule
 unused = mustBeZero
 
 -- words 3 to 11 of each kind
-unfoldable pub rowOf : Kind → List Rule
+unfoldable pub rulesOf : Kind → List Rule
 --                   S        A        J            N        O        M        F            H            zero
-rowOf Generator = energy ∷ energy ∷ adjustment ∷ energy ∷ energy ∷ energy ∷ multiplier ∷ multiplier ∷ mustBeZero ∷ []
-rowOf RealTimeLoad = energy ∷ energy ∷ adjustment ∷ energy ∷ energy ∷ unused ∷ unused ∷ unused ∷ mustBeZero ∷ []
-rowOf ProfileLoad = energy ∷ energy ∷ adjustment ∷ energy ∷ energy ∷ unused ∷ unused ∷ unused ∷ mustBeZero ∷ []
-rowOf Import = energy ∷ energy ∷ adjustment ∷ energy ∷ unused ∷ unused ∷ multiplier ∷ multiplier ∷ mustBeZero ∷ []
-rowOf Export = energy ∷ energy ∷ adjustment ∷ unused ∷ unused ∷ unused ∷ unused ∷ unused ∷ mustBeZero ∷ []
-rowOf Unknown = []
+rulesOf Generator = energy ∷ energy ∷ adjustment ∷ energy ∷ energy ∷ energy ∷ multiplier ∷ multiplier ∷ mustBeZero ∷ []
+rulesOf RealTimeLoad = energy ∷ energy ∷ adjustment ∷ energy ∷ energy ∷ unused ∷ unused ∷ unused ∷ mustBeZero ∷ []
+rulesOf ProfileLoad = energy ∷ energy ∷ adjustment ∷ energy ∷ energy ∷ unused ∷ unused ∷ unused ∷ mustBeZero ∷ []
+rulesOf Import = energy ∷ energy ∷ adjustment ∷ energy ∷ unused ∷ unused ∷ multiplier ∷ multiplier ∷ mustBeZero ∷ []
+rulesOf Export = energy ∷ energy ∷ adjustment ∷ unused ∷ unused ∷ unused ∷ unused ∷ unused ∷ mustBeZero ∷ []
+rulesOf Unknown = []
 
 -- word w of a record of this kind, for so many members and areas
 unfoldable pub recordRule : (members areas kind w : ℕ) → Rule
-recordRule members areas kind w = getD (Between 1 5 ∷ LessThan members ∷ LessThan areas ∷ rowOf (kindOf kind)) w mustBeZero
+recordRule members areas kind w = getD (Between 1 5 ∷ LessThan members ∷ LessThan areas ∷ rulesOf (kindOf kind)) w mustBeZero

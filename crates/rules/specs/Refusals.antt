@@ -97,6 +97,9 @@ badSum s = firstBelow (λ b. not (eqb (blockSum s b) 0)) (blocks s)
 unfoldable pub badBlock : Layout → List ℕ → Option ℕ
 badBlock l s = firstBelow (λ b. isBroken (firstBroken (blockRule l (blocks s) (blockWord s b 2) b) (blockWord s b) 128)) (blocks s)
 
+abbrev pub mostGrains : ℕ
+mostGrains = 4000000000000000000
+
 module _ (h : Hour) where
   -- 4: the first body breaks layout or range; the first such word
   unfoldable pub badHead : Option ℕ
@@ -104,7 +107,7 @@ module _ (h : Hour) where
 
   -- the first word of a record that breaks kind, number, range or zero
   unfoldable pub badWord : ℕ → Option ℕ
-  badWord i = firstBroken (recordRule (members h) (areas h) (h .rec i 0)) (h .rec i) 12
+  badWord i = firstBroken (recordRule (members h) (areas h) (h .rec i 0)) (h .rec i) (hourly .words)
 
   -- 5: the first record that has one
   unfoldable pub badRecord : Option ℕ
@@ -120,7 +123,7 @@ module _ (h : Hour) where
 
   -- 7: a member's exact amount is over 4×10^18 grains in size; the first such member
   unfoldable pub badAmount : Option ℕ
-  badAmount = firstBelow (λ m. ltb 4000000000000000000 (natAbs (amount h m))) (members h)
+  badAmount = firstBelow (λ m. ltb mostGrains (natAbs (amount h m))) (members h)
 
   -- 11: charges or lines shorter than the members, or shares or deviations shorter than the records
   unfoldable pub tooShort : (charges lines shares deviations : ℕ) → Option ℕ

@@ -33,6 +33,10 @@ pub record Buffers : Type 0 where
 abbrev pub settleRows : List ℕ → Buffers → List Row
 settleRows s b = tableRows s (length (b .charges)) (length (b .lines)) (length (b .shares)) (length (b .deviations))
 
+-- nothing posted yet, as of a member without records
+unfoldable pub emptyLine : Line
+emptyLine = record { amount = pos 0; records = 0 }
+
 -- a member's exact amount and its record count
 unfoldable pub lineOf : Hour → ℕ → Line
 lineOf h m = record { amount = amount h m; records = recordsOf h m }

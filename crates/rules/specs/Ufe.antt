@@ -3,10 +3,11 @@ use Prim.Native.Nat.{ℕ}
 use mathlib.Core.Bool.{Bool, cond, _&&_, _||_}
 use lib.IntN.{ℤ, pos, _+ℤ_, _-ℤ_, _*ℤ_}
 use lib.Dec.{eqb}
-use Rattle.whole.specs.Below.{sumBelow, totalBelow}
+use Rattle.whole.specs.Below.{totalBelow}
 use Rattle.rules.specs.declared.Kind.{Kind}
 use Rattle.rules.specs.Record.{Hour, Entry, tieIn, tieOut, areaOf, entryOf, isGenerator, isImport, isLoad}
-use Rattle.rules.specs.Deviation.{unitsPerKWh}
+use Rattle.rules.specs.Deviation.{unitsPerKWh, multiplierOne}
+use Rattle.rules.specs.Share.{allDemand}
 
 module _ (h : Hour) (a : ℕ) where
   -- the records of area a that are of some kinds
@@ -19,16 +20,19 @@ module _ (h : Hour) (a : ℕ) where
 
   -- losses: the sum of A×(10,000 - H) over its generators and imports
   unfoldable pub losses : ℤ
-  losses = areaSum (λ k. isGenerator k || isImport k) (λ r. r .A *ℤ (unitsPerKWh -ℤ r .H))
+  losses = areaSum (λ k. isGenerator k || isImport k) (λ r. r .A *ℤ (multiplierOne -ℤ r .H))
 
   -- 10,000×(tie in - tie out + sum of generator A - sum of load A, both kinds) - losses
   unfoldable pub ufe : ℤ
   ufe = unitsPerKWh *ℤ (tieIn h a -ℤ tieOut h a +ℤ areaSum isGenerator (λ r. r .A) -ℤ areaSum isLoad (λ r. r .A)) -ℤ losses
 
--- D: a load's A, as the natural number that the file has
-abbrev pub demand : Hour → ℕ → ℕ
-demand h i = h .rec i 4
+-- D: a load's A, as the natural number that the file has in word 4
+abbrev pub D : (ℕ → ℕ) → ℕ
+D w = w 4
 
--- T: the area's sum of D
+abbrev pub demand : Hour → ℕ → ℕ
+demand h i = D (h .rec i)
+
+-- T: the area's sum of D over its loads
 unfoldable pub demands : Hour → ℕ → ℕ
-demands h a = sumBelow (λ i. cond (inArea h a isLoad i) (demand h i) 0) (h .count)
+demands h a = allDemand (inArea h a isLoad) (demand h) (h .count)

@@ -25,7 +25,7 @@ use Rattle.rules.specs.declared.Tally.{Tally}
 use Rattle.rules.specs.Record.{Hour, areas, tieIn, tieOut, areaOf, entryOf}
 use Rattle.rules.specs.Deviation.{unitsPerKWh}
 use Rattle.rules.specs.Ufe.{ufe, demands}
-use Rattle.rules.specs.Posting.{accounted, tallied, demandOf, tallyAfter}
+use Rattle.rules.specs.Inner.Posting.{accounted, tallied, demandOf, tallyAfter}
 use Rattle.rules.specs.Settling.{ufeFigures}
 use Rattle.rules.proofs.Posting.{tally-energy, tally-gives-demands, tally-gives-ufe}
 use Rattle.rules.proofs.Bounds.{energy-running, ufe-under}

@@ -3,8 +3,8 @@ use Prim.Native.Nat.{ℕ, _<_}
 use mathlib.Core.Path.{_≡_}
 use mathlib.Core.List.{List}
 use Rattle.rules.specs.declared.Tally.{Tally}
-use Rattle.rules.specs.Posting.{tallyAfter}
-use Rattle.rules.specs.Kept.{FileKept}
+use Rattle.rules.specs.Inner.Posting.{tallyAfter}
+use Rattle.rules.specs.Inner.Kept.{FileKept}
 use Rattle.hour.specs.Hour.{hourIn}
 
 -- the records before i are in the tally, and record i is there to be posted

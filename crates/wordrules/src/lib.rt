@@ -8,7 +8,7 @@ ghost use lib.IntN.{natAbs};
 ghost use lib.ListN.{getD};
 ghost use lib.Dec.{eqb};
 ghost use Rattle.rules.specs.Record as Record;
-ghost use Rattle.rules.specs.HourFile.{FitsBody};
+ghost use Rattle.rules.specs.Inner.Layouts.{FitsBody};
 ghost use Rattle.rules.specs.Ranges as Ranges;
 ghost use Rattle.rules.specs.declared.Kind.the-variants as Kinds;
 ghost use Rattle.rules.specs.declared.Rule.the-variants as Rules;
@@ -183,7 +183,7 @@ pub fn head_rule(zones: u32, areas: u32, w: usize) -> Rule
 
 // Words 3 to 11 of a generator, which uses all but the last.
 fn generator_rule(w: usize) -> Rule
-    ensures { λ r. ⌜ r ≡ getD (Ranges.rowOf Kinds.Generator) (w - 3) Ranges.mustBeZero ⌝ }
+    ensures { λ r. ⌜ r ≡ getD (Ranges.rulesOf Kinds.Generator) (w - 3) Ranges.mustBeZero ⌝ }
 {
     if w == 5 {
         return Rule::AtMostInSize(100000);
@@ -199,7 +199,7 @@ fn generator_rule(w: usize) -> Rule
 
 // Whether a record of this kind uses word `w` of words 3 to 11: whether a 1 may stand there.
 fn uses(kind: u32, w: usize) -> bool
-    ensures { λ r. ⌜ r ≡ Ranges.keeps (getD (Ranges.rowOf (Record.kindOf kind)) (w - 3) Ranges.mustBeZero) 1 ⌝ }
+    ensures { λ r. ⌜ r ≡ Ranges.keeps (getD (Ranges.rulesOf (Record.kindOf kind)) (w - 3) Ranges.mustBeZero) 1 ⌝ }
 {
     if kind == 1 {
         return w < 11;
@@ -221,7 +221,7 @@ fn uses(kind: u32, w: usize) -> bool
 
 // An import uses words 3 to 6, 9 and 10.
 fn import_uses(w: usize) -> bool
-    ensures { λ r. ⌜ r ≡ Ranges.keeps (getD (Ranges.rowOf Kinds.Import) (w - 3) Ranges.mustBeZero) 1 ⌝ }
+    ensures { λ r. ⌜ r ≡ Ranges.keeps (getD (Ranges.rulesOf Kinds.Import) (w - 3) Ranges.mustBeZero) 1 ⌝ }
 {
     if w < 7 {
         return true;

@@ -3,7 +3,7 @@ use mathlib.Core.Path.{_≡_, sym, _∙_, ap}
 use native.Mathlib.Omega.{arith}
 use Rattle.rules.specs.Record.{kindOf, isLoad}
 use Rattle.rules.specs.HourFile.{word}
-use Rattle.hour.specs.Hour.{demandBy}
+use Rattle.rules.specs.Inner.Posting.{demandBy}
 use Rattle.hour.proofs.demand_in.Statement.{statement}
 use Rattle.hour.proofs.demand_in.Tie as tie
 

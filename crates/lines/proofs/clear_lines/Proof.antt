@@ -6,7 +6,7 @@ use Prim.Native.Nat.{_-_, _≤_}
 use native.Mathlib.Omega.{arith}
 use Rattle.whole.specs.Below.{replacingFirst}
 use Rattle.whole.proofs.Buffers.{replacing-none, written-length, written-next}
-use Rattle.rules.specs.Posting.{emptyLine}
+use Rattle.rules.specs.Settling.{emptyLine}
 use Rattle.lines.proofs.clear_lines.Statement.{statement}
 use Rattle.lines.proofs.clear_lines.Proof.Tie as tie
 

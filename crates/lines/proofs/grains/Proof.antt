@@ -5,7 +5,7 @@ use Rattle.whole.proofs.Machine.{Num, result, _:+_, _:*_, fits, stored, back, r
 use Rattle.rules.specs.Record.{Hour, price, entryOf, areaOf}
 use Rattle.rules.specs.Deviation.{deviation}
 use Rattle.rules.specs.Charge.{enteringAs, entering, grains}
-use Rattle.rules.specs.Kept.{RecordKept}
+use Rattle.rules.specs.Inner.Kept.{RecordKept}
 use Rattle.rules.proofs.Bounds.{deviation-under, entering-under, share-under, price-under}
 use Rattle.hour.proofs.Inside.{record-inside}
 use Rattle.hour.specs.Hour.{hourIn}

@@ -50,7 +50,8 @@ use denote.Triple.Walked.{says, needs, Stays, stay-slice, stay-none, walkOf, All
 use denote.Triple.Walked.{walk-meets}
 use denote.Exit.{yes}
 use Rattle.rules.specs.declared.Line.{Line}
-use Rattle.rules.specs.Posting.{emptyLine, lineWith, linesWith}
+use Rattle.rules.specs.Inner.Posting.{lineWith, linesWith}
+use Rattle.rules.specs.Settling.{emptyLine}
 use Rattle.rules.proofs.Line as T
 use Rattle.rules.proofs.Line.Laws as T′
 use Rattle.formula.specs.Room.{LineRoom}

@@ -9,7 +9,7 @@ use borrow.Author.Needs.{sfits-of}
 use Rattle.whole.proofs.Machine.{read-back}
 use Rattle.whole.proofs.Filling.{Filled, none-filled, filled-length, place-there, next-filled, first-filled}
 use Rattle.rules.specs.Charge.{cents}
-use Rattle.rules.specs.Posting.{emptyLine}
+use Rattle.rules.specs.Settling.{emptyLine}
 use Rattle.lines.proofs.put_charges.Statement.{statement}
 use Rattle.lines.proofs.put_charges.Proof.Tie as tie
 

@@ -15,8 +15,9 @@ use Rattle.whole.specs.Below.{replacingFirst}
 use Rattle.rules.specs.declared.Line.{Line}
 use Rattle.rules.specs.Record.{Hour, memberOf}
 use Rattle.rules.specs.Charge.{grains}
-use Rattle.rules.specs.Posting.{emptyLine, linesAfter}
-use Rattle.rules.specs.Kept.{HourKept}
+use Rattle.rules.specs.Inner.Posting.{linesAfter}
+use Rattle.rules.specs.Settling.{emptyLine}
+use Rattle.rules.specs.Inner.Kept.{HourKept}
 use Rattle.hour.specs.Hour.{hourIn}
 use Rattle.lines.specs.Lined.{AllWorked}
 use Rattle.lines.proofs.Lines.{lines-length, can-post, next-lines}

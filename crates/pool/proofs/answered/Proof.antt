@@ -4,7 +4,7 @@ use mathlib.Core.Option.{none}
 use mathlib.Core.List.{List}
 use Prim.Native.Nat.{ℕ}
 use borrow.Author.Needs.{needs}
-use Rattle.rules.specs.Kept.{FileKept}
+use Rattle.rules.specs.Inner.Kept.{FileKept}
 use Rattle.rules.specs.Refusals.{accepted, foundAt, verdictOf, verdict, badArea, fileRows}
 use Rattle.hour.specs.Hour.{hourIn}
 use Rattle.tally.specs.Posted.{Tallied}

@@ -8,7 +8,7 @@ use lib.ListN.{replicate}
 use borrow.Author.Needs.{needs}
 use Rattle.rules.specs.declared.Line.{Line}
 use Rattle.rules.specs.declared.Settled.{Settled}
-use Rattle.rules.specs.Posting.{emptyLine}
+use Rattle.rules.specs.Settling.{emptyLine}
 use Rattle.rules.specs.Promises.{Fits}
 use Rattle.pool.specs.Unlined.{Unlined, withLines, FitsUnlined}
 use Rattle.pool.proofs.settle_unlined.Statement.{statement}

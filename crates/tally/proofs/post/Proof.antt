@@ -44,7 +44,7 @@ use denote.Triple.Table.{entered, cited}
 use denote.Triple.Walked.{says, needs, Stays, stay-ref, stay-none, walkOf, AllGo, goes-none, goes-ref, Walks, ends-at, walked, walk-meets}
 use denote.Exit.{yes}
 use Rattle.rules.specs.declared.Tally.{Tally}
-use Rattle.rules.specs.Posting.{tallied}
+use Rattle.rules.specs.Inner.Posting.{tallied}
 use Rattle.rules.proofs.Tally as T
 use Rattle.rules.proofs.Tally.Laws as T′
 use Rattle.formula.specs.Room.{TallyRoom}

@@ -10,7 +10,7 @@ use mir.Val.{toZ, ofZ}
 use mir.ValLaws.{toZ-ofZ}
 use borrow.Author.Needs.{sfits-of}
 use Rattle.rules.specs.Record.{entryOf, areaOf}
-use Rattle.rules.specs.Posting.{accounted, demandOf, tallyAfter}
+use Rattle.rules.specs.Inner.Posting.{accounted, demandOf, tallyAfter}
 use Rattle.hour.specs.Hour.{hourIn}
 use Rattle.tally.specs.Posted.{TalliedUpTo}
 use Rattle.tally.proofs.Tallies.{has-room, next-tally}

@@ -7,7 +7,7 @@ use native.Mathlib.Omega.{arith}
 use lib.ListN.{getD}
 use Rattle.rules.specs.declared.Kind.the-variants.{Generator}
 use Rattle.rules.specs.declared.Rule.{Rule}
-use Rattle.rules.specs.Ranges.{keeps, mustBeZero, rowOf, recordRule}
+use Rattle.rules.specs.Ranges.{keeps, mustBeZero, rulesOf, recordRule}
 use Rattle.rules.proofs.RuleTables.{zero-kept, record-words, used-or-zero}
 use Rattle.wordrules.proofs.record_keeps.Statement.{statement}
 use Rattle.wordrules.proofs.record_keeps.Tie as tie
@@ -17,9 +17,9 @@ module _ (c : tie.After-uses) where
   abbrev rule : Rule
   rule = let at = c .before .before .before .before .args in recordRule (at .members) (at .areas) (at .kind) (at .w)
 
-  as-used : rule ≡ cond (c .uses .result) (getD (rowOf Generator) (c .before .before .before .before .args .w - 3) mustBeZero) mustBeZero
+  as-used : rule ≡ cond (c .uses .result) (getD (rulesOf Generator) (c .before .before .before .before .args .w - 3) mustBeZero) mustBeZero
   as-used = record-words _ _ _ _ (omega arith) ∙ used-or-zero _ _ ∙ ap (λ (used : Bool). cond used
-      (getD (rowOf Generator) (c .before .before .before .before .args .w - 3) mustBeZero) mustBeZero) (sym (c .uses .ensures))
+      (getD (rulesOf Generator) (c .before .before .before .before .args .w - 3) mustBeZero) mustBeZero) (sym (c .uses .ensures))
 
 within-requires : tie.Need-within-requires
 within-requires c κs = tt

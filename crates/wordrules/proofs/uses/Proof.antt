@@ -2,7 +2,7 @@
 use mathlib.Core.Path.{sym, _∙_}
 use borrow.Author.Needs.{needs}
 use Rattle.rules.specs.Record.{kindOf}
-use Rattle.rules.specs.Ranges.{rowOf, keeps}
+use Rattle.rules.specs.Ranges.{rulesOf, keeps}
 use Rattle.rules.proofs.RuleTables.{generator-uses, load-uses, export-uses, kind-unknown}
 use Rattle.wordrules.proofs.uses.Statement.{statement}
 use Rattle.wordrules.proofs.uses.Tie as tie
@@ -16,7 +16,7 @@ unfolding kindOf
 returns-2 c = rw (c .if2 .taken) (sym (load-uses _))
 
 returns-3 : tie.Need-returns-3
-unfolding kindOf rowOf
+unfolding kindOf rulesOf
 returns-3 c = rw (c .if3 .taken) (sym (load-uses (c .before .before .before .args .w)))
 
 import-uses-requires : tie.Need-import-uses-requires
@@ -31,7 +31,7 @@ unfolding kindOf
 returns-5 c = rw (c .if5 .taken) (sym (export-uses _))
 
 returns-6 : tie.Need-returns-6
-unfolding rowOf keeps
+unfolding rulesOf keeps
 returns-6 c =
     rw (kind-unknown
     _

@@ -1,6 +1,7 @@
 -- `byrecord::shares::demand_there` meets its contract: a record's demand where its area is the one asked for, and 0 elsewhere.
 use mathlib.Core.Path.{_∙_}
-use Rattle.rules.specs.Posting.{demandOf}
+use Rattle.rules.specs.Record.{entry, entryOf}
+use Rattle.rules.specs.Inner.Posting.{demandBy}
 use Rattle.rules.specs.Ufe.{inArea}
 use Rattle.hour.proofs.Inside.{record-inside}
 use Rattle.hour.proofs.Rows.{PartOf, part-length, part-demand}
@@ -26,7 +27,7 @@ demand-in-requires : tie.Need-demand-in-requires
 demand-in-requires c κs = part-length (own (c .before .before))
 
 returns : tie.Need-returns
-unfolding demandIn demandOf inArea
+unfolding demandIn demandBy inArea entryOf entry
 returns c =
     let tested = c .before .before in
     let part = own (tested .before) in

@@ -5,7 +5,7 @@ use Rattle.whole.proofs.Machine.{Num, #, _:-_, _:*_, fits, stored}
 use Rattle.rules.specs.declared.Kind.{Kind}
 use Rattle.rules.specs.declared.Kind.the-variants.{Generator, RealTimeLoad, ProfileLoad, Import, Export, Unknown}
 use Rattle.rules.specs.Record.{Entry}
-use Rattle.rules.specs.Posting.{accountedAs, accounted}
+use Rattle.rules.specs.Inner.Posting.{accountedAs, accounted}
 use Rattle.formula.proofs.Terms.{A, H}
 use Rattle.formula.proofs.deviation.accounted.Statement.{statement}
 use Rattle.formula.proofs.deviation.accounted.Tie as tie

@@ -5,7 +5,7 @@ use Rattle.whole.proofs.Machine.{result, stored, back}
 use Rattle.rules.specs.declared.Kind.{Kind}
 use Rattle.rules.specs.Record.{Entry}
 use Rattle.rules.specs.Deviation.{deviationAs, deviation}
-use Rattle.rules.specs.Kept.{EntryKept}
+use Rattle.rules.specs.Inner.Kept.{EntryKept}
 use Rattle.rules.proofs.Bounds.{deviation-under}
 use Rattle.formula.proofs.deviation.deviation.Statement.{statement}
 use Rattle.formula.proofs.deviation.deviation.Tie as tie

@@ -1,6 +1,6 @@
 -- `formula::posting::empty_tally` meets its contract.
 use mathlib.Core.Path.{refl}
-use Rattle.rules.specs.Posting.{emptyTally}
+use Rattle.rules.specs.Inner.Posting.{emptyTally}
 use Rattle.formula.proofs.posting.empty_tally.Statement.{statement}
 use Rattle.formula.proofs.posting.empty_tally.Tie as tie
 

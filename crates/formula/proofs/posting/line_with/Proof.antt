@@ -3,7 +3,7 @@ use mir.Syntax.{w64}
 use mir.Val.{SFits}
 use borrow.Author.Needs.{sfits-of}
 use Rattle.whole.proofs.Machine.{sum-fits, sum-stored}
-use Rattle.rules.specs.Posting.{lineWith}
+use Rattle.rules.specs.Inner.Posting.{lineWith}
 use Rattle.formula.proofs.posting.line_with.Statement.{statement}
 use Rattle.formula.proofs.posting.line_with.Tie as tie
 

@@ -7,7 +7,7 @@ use lib.ListN.{getD}
 use lib.Dec.{lit<}
 use borrow.Author.Needs.{sfits-of, scaled-fits}
 use Rattle.whole.proofs.Machine.{sum-fits, sum-stored}
-use Rattle.rules.specs.Posting.{tallied}
+use Rattle.rules.specs.Inner.Posting.{tallied}
 use Rattle.formula.proofs.posting.tallied.Statement.{statement}
 use Rattle.formula.proofs.posting.tallied.Tie as tie
 

@@ -10,19 +10,20 @@ use Rattle.rules.specs.declared.Kind.{Kind}
 use Rattle.rules.specs.declared.Kind.the-variants.{Generator, RealTimeLoad, ProfileLoad, Import, Export, Unknown}
 use Rattle.rules.specs.declared.Line.{Line}
 use Rattle.rules.specs.declared.Tally.{Tally}
-use Rattle.rules.specs.Record.{Hour, Entry, members, memberOf, areaOf, entryOf, isLoad}
-use Rattle.rules.specs.Deviation.{unitsPerKWh}
-use Rattle.rules.specs.Ufe.{demand}
+use Rattle.rules.specs.Record.{Hour, Entry, members, memberOf, areaOf, entryOf, kindOf, isLoad}
+use Rattle.rules.specs.Deviation.{unitsPerKWh, multiplierOne}
+use Rattle.rules.specs.Ufe.{D}
 use Rattle.rules.specs.Charge.{grains}
+use Rattle.rules.specs.Settling.{emptyLine}
 
 -- ---- the tally
 
 -- what a record adds to its area's energy: generation less its losses, minus load, minus an import's losses
 unfoldable pub accountedAs : Kind → (A H : ℤ) → ℤ
-accountedAs Generator A H = unitsPerKWh *ℤ A -ℤ A *ℤ (unitsPerKWh -ℤ H)
+accountedAs Generator A H = unitsPerKWh *ℤ A -ℤ A *ℤ (multiplierOne -ℤ H)
 accountedAs RealTimeLoad A H = negℤ (unitsPerKWh *ℤ A)
 accountedAs ProfileLoad A H = negℤ (unitsPerKWh *ℤ A)
-accountedAs Import A H = negℤ (A *ℤ (unitsPerKWh -ℤ H))
+accountedAs Import A H = negℤ (A *ℤ (multiplierOne -ℤ H))
 accountedAs Export A H = pos 0
 accountedAs Unknown A H = pos 0
 
@@ -40,10 +41,13 @@ tallied t a d e = record {
   energy = set (t .energy) a (getD (t .energy) a (pos 0) +ℤ e);
 }
 
+-- what a record of these words demands: a load its D, another kind nothing
+unfoldable pub demandBy : (ℕ → ℕ) → ℕ
+demandBy w = cond (isLoad (kindOf (w 0))) (D w) 0
+
 module _ (h : Hour) where
-  -- only a load demands
-  unfoldable pub demandOf : ℕ → ℕ
-  demandOf i = cond (isLoad (entryOf h i .kind)) (demand h i) 0
+  abbrev pub demandOf : ℕ → ℕ
+  demandOf i = demandBy (h .rec i)
 
   -- the tally once the first n records are posted
   unfoldable pub tallyAfter : ℕ → Tally
@@ -51,9 +55,6 @@ module _ (h : Hour) where
   tallyAfter (suc n) = tallied (tallyAfter n) (areaOf h n) (demandOf n) (accounted (entryOf h n))
 
 -- ---- the members' lines
-
-unfoldable pub emptyLine : Line
-emptyLine = record { amount = pos 0; records = 0 }
 
 unfoldable pub lineWith : Line → ℤ → Line
 lineWith l g = record { amount = l .amount +ℤ g; records = l .records + 1 }
