@@ -62,7 +62,7 @@ module _ (h : Hour) (a i : ℕ) where
 
 -- ---- a record's area, as the code reads and tests it
 
-module _ {s row : List ℕ} {i r : ℕ} (own : PartOf s i row) (told : r ≡ word row 2) {a : ℕ} where
+module _ {s words : List ℕ} {i r : ℕ} (own : PartOf s i words) (told : r ≡ word words 2) {a : ℕ} where
   pub in-area : r ≡ a → eqb (areaOf (hourIn s) i) a ≡ true
   in-area e = eq-eqb _ _ (sym (told ∙ part-area own) ∙ e)
 

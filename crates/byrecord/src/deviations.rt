@@ -10,7 +10,7 @@ ghost use Rattle.rules.specs.Inner.Kept.{FileKept};
 ghost use Rattle.hour.specs.Hour.{hourIn};
 
 // Record `i`'s.
-pub fn deviation_of(file: &[u8], i: usize) -> i64
+fn deviation_of(file: &[u8], i: usize) -> i64
     requires { ⌜ FileKept (now file) × (i < hourIn (now file) .count) ⌝ }
     ensures { λ r. ⌜ r ≡ deviation (entryOf (hourIn (now (file .entry))) i) ⌝ }
 {

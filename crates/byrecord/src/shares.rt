@@ -20,9 +20,9 @@ fn demand_there(file: &[u8], a: usize, i: usize) -> u64
     requires { ⌜ FileKept (now file) × (i < hourIn (now file) .count) ⌝ }
     ensures { λ r. ⌜ r ≡ demandIn (hourIn (now (file .entry))) a i ⌝ }
 {
-    let row = hour::record(file, i);
-    if hour::area_in(row) == a {
-        return hour::demand_in(row);
+    let words = hour::record(file, i);
+    if hour::area_in(words) == a {
+        return hour::demand_in(words);
     }
     0
 }

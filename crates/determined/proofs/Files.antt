@@ -12,7 +12,6 @@ use Rattle.hour.proofs.members.Reads as members
 use Rattle.hour.proofs.areas.Reads as areas
 use Rattle.hour.proofs.price.Reads as price
 use Rattle.hour.proofs.kind_in.Reads as kind-in
-use Rattle.hour.proofs.member_in.Reads as member-in
 use Rattle.hour.proofs.area_in.Reads as area-in
 use Rattle.hour.proofs.demand_in.Reads as demand-in
 use Rattle.hour.proofs.member_of.Reads as member-of
@@ -20,10 +19,7 @@ use Rattle.hour.proofs.area_of.Reads as area-of
 use Rattle.hour.proofs.demand_of.Reads as demand-of
 use Rattle.hour.proofs.entry_in.Reads as entry-in
 use Rattle.hour.proofs.entry_of.Reads as entry-of
-use Rattle.byrecord.proofs.deviations.deviation_of.Reads as deviation-of
-use Rattle.lines.proofs.grains.Reads as grains
 use Rattle.tally.proofs.tally_of.Reads as tally-of
-use Rattle.tally.proofs.ufe_of.Reads as ufe-of
 use Rattle.tally.proofs.ufe_figures.Reads as ufe-figures
 use Rattle.tally.proofs.area_without_demand.Reads as area-without-demand
 
@@ -54,9 +50,6 @@ one-price κs a x y s t = agree
 pub one-kind-in : (κs : Lfts 1) → OneResult (kind-in.Post κs)
 one-kind-in κs a x y s t = agree
 
-pub one-member-in : (κs : Lfts 1) → OneResult (member-in.Post κs)
-one-member-in κs a x y s t = agree
-
 pub one-area-in : (κs : Lfts 1) → OneResult (area-in.Post κs)
 one-area-in κs a x y s t = agree
 
@@ -78,17 +71,8 @@ one-entry-in κs a x y s t = agree-entry
 pub one-entry-of : (κs : Lfts 1) → OneResult (entry-of.Post κs)
 one-entry-of κs a x y s t = agree-entry
 
-pub one-deviation-of : (κs : Lfts 1) → OneResult (deviation-of.Post κs)
-one-deviation-of κs a x y s t = agree
-
-pub one-grains : (κs : Lfts 1) → OneResult (grains.Post κs)
-one-grains κs a x y s t = agree
-
 pub one-tally-of : (κs : Lfts 1) → OneResult (tally-of.Post κs)
 one-tally-of κs a x y s t = agree
-
-pub one-ufe-of : (κs : Lfts 1) → OneResult (ufe-of.Post κs)
-one-ufe-of κs a x y s t = agree
 
 pub one-ufe-figures : (κs : Lfts 1) → OneResult (ufe-figures.Post κs)
 one-ufe-figures κs a x y s t = agree

@@ -15,10 +15,6 @@ use Rattle.wordrules.proofs.head_rule.Reads as head-rule
 use Rattle.wordrules.proofs.record_keeps.Reads as record-keeps
 use Rattle.formula.proofs.entry.kind_of.Reads as kind-of
 use Rattle.formula.proofs.entry.is_load.Reads as is-load
-use Rattle.formula.proofs.deviation.generator_deviation.Reads as generator-deviation
-use Rattle.formula.proofs.deviation.load_deviation.Reads as load-deviation
-use Rattle.formula.proofs.deviation.import_deviation.Reads as import-deviation
-use Rattle.formula.proofs.deviation.export_deviation.Reads as export-deviation
 use Rattle.formula.proofs.deviation.deviation.Reads as deviation
 use Rattle.formula.proofs.deviation.entering.Reads as entering
 use Rattle.formula.proofs.deviation.accounted.Reads as accounted
@@ -70,18 +66,6 @@ one-kind-of κs a x y s t = agree
 
 pub one-is-load : (κs : Lfts 0) → OneResult (is-load.Post κs)
 one-is-load κs a x y s t = agree
-
-pub one-generator-deviation : (κs : Lfts 0) → OneResult (generator-deviation.Post κs)
-one-generator-deviation κs a x y s t = agree
-
-pub one-load-deviation : (κs : Lfts 0) → OneResult (load-deviation.Post κs)
-one-load-deviation κs a x y s t = agree
-
-pub one-import-deviation : (κs : Lfts 0) → OneResult (import-deviation.Post κs)
-one-import-deviation κs a x y s t = agree
-
-pub one-export-deviation : (κs : Lfts 0) → OneResult (export-deviation.Post κs)
-one-export-deviation κs a x y s t = agree
 
 pub one-deviation : (κs : Lfts 0) → OneResult (deviation.Post κs)
 one-deviation κs a x y s t = agree

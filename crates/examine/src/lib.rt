@@ -53,10 +53,10 @@ enum Fault {
 }
 
 // Whether word `w` of a record of this kind breaks kind, number, range or zero, in a file of so many members and areas.
-fn record_word_bad(row: &[u8], members: u32, areas: u32, kind: u32, w: usize) -> bool
-    ensures { λ r. ⌜ r ≡ not (Ranges.keeps (Ranges.recordRule members areas kind w) (HourFile.word (now (row .entry)) w)) ⌝ }
+fn record_word_bad(words: &[u8], members: u32, areas: u32, kind: u32, w: usize) -> bool
+    ensures { λ r. ⌜ r ≡ not (Ranges.keeps (Ranges.recordRule members areas kind w) (HourFile.word (now (words .entry)) w)) ⌝ }
 {
-    !wordrules::record_keeps(members, areas, kind, w, blocks::word(row, w))
+    !wordrules::record_keeps(members, areas, kind, w, blocks::word(words, w))
 }
 
 // The search leaves all the rows at the first record, and in it the first word, that breaks a rule.
@@ -70,11 +70,11 @@ fn first_fault(file: &[u8]) -> Fault
     let mut i = 0;
     let mut w = 0;
     'rows: while i < n {
-        let row = hour::record(file, i);
-        let kind = blocks::word(row, 0);
+        let words = hour::record(file, i);
+        let kind = blocks::word(words, 0);
         w = 0;
         while w < 12 {
-            if record_word_bad(row, members, areas, kind, w) {
+            if record_word_bad(words, members, areas, kind, w) {
                 break 'rows;
             }
             w += 1;

@@ -21,28 +21,28 @@ fn most(x: i64, y: i64) -> i64
     if x <= y { y } else { x }
 }
 
-pub fn generator_deviation(r: Entry) -> i64
+fn generator_deviation(r: Entry) -> i64
     requires { ⌜ EntryKept (meant r) ⌝ }
     ensures { λ d. ⌜ d ≡ Deviation.generatorDeviation (meant r) ⌝ }
 {
     r.s * r.f - ((r.a - r.j) * r.h - 10000 * r.n) - 10000 * least(0, r.m - r.a - (r.o - r.n))
 }
 
-pub fn load_deviation(r: Entry) -> i64
+fn load_deviation(r: Entry) -> i64
     requires { ⌜ EntryKept (meant r) ⌝ }
     ensures { λ d. ⌜ d ≡ Deviation.loadDeviation (meant r) ⌝ }
 {
     10000 * (r.s - ((r.a - r.j) + r.n) - most(0, (r.o - r.n) - r.a))
 }
 
-pub fn import_deviation(r: Entry) -> i64
+fn import_deviation(r: Entry) -> i64
     requires { ⌜ EntryKept (meant r) ⌝ }
     ensures { λ d. ⌜ d ≡ Deviation.importDeviation (meant r) ⌝ }
 {
     r.s * r.f - (r.a - r.j) * r.h + 10000 * r.n
 }
 
-pub fn export_deviation(r: Entry) -> i64
+fn export_deviation(r: Entry) -> i64
     requires { ⌜ EntryKept (meant r) ⌝ }
     ensures { λ d. ⌜ d ≡ Deviation.exportDeviation (meant r) ⌝ }
 {

@@ -16,7 +16,7 @@ use Rattle.blocks.proofs.Parts.{record-part-length}
 
 module _ (s : List ℕ) (i : ℕ) (good : lengthBad hourly s ≡ false) (there : i < hourOf hourly s .count) where
   -- a word of a record, read from the record's part of the file
-  pub part-word : {row : List ℕ} → row ≡ recordPart hourly s i → (w : ℕ) → w < 12 → word row w ≡ hourOf hourly s .rec i w
+  pub part-word : {words : List ℕ} → words ≡ recordPart hourly s i → (w : ℕ) → w < 12 → word words w ≡ hourOf hourly s .rec i w
   part-word part w l =
       ap (λ (p : List ℕ). word p w) part ∙ record-part-word hourly-fits s i good w (rw (← record-count) there) l
 
@@ -35,12 +35,12 @@ module _ {s : List ℕ} {i : ℕ} (kept : FileKept s) (there : i < hourOf hourly
   pub record-inside : RecordThere hourly s i
   record-inside = record { length-good = kept .length-good; block-there = omega (arith, past-not) }
 
-  module _ {row : List ℕ} (part : row ≡ recordPart hourly s i) where
-    pub row-length : length row ≡ 48
-    row-length = ap length part ∙ record-part-length hourly-fits record-inside
+  module _ {words : List ℕ} (part : words ≡ recordPart hourly s i) where
+    pub record-length : length words ≡ 48
+    record-length = ap length part ∙ record-part-length hourly-fits record-inside
 
-    pub row-word : (w : ℕ) → w < 12 → word row w ≡ hourOf hourly s .rec i w
-    row-word w l = part-word s i (kept .length-good) there part w l
+    pub record-says : (w : ℕ) → w < 12 → word words w ≡ hourOf hourly s .rec i w
+    record-says w l = part-word s i (kept .length-good) there part w l
 
 -- ---- the head
 

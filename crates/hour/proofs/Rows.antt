@@ -9,35 +9,35 @@ use Rattle.rules.specs.HourFile.{hourly, word}
 use Rattle.rules.specs.Inner.Posting.{demandBy, demandOf}
 use Rattle.rules.specs.Inner.Kept.{FileKept, EntryKept}
 use Rattle.blocks.specs.Part.{recordPart}
-use Rattle.hour.proofs.Inside.{row-length, row-word}
+use Rattle.hour.proofs.Inside.{record-length, record-says}
 use Rattle.hour.specs.Hour.{hourIn}
 
 -- row is record i's part of a file that keeps its ranges
-pub record PartOf (s : List ℕ) (i : ℕ) (row : List ℕ) : Type 0 where
+pub record PartOf (s : List ℕ) (i : ℕ) (words : List ℕ) : Type 0 where
   pub kept : FileKept s
   pub there : i < hourIn s .count
-  pub part : row ≡ recordPart hourly s i
+  pub part : words ≡ recordPart hourly s i
 
-module _ {s row : List ℕ} {i : ℕ} (p : PartOf s i row) where
-  pub part-length : length row ≡ 48
-  part-length = row-length (p .kept) (p .there) (p .part)
+module _ {s words : List ℕ} {i : ℕ} (p : PartOf s i words) where
+  pub part-length : length words ≡ 48
+  part-length = record-length (p .kept) (p .there) (p .part)
 
-  says : (w : ℕ) → w < 12 → word row w ≡ hourIn s .rec i w
-  says = row-word (p .kept) (p .there) (p .part)
+  says : (w : ℕ) → w < 12 → word words w ≡ hourIn s .rec i w
+  says = record-says (p .kept) (p .there) (p .part)
 
-  pub part-kind : kindOf (word row 0) ≡ entryOf (hourIn s) i .kind
+  pub part-kind : kindOf (word words 0) ≡ entryOf (hourIn s) i .kind
   unfolding entryOf entry
   part-kind = ap kindOf (says 0 (omega arith))
 
-  pub part-member : word row 1 ≡ memberOf (hourIn s) i
+  pub part-member : word words 1 ≡ memberOf (hourIn s) i
   unfolding memberOf
   part-member = says 1 (omega arith)
 
-  pub part-area : word row 2 ≡ areaOf (hourIn s) i
+  pub part-area : word words 2 ≡ areaOf (hourIn s) i
   unfolding areaOf
   part-area = says 2 (omega arith)
 
-  pub part-entry : entry (word row) ≡ entryOf (hourIn s) i
+  pub part-entry : entry (word words) ≡ entryOf (hourIn s) i
   unfolding entryOf entry
   part-entry = rw (
     says 0 (omega arith),
@@ -52,9 +52,9 @@ module _ {s row : List ℕ} {i : ℕ} (p : PartOf s i row) where
   )
 
   -- so that the formulas may be worked of it
-  pub part-entry-kept : EntryKept (entry (word row))
+  pub part-entry-kept : EntryKept (entry (word words))
   part-entry-kept = rw part-entry (p .kept .hour-kept .record-kept i (p .there) .entry-kept)
 
-  pub part-demand : demandBy (word row) ≡ demandOf (hourIn s) i
+  pub part-demand : demandBy (word words) ≡ demandOf (hourIn s) i
   unfolding demandBy
   part-demand = rw (says 0 (omega arith), says 4 (omega arith))

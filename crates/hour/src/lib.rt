@@ -71,50 +71,50 @@ pub fn price(file: &[u8], a: usize) -> i64
 
 // ---- a record by its part of the file
 
-pub fn kind_in(row: &[u8]) -> Kind
-    requires { ⌜ length (now row) ≡ 48 ⌝ }
-    ensures { λ k. ⌜ k ≡ Record.kindOf (word (now (row .entry)) 0) ⌝ }
+pub fn kind_in(words: &[u8]) -> Kind
+    requires { ⌜ length (now words) ≡ 48 ⌝ }
+    ensures { λ k. ⌜ k ≡ Record.kindOf (word (now (words .entry)) 0) ⌝ }
 {
-    formula::entry::kind_of(blocks::whole_word(row, 0))
+    formula::entry::kind_of(blocks::whole_word(words, 0))
 }
 
-pub fn member_in(row: &[u8]) -> usize
-    requires { ⌜ length (now row) ≡ 48 ⌝ }
-    ensures { λ r. ⌜ r ≡ word (now (row .entry)) 1 ⌝ }
+fn member_in(words: &[u8]) -> usize
+    requires { ⌜ length (now words) ≡ 48 ⌝ }
+    ensures { λ r. ⌜ r ≡ word (now (words .entry)) 1 ⌝ }
 {
-    blocks::whole_word(row, 1) as usize
+    blocks::whole_word(words, 1) as usize
 }
 
-pub fn area_in(row: &[u8]) -> usize
-    requires { ⌜ length (now row) ≡ 48 ⌝ }
-    ensures { λ r. ⌜ r ≡ word (now (row .entry)) 2 ⌝ }
+pub fn area_in(words: &[u8]) -> usize
+    requires { ⌜ length (now words) ≡ 48 ⌝ }
+    ensures { λ r. ⌜ r ≡ word (now (words .entry)) 2 ⌝ }
 {
-    blocks::whole_word(row, 2) as usize
+    blocks::whole_word(words, 2) as usize
 }
 
-pub fn entry_in(row: &[u8]) -> Entry
-    requires { ⌜ length (now row) ≡ 48 ⌝ }
-    ensures { λ r. ⌜ meant r ≡ Record.entry (word (now (row .entry))) ⌝ }
+pub fn entry_in(words: &[u8]) -> Entry
+    requires { ⌜ length (now words) ≡ 48 ⌝ }
+    ensures { λ r. ⌜ meant r ≡ Record.entry (word (now (words .entry))) ⌝ }
 {
     Entry {
-        kind: kind_in(row),
-        s: blocks::whole_word(row, 3) as i64,
-        a: blocks::whole_word(row, 4) as i64,
-        j: blocks::signed(blocks::whole_word(row, 5)),
-        n: blocks::whole_word(row, 6) as i64,
-        o: blocks::whole_word(row, 7) as i64,
-        m: blocks::whole_word(row, 8) as i64,
-        f: blocks::whole_word(row, 9) as i64,
-        h: blocks::whole_word(row, 10) as i64,
+        kind: kind_in(words),
+        s: blocks::whole_word(words, 3) as i64,
+        a: blocks::whole_word(words, 4) as i64,
+        j: blocks::signed(blocks::whole_word(words, 5)),
+        n: blocks::whole_word(words, 6) as i64,
+        o: blocks::whole_word(words, 7) as i64,
+        m: blocks::whole_word(words, 8) as i64,
+        f: blocks::whole_word(words, 9) as i64,
+        h: blocks::whole_word(words, 10) as i64,
     }
 }
 
-pub fn demand_in(row: &[u8]) -> u64
-    requires { ⌜ length (now row) ≡ 48 ⌝ }
-    ensures { λ r. ⌜ r ≡ demandBy (word (now (row .entry))) ⌝ }
+pub fn demand_in(words: &[u8]) -> u64
+    requires { ⌜ length (now words) ≡ 48 ⌝ }
+    ensures { λ r. ⌜ r ≡ demandBy (word (now (words .entry))) ⌝ }
 {
-    if formula::entry::is_load(kind_in(row)) {
-        return blocks::whole_word(row, 4) as u64;
+    if formula::entry::is_load(kind_in(words)) {
+        return blocks::whole_word(words, 4) as u64;
     }
     0
 }

@@ -16,13 +16,13 @@ ghost use Rattle.lines.specs.Lined.{Worked, AllWorked};
 use rules::Line;
 
 // A record in its member's amount: the zone price of its area times its deviation as it enters, plus its share.
-pub fn grains(file: &[u8], i: usize, deviation: i64, share: i64) -> i64
+fn grains(file: &[u8], i: usize, deviation: i64, share: i64) -> i64
     requires { ⌜ Worked (now file) i deviation share ⌝ }
     ensures { λ r. ⌜ r ≡ Charge.grains (hourIn (now (file .entry))) i ⌝ }
 {
-    let row = hour::record(file, i);
-    let kind = hour::kind_in(row);
-    let price = hour::price(file, hour::area_in(row));
+    let words = hour::record(file, i);
+    let kind = hour::kind_in(words);
+    let price = hour::price(file, hour::area_in(words));
     price * (formula::deviation::entering(kind, deviation) + share)
 }
 

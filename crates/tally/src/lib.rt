@@ -41,7 +41,7 @@ pub fn tally_of(file: &[u8]) -> Tally
 }
 
 // An area's UFE: its ties, and what its records are accounted for.
-pub fn ufe_of(file: &[u8], t: Tally, a: usize) -> i64
+fn ufe_of(file: &[u8], t: Tally, a: usize) -> i64
     requires { ⌜ Tallied (now file) t × (a < Record.areas (hourIn (now file))) ⌝ }
     ensures { λ r. ⌜ r ≡ ufe (hourIn (now (file .entry))) a ⌝ }
 {

@@ -27,10 +27,10 @@ abbrev record-bad : (s : List ℕ) (i : ℕ) → Bool
 record-bad s i = isBroken (badWord (hourOf hourly s) i)
 
 abbrev Inv-loop : tie.InvT-loop
-Inv-loop file members areas n i w₀ row kind w = firstBelow (word-bad file i) w ≡ none
+Inv-loop file members areas n i w₀ words kind w = firstBelow (word-bad file i) w ≡ none
 
 abbrev μ-loop : tie.MeasureT-loop
-μ-loop file members areas n i w₀ row kind w = 12 - w
+μ-loop file members areas n i w₀ words kind w = 12 - w
 
 abbrev Inv-rows : tie.InvT-rows
 Inv-rows file members areas n i₀ w₀ i w = firstBelow (record-bad file) i ≡ none
@@ -59,10 +59,10 @@ module _ (turn : tie.At-rows Inv-loop μ-loop Inv-rows μ-rows) where
   counted = turn .before .records .result
 
   -- whether the code finds that a word breaks its rule, by the counts that it has read of the head
-  abbrev judged : (row : List ℕ) (kind w : ℕ) → Bool
-  judged row kind w =
+  abbrev judged : (words : List ℕ) (kind w : ℕ) → Bool
+  judged words kind w =
       let areas-read = turn .before .before in
-      not (keeps (recordRule (areas-read .before .head-word .result) (areas-read .head-word2 .result) kind w) (word row w))
+      not (keeps (recordRule (areas-read .before .head-word .result) (areas-read .head-word2 .result) kind w) (word words w))
 
   good : lengthBad hourly file ≡ false
   good = turn .before .before .before .before .before .pre .length-good
@@ -71,8 +71,8 @@ module _ (turn : tie.At-rows Inv-loop μ-loop Inv-rows μ-rows) where
   there l = rw (← turn .before .records .ensures) l
 
   -- what the code has read of the record's part is the file's record
-  module _ {row : List ℕ} {kind : ℕ} (l : at < counted) (part : row ≡ recordPart hourly file at) (e : kind ≡ word row 0) where
-    told : (w : ℕ) → w < 12 → judged row kind w ≡ word-bad file at w
+  module _ {words : List ℕ} {kind : ℕ} (l : at < counted) (part : words ≡ recordPart hourly file at) (e : kind ≡ word words 0) where
+    told : (w : ℕ) → w < 12 → judged words kind w ≡ word-bad file at w
     told w m =
         let areas-read = turn .before .before in
         let kind-is = e ∙ part-word file at good (there l) part 0 (omega arith) in
@@ -80,7 +80,7 @@ module _ (turn : tie.At-rows Inv-loop μ-loop Inv-rows μ-rows) where
         alike file at w _ _ _ _ (areas-read .before .head-word .ensures) (areas-read .head-word2 .ensures) kind-is word-is
 
     -- a word that breaks its rule, with none before it, is the first fault
-    stops : (w : ℕ) → w < 12 → firstBelow (word-bad file at) w ≡ none → judged row kind w ≡ true
+    stops : (w : ℕ) → w < 12 → firstBelow (word-bad file at) w ≡ none → judged words kind w ≡ true
         → firstFault (hourOf hourly file) ≡ some (at, w)
     unfolding badRecord badWord firstBroken
     stops w m passed broken =

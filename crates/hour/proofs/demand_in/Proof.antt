@@ -20,7 +20,7 @@ cast-result : tie.Need-cast-result
 cast-result c = omega arith
 
 -- what the test answered of the kind is what the definition asks
-is-load : (c : tie.After-is-load) → isLoad (kindOf (word (c .before .before .before .args .row .now) 0)) ≡ c .is-load .result
+is-load : (c : tie.After-is-load) → isLoad (kindOf (word (c .before .before .before .args .words .now) 0)) ≡ c .is-load .result
 is-load c = sym (ap isLoad (c .before .kind-in .ensures)) ∙ sym (c .is-load .ensures)
 
 returns : tie.Need-returns
