@@ -388,8 +388,8 @@ class MadeHours(unittest.TestCase):
         self.assertGreater(areas, 10)
 
 
-# Wrong programs: each is the second program with one text changed. Document 01's "Slips to catch" come
-# first; the hours must show every one.
+# Wrong programs: each is the second program with one text changed, or several, an old one before each
+# new one. Document 01's "Slips to catch" come first; the hours must show every one.
 HOUR_SLIPS = {
     "ancillary energy times H": (
         'multiplier(r["H"]) - r["N"]', 'multiplier(r["H"]) - r["N"] * multiplier(r["H"])'),
@@ -418,11 +418,30 @@ HOUR_SLIPS = {
         "    check_sums(blocks)\n    check_layout(blocks)", "    check_layout(blocks)\n    check_sums(blocks)"),
     "sums without their highest bit": ("sum(block) % 2**32", "sum(block) % 2**31"),
     "no refusal 6": ("energy != 0 and demand(hour, area) == 0", "False"),
+    "charges short by one": ("min(len(charges), len(lines)) <", "min(len(charges) + 1, len(lines)) <"),
     "lines short by one": ("min(len(charges), len(lines)) <", "min(len(charges), len(lines) + 1) <"),
     "shares short by one": ("min(len(shares), len(deviations)) <", "min(len(shares) + 1, len(deviations)) <"),
+    "deviations short by one": ("min(len(shares), len(deviations)) <", "min(len(shares), len(deviations) + 1) <"),
     "record count of the next member": ('r["member"] == member for r', 'r["member"] == member + 1 for r'),
     "an invented record count": ('hour["members"], len(hour["records"]))\n    for', 'hour["members"], 2)\n    for'),
 }
+
+# A refusal that names the last such place in place of the first.
+HOUR_SLIPS.update({
+    "last block whose sum isn't zero": (
+        "for place, block in enumerate(blocks):\n        if sum", "for place, block in reversed([*enumerate(blocks)]):\n        if sum"),
+    "last block that breaks the layout": (
+        "for place in range(len(blocks)):\n        if not", "for place in reversed(range(len(blocks))):\n        if not"),
+    "last word of the head": (
+        '    head = {"number": word(8, WORD)}', '    bad = []\n    head = {"number": word(8, WORD)}',
+        "raise Refused(4, place)", "bad.append(place)",
+        '    head["prices"] =', '    if bad:\n        raise Refused(4, bad[-1])\n    head["prices"] ='),
+    "last record": (
+        "    records = []\n    for block in blocks[1:]", "    records, bad = [], []\n    for block in blocks[1:]",
+        "raise Refused(5, len(records))", "bad.append(len(records))",
+        "    return records\n", "    if bad:\n        raise Refused(5, bad[-1])\n    return records\n"),
+    "last area": ("for area, energy in enumerate(ufe):", "for area, energy in reversed([*enumerate(ufe)]):"),
+})
 
 # Every end of every range one too wide, and one too narrow.
 ENDS = {"PRICE": (-1_000_000, 1_000_000), "TIE": (0, 10_000_000), "ENERGY": (0, 100_000),
@@ -468,9 +487,11 @@ SLIPS = {**HOUR_SLIPS, **AMOUNT_SLIPS}
 
 def slipped(name):
     """The second program's text with one slip in it."""
-    old, new = SLIPS[name]
-    assert SECOND.count(old) == 1, name
-    return SECOND.replace(old, new)
+    text, changes = SECOND, SLIPS[name]
+    for old, new in zip(changes[::2], changes[1::2]):
+        assert text.count(old) == 1, name
+        text = text.replace(old, new)
+    return text
 
 
 class Noticing(unittest.TestCase):
