@@ -121,24 +121,26 @@ class PrintedCase(unittest.TestCase):
         self.assertEqual(second.statement(hours.printed_case().encode()),
                          b"hour 7 members 2 records 2\n00          +5.00\n01          -5.00\n")
 
-    def test_buffers(self):
-        self.assertEqual(second.buffers(hours.printed_case().encode(), [3, 2, 4, 3]).decode(),
+    def test_settled(self):
+        self.assertEqual(second.settled(hours.printed_case().encode(), [3, 2, 4, 3]).decode(),
                          "answer 0 at 0\n"
                          "ufe 300000 0 0 0 0 0 0 0\n"
                          "charges 500 -500 77\n"
                          "shares 0 300000 77 77\n"
                          "deviations 1000000 1300000 77\n"
-                         "lines 5000000000:1 -5000000000:1\n")
+                         "lines 5000000000:1 -5000000000:1\n"
+                         "bodies 32:480 544:480" + " 0:0" * 27 + "\n")
 
-    def test_buffers_of_a_refusal(self):
-        self.assertEqual(second.buffers(b"", [1, 2, 0]).split(b"deviations")[0].decode(),
-                         "answer 1 at 0\nufe 0 0 0 0 0 0 0 0\ncharges 77\nshares\n")
+    def test_settled_of_a_refusal(self):
+        self.assertEqual(second.settled(b"", [1, 2, 0, 1]).decode(),
+                         "answer 1 at 0\nufe 0 0 0 0 0 0 0 0\ncharges 77\nshares\ndeviations 77\n"
+                         "lines 77:77 77:77\nbodies" + " 0:0" * 29 + "\n")
 
     def test_as_a_command(self):
         data = hours.printed_case().encode()
         for words, text in ((["statement"], second.statement(data)),
-                            (["buffers"], second.buffers(data)),
-                            (["buffers", "2", "1"], second.buffers(data, [2, 1]))):
+                            (["settled"], second.settled(data)),
+                            (["settled", "2", "1"], second.settled(data, [2, 1]))):
             ended = subprocess.run([sys.executable, HERE / "second.py", *words], input=data, capture_output=True)
             self.assertEqual((ended.returncode, ended.stdout), (0, text))
 
@@ -184,6 +186,13 @@ class Refusals(unittest.TestCase):
         hour.records[1]["A"] = 870
         self.assertEqual(answer(hour, short), (11, 0))
         self.assertEqual(answer(hour), (0, 0))
+
+    def test_bodies(self):
+        """The block reader looks at the length only."""
+        self.assertEqual(second.bodies(bytes(1_024), (0, 1, 2)), [(32, 480), (544, 480), (0, 0)])
+        self.assertEqual(second.bodies(bytes(13_312), (25, 26, 2**64 - 1)), [(12_832, 480), (0, 0), (0, 0)])
+        for length in (0, 511, 1_025, 13_824):
+            self.assertEqual(second.bodies(bytes(length), (0, 1)), [(0, 0), (0, 0)])
 
     def test_first_such_place(self):
         hour = Hour(0, 1, [1], [[0, 5, 5]] * 3 + [[0, 1, 0], [0, 0, 1]], [record(EXPORT, 0, 0)] * 12)
@@ -441,6 +450,8 @@ HOUR_SLIPS.update({
         "raise Refused(5, len(records))", "bad.append(len(records))",
         "    return records\n", "    if bad:\n        raise Refused(5, bad[-1])\n    return records\n"),
     "last area": ("for area, energy in enumerate(ufe):", "for area, energy in reversed([*enumerate(ufe)]):"),
+    "the body of the block before": ("(BLOCK_BYTES * place + before,", "(BLOCK_BYTES * (place - 1) + before,"),
+    "a body past the last block": ("if place < there else", "if place <= there else"),
 })
 
 # Every end of every range one too wide, and one too narrow.
@@ -506,10 +517,10 @@ class Noticing(unittest.TestCase):
         return status, said.getvalue()
 
     @contextlib.contextmanager
-    def stand_ins(self, statement=SECOND, buffers=SECOND, amounts=SECOND):
+    def stand_ins(self, statement=SECOND, settled=SECOND, amounts=SECOND):
         """A folder with programs of these names that are these Python texts."""
         with tempfile.TemporaryDirectory() as folder:
-            for name, text in (("statement", statement), ("buffers", buffers), ("amounts", amounts)):
+            for name, text in (("statement", statement), ("settled", settled), ("amounts", amounts)):
                 program = Path(folder, name)
                 Path(folder, name + ".py").write_text(text)
                 program.write_text(f'#!/bin/sh\nexec "{sys.executable}" "$0.py" {name} "$@"\n')
@@ -555,6 +566,11 @@ class Noticing(unittest.TestCase):
                     status, said = self.run_compare(what, 2, "--programs", folder, "--save", folder / "saved")
                     self.assertEqual(status, 1, said)
 
+    def test_by_hand_the_statement_is_left_out(self):
+        with self.stand_ins(statement="") as folder:
+            status, said = self.run_compare("--hand", "--hours", 5, "--programs", folder)
+            self.assertEqual(status, 0, said)
+
     def test_no_programs(self):
         with tempfile.TemporaryDirectory() as folder:
             self.assertEqual(self.run_compare("--programs", folder)[0], 2)
@@ -598,7 +614,7 @@ class Noticing(unittest.TestCase):
             wrong = self.wrong_program(name)
             with self.subTest(name):
                 self.assertTrue(any(wrong.statement(case.hour.data) != case.statement
-                                    or wrong.buffers(case.hour.data, case.lengths) != case.buffers
+                                    or wrong.settled(case.hour.data, case.lengths) != case.settled
                                     for case in cases))
 
     @unittest.skipUnless(shutil.which("rt"), "asks rt where the kit is")
