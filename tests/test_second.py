@@ -27,6 +27,7 @@ ROOT = HERE.parent
 sys.path.insert(0, str(HERE))
 import fields  # noqa: E402
 import hours  # noqa: E402
+import known  # noqa: E402
 import programs  # noqa: E402
 import second  # noqa: E402
 from hours import EXPORT, GENERATOR, IMPORT, PROFILE_LOAD, REAL_TIME_LOAD, Hour, record  # noqa: E402
@@ -193,6 +194,10 @@ class Refusals(unittest.TestCase):
         self.assertEqual(second.bodies(bytes(13_312), (25, 26, 2**64 - 1)), [(12_832, 480), (0, 0), (0, 0)])
         for length in (0, 511, 1_025, 13_824):
             self.assertEqual(second.bodies(bytes(length), (0, 1)), [(0, 0), (0, 0)])
+
+    def test_known_files(self):
+        for name, line, data in known.cases():
+            self.assertEqual(second.statement(data).decode().splitlines()[0], line, name)
 
     def test_first_such_place(self):
         hour = Hour(0, 1, [1], [[0, 5, 5]] * 3 + [[0, 1, 0], [0, 0, 1]], [record(EXPORT, 0, 0)] * 12)
@@ -635,7 +640,7 @@ class Noticing(unittest.TestCase):
 
 
 class Pages(unittest.TestCase):
-    """The examples, docs/FORMAT.md and the stored files say what the programs do."""
+    """The examples, docs/FORMAT.md and the stored amounts say what the programs do."""
 
     @staticmethod
     def printed(number):
@@ -654,6 +659,20 @@ class Pages(unittest.TestCase):
             for figure in settled.ufe + settled.deviations + settled.shares + amounts + settled.charges:
                 if figure != second.UNTOUCHED:
                     self.assertIn(self.printed(figure), page, name)
+
+    def test_the_example_in_c(self):
+        """What examples/c/check expects, and the example's page."""
+        folder = ROOT / "examples" / "c"
+        for name in ("printed", "two-zones", "left-over"):
+            settled = second.settle((ROOT / "examples" / f"{name}.hour").read_bytes())
+            text = f"answer {settled.number} at {settled.place}\n"
+            for member, ((amount, records), charge) in enumerate(zip(settled.lines, settled.charges)):
+                if (amount, records) != (second.UNTOUCHED, second.UNTOUCHED):
+                    field = second.write_amount(charge, 14)[1].decode()
+                    text += f"member {member} records {records} grains {amount} charge {field}\n"
+            self.assertEqual((folder / "expected" / f"{name}.txt").read_text(), text)
+        printed = (folder / "expected" / "printed.txt").read_text()
+        self.assertIn("".join(f"    {line}\n" for line in printed.splitlines()), (folder / "README.md").read_text())
 
     def test_the_refusal_that_an_example_tells_of(self):
         hour = load_script(ROOT / "examples" / "make.py").two_zones()
@@ -678,12 +697,9 @@ class Pages(unittest.TestCase):
             data[at:at + 16] = bytes.fromhex(line)
         self.assertEqual(bytes(data), (ROOT / "examples" / "printed.hour").read_bytes())
 
-    def test_stored_files(self):
-        """What the gate's programs are run on, and must print, is what the second program says of it."""
-        check = subprocess.run([sys.executable, HERE / "make_examined.py", "--check"], capture_output=True, text=True)
-        self.assertEqual(check.returncode, 0, check.stdout + check.stderr)
-        crate = ROOT / "crates" / "amounts"
-        self.assertEqual(second.amounts((crate / "stdin").read_bytes()), (crate / "stdout").read_bytes())
+    def test_stored_amounts(self):
+        folder = HERE / "archive"
+        self.assertEqual(second.amounts((folder / "amounts.in").read_bytes()), (folder / "amounts.out").read_bytes())
 
     def test_text_amounts_of_the_format(self):
         page = (ROOT / "docs" / "FORMAT.md").read_text().replace("\u2212", "-")
