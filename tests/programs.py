@@ -34,7 +34,7 @@ def made(functions):
     try:
         subprocess.run([HERE / "archive" / "build", functions], check=True)
     except (OSError, subprocess.CalledProcessError) as error:
-        raise Missing(f"the programs of tests/archive could not be made: {error}") from error
+        raise Missing("the programs of tests/archive could not be made") from error
     return BUILT.parent / functions
 
 
