@@ -329,9 +329,8 @@ def beyond(rng, highest):
 
 # Faults of the hour's figures, before it is encoded.
 
-def no_demand(rng, hour):
-    """An area with UFE that no load can carry."""
-    area = rng.randrange(len(hour.areas))
+def spoil_area(rng, hour, area):
+    """Gives an area UFE that no load can carry."""
     balance(rng, hour, area)
     sources = [r for r in hour.of_area(area, GENERATOR, IMPORT) if r["A"] > 0]
     if sources and rng.random() < 0.5:
@@ -339,7 +338,21 @@ def no_demand(rng, hour):
     else:
         tie = rng.choice([1, 2])
         hour.areas[area][tie] = (hour.areas[area][tie] + rng.randint(1, MOST_TIE)) % (MOST_TIE + 1)
+
+
+def no_demand(rng, hour):
+    area = rng.randrange(len(hour.areas))
+    spoil_area(rng, hour, area)
     return 6, area
+
+
+def no_demand_twice(rng, hour):
+    if len(hour.areas) == 1:
+        return None
+    areas = rng.sample(range(len(hour.areas)), 2)
+    for area in areas:
+        spoil_area(rng, hour, area)
+    return 6, min(areas)
 
 
 # Faults of single words; the sums are mended after them.
@@ -478,6 +491,10 @@ def last_word_of_the_head(rng, hour, blocks):
     return 4, 127
 
 
+def put_in_record(blocks, place, word, value):
+    blocks[1 + place // 10][8 + 12 * (place % 10) + word] = value % 2**32
+
+
 def spoil_record(rng, hour, blocks, choose):
     """Sets one word of some record: `choose` is handed the record and gives the word's number and its
     new value, or None."""
@@ -487,8 +504,7 @@ def spoil_record(rng, hour, blocks, choose):
     chosen = choose(hour.records[place])
     if chosen is None:
         return None
-    word, value = chosen
-    blocks[1 + place // 10][8 + 12 * (place % 10) + word] = value % 2**32
+    put_in_record(blocks, place, *chosen)
     return 5, place
 
 
@@ -544,6 +560,15 @@ def last_word_of_a_record(rng, hour, blocks):
     return spoil_record(rng, hour, blocks, lambda each: (11, unwanted(rng)))
 
 
+def wrong_kind_twice(rng, hour, blocks):
+    if len(hour.records) < 2:
+        return None
+    places = rng.sample(range(len(hour.records)), 2)
+    for place in places:
+        put_in_record(blocks, place, 0, beyond(rng, 5))
+    return 5, min(places)
+
+
 # Faults that move the border between what is a record and what is not; they come alone, since another
 # fault may take their place from them.
 
@@ -596,19 +621,32 @@ def blocks_swapped(rng, hour, blocks):
 
 # Faults of the sums, after mending.
 
-def add_to_a_word(rng, blocks, step):
-    place = rng.randrange(len(blocks))
+def add_to_a_word(rng, block, step):
     word = rng.choice([7, rng.randrange(128)])
-    blocks[place][word] = (blocks[place][word] + step) % 2**32
-    return 2, place
+    block[word] = (block[word] + step) % 2**32
 
 
 def wrong_sum(rng, blocks):
-    return add_to_a_word(rng, blocks, rng.choice([1, 2**32 - 1, rng.randint(1, 2**32 - 1)]))
+    place = rng.randrange(len(blocks))
+    add_to_a_word(rng, blocks[place], rng.choice([1, 2**32 - 1, rng.randint(1, 2**32 - 1)]))
+    return 2, place
 
 
 def wrong_sum_by_its_highest_bit(rng, blocks):
-    return add_to_a_word(rng, blocks, 2**31)
+    place = rng.randrange(len(blocks))
+    add_to_a_word(rng, blocks[place], 2**31)
+    return 2, place
+
+
+def wrong_sum_twice(rng, blocks):
+    """Steps that undo each other over the whole file, but not in a block."""
+    if len(blocks) == 1:
+        return None
+    places = rng.sample(range(len(blocks)), 2)
+    step = rng.randint(1, 2**32 - 1)
+    add_to_a_word(rng, blocks[places[0]], step)
+    add_to_a_word(rng, blocks[places[1]], -step)
+    return 2, min(places)
 
 
 # Faults of the length: each is refusal 1 at 0.
@@ -630,24 +668,24 @@ def file_too_long(rng, data):
     return data + bytes(512 * (27 + rng.choice([0, 0, 5]) - len(data) // 512))
 
 
-HOUR_FAULTS = (no_demand,)
+HOUR_FAULTS = (no_demand, no_demand_twice)
 LAYOUT_FAULTS = (wrong_mark, wrong_position, wrong_count_of_blocks, wrong_count_before_the_last,
                  wrong_count_in_the_last, *map(reserved_word, (3, 4, 5, 6)), word_past_records)
 HEAD_FAULTS = (*itertools.starmap(none_of, COUNTS), *itertools.starmap(too_many, COUNTS), price_too_high,
                price_too_low, price_past_zones, wrong_zone, wrong_tie_in, wrong_tie_out, fourth_word_of_an_area,
                area_past_areas, word_past_areas, last_word_of_the_head)
 RECORD_FAULTS = (wrong_kind, wrong_member, wrong_area, *map(field_too_high, LETTERS), adjustment_too_low,
-                 field_below_zero, no_multiplier, unused_field, last_word_of_a_record)
+                 field_below_zero, no_multiplier, unused_field, last_word_of_a_record, wrong_kind_twice)
 WORD_FAULTS = LAYOUT_FAULTS + HEAD_FAULTS + RECORD_FAULTS
-SUM_FAULTS = (wrong_sum, wrong_sum_by_its_highest_bit)
+SUM_FAULTS = (wrong_sum, wrong_sum_by_its_highest_bit, wrong_sum_twice)
 LENGTH_FAULTS = (nothing_at_all, cut, bytes_too_many, file_too_long)
 LONE_FAULTS = (one_record_more, one_record_fewer, block_too_many, last_block_without_records, block_too_few,
                blocks_swapped)
 FAULTS = HOUR_FAULTS + WORD_FAULTS + SUM_FAULTS + LENGTH_FAULTS
 
-# Two faults of a sum, or two of the length, can undo each other.
+# Two faults of an area, of a sum or of the length can undo each other.
 PAIRS = [pair for pair in itertools.combinations(FAULTS, 2)
-         if not any(set(pair) <= set(stage) for stage in (SUM_FAULTS, LENGTH_FAULTS))]
+         if not any(set(pair) <= set(stage) for stage in (HOUR_FAULTS, SUM_FAULTS, LENGTH_FAULTS))]
 
 
 def spoil(rng, hour, faults):

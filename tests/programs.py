@@ -1,11 +1,12 @@
-"""Starts the built programs of target/bin, for the tests that look at what they write."""
+"""Starts the built programs, for the tests that look at what they write: those of target/bin, and the C programs of tests/archive."""
 
 import os
 import platform
 import subprocess
 from pathlib import Path
 
-BUILT = Path(__file__).resolve().parent.parent / "target" / "bin"
+HERE = Path(__file__).resolve().parent
+BUILT = HERE.parent / "target" / "bin"
 SECONDS = 60
 
 
@@ -25,6 +26,16 @@ def words_before(program):
     toolchain = Path(guide).parent.parent / "on" / machine / "toolchain"
     return [toolchain / "bin" / "qemu-x86_64", toolchain / "lib" / "ld-linux-x86-64.so.2",
             "--library-path", toolchain / "lib"]
+
+
+def made(functions):
+    """The folder of the C programs `settled` and `amounts`, made anew; `functions`, which they call, are
+    "archive" or "hand"."""
+    try:
+        subprocess.run([HERE / "archive" / "build", functions], check=True)
+    except (OSError, subprocess.CalledProcessError) as error:
+        raise Missing("the programs of tests/archive could not be made") from error
+    return BUILT.parent / functions
 
 
 def command(name, folder=BUILT):

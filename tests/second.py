@@ -2,7 +2,7 @@
 """The second program: settles an hour, writes and reads amounts as documents 01 and 003 say, apart from the proved programs.
 
     python3 tests/second.py statement < hour
-    python3 tests/second.py buffers [C [L [S [D]]]] < hour
+    python3 tests/second.py settled [C [L [S [D]]]] < hour
     python3 tests/second.py amounts < cases
 
 It is the other opinion that the proved programs are compared with, so it takes nothing from them. It
@@ -18,7 +18,7 @@ from fractions import Fraction
 
 BLOCK_BYTES = 512
 MOST_BLOCKS = 26
-FIRST_RECORD_WORD = 8
+FIRST_BODY_WORD = 8
 RECORD_WORDS = 12
 RECORDS_IN_A_BLOCK = 10
 
@@ -29,10 +29,14 @@ MOST_CENTS = 999_999_999_999
 UFE_FIGURES = 8
 CHARGE_COLUMNS = 14
 
-# The lengths of the charges, lines, shares and deviations that program `buffers` lends, if not told
+# The lengths of the charges, lines, shares and deviations that program `settled` lends, if not told
 # otherwise; and what it lays in each place before settling, to show which places settling writes.
 USUAL_LENGTHS = (32, 32, 250, 250)
 UNTOUCHED = 77
+
+# The blocks whose bodies it asks for: all that a file can have, the first that none has, and two so far
+# that the places of their bytes would go round 2^64.
+BLOCKS_ASKED_FOR = (*range(MOST_BLOCKS + 1), 2**55, 2**64 - 1)
 
 GENERATOR, REAL_TIME_LOAD, PROFILE_LOAD, IMPORT, EXPORT = 1, 2, 3, 4, 5
 LOADS = (REAL_TIME_LOAD, PROFILE_LOAD)
@@ -78,6 +82,17 @@ def blocks_in(data):
     return list(struct.iter_unpack("<128I", data))
 
 
+def bodies(data, places):
+    """The block reader: where the body of each of these blocks begins, and its length; both 0 where the
+    file's length is wrong or it has no such block."""
+    try:
+        there = len(blocks_in(data))
+    except Refused:
+        there = 0
+    before = 4 * FIRST_BODY_WORD
+    return [(BLOCK_BYTES * place + before, BLOCK_BYTES - before) if place < there else (0, 0) for place in places]
+
+
 def check_sums(blocks):
     for place, block in enumerate(blocks):
         if sum(block) % 2**32 != 0:
@@ -93,7 +108,7 @@ def layout_holds(blocks, place):
     last = place == len(blocks) - 1
     if held not in range(1 if last else RECORDS_IN_A_BLOCK, RECORDS_IN_A_BLOCK + 1):
         return False
-    past = FIRST_RECORD_WORD + RECORD_WORDS * held
+    past = FIRST_BODY_WORD + RECORD_WORDS * held
     return block[0:2] == (2, place) and not any(block[3:7]) and not any(block[past:])
 
 
@@ -154,7 +169,7 @@ def read_records(blocks, members, areas):
     records = []
     for block in blocks[1:]:
         for held in range(block[2]):
-            at = FIRST_RECORD_WORD + RECORD_WORDS * held
+            at = FIRST_BODY_WORD + RECORD_WORDS * held
             record = read_record(block[at:at + RECORD_WORDS])
             if not record_holds(record, members, areas):
                 raise Refused(5, len(records))
@@ -377,9 +392,9 @@ def statement(data):
     return text
 
 
-def buffers(data, lengths=()):
-    """The answer and every buffer after settling, as program `buffers` prints them. Lengths that are
-    not given are the usual ones."""
+def settled(data, lengths=()):
+    """The answer and every buffer after settling, and the bodies, as program `settled` prints them.
+    Lengths that are not given are the usual ones."""
     lengths = tuple(lengths) + USUAL_LENGTHS[len(lengths):]
     answer = settle(data, lengths)
     rows = [["answer", answer.number, "at", answer.place],
@@ -387,7 +402,8 @@ def buffers(data, lengths=()):
             ["charges", *answer.charges],
             ["shares", *answer.shares],
             ["deviations", *answer.deviations],
-            ["lines", *(f"{amount}:{records}" for amount, records in answer.lines)]]
+            ["lines", *(f"{amount}:{records}" for amount, records in answer.lines)],
+            ["bodies", *(f"{begins}:{length}" for begins, length in bodies(data, BLOCKS_ASKED_FOR))]]
     return "".join(" ".join(map(str, row)) + "\n" for row in rows).encode()
 
 
@@ -450,11 +466,11 @@ def pool_total(hour, ufe):
     return total
 
 
-PRINTED = {"statement": statement, "buffers": buffers, "amounts": amounts}
+PRINTED = {"statement": statement, "settled": settled, "amounts": amounts}
 
 
 def main(name="", *lengths):
-    if len(lengths) > {"statement": 0, "buffers": 4, "amounts": 0}.get(name, -1):
+    if len(lengths) > {"statement": 0, "settled": 4, "amounts": 0}.get(name, -1):
         sys.exit(__doc__)
     words = [[int(length) for length in lengths]] if lengths else []
     sys.stdout.buffer.write(PRINTED[name](sys.stdin.buffer.read(), *words))

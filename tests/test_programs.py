@@ -20,8 +20,6 @@ sys.path.insert(0, str(HERE))
 import hours  # noqa: E402
 import programs  # noqa: E402
 
-READING_STANDARD_INPUT = ("statement", "buffers", "short_buffers", "amounts")
-
 
 @contextlib.contextmanager
 def opened(*paths):
@@ -44,42 +42,28 @@ def ended(words, stdin=subprocess.DEVNULL, stdout=subprocess.PIPE, closing=None)
 
 class CannotRead(unittest.TestCase):
     def test_a_directory_as_standard_input(self):
-        for name in READING_STANDARD_INPUT:
-            with self.subTest(name), opened(ROOT) as (folder,):
-                self.assertEqual(ended(programs.command(name), stdin=folder),
-                                 (0, "", "standard input: Is a directory\n"))
+        with opened(ROOT) as (folder,):
+            self.assertEqual(ended(programs.command("statement"), stdin=folder), (0, "", "standard input: Is a directory\n"))
 
     def test_standard_input_closed(self):
-        for name in READING_STANDARD_INPUT:
-            with self.subTest(name):
-                self.assertEqual(ended(programs.command(name), closing=0),
-                                 (0, "", "standard input: Bad file descriptor\n"))
-
-    def test_a_file_that_is_none(self):
-        """The other files are examined all the same."""
-        words = [*programs.command("examined"), "examples/printed.hour", "examples", "nothing", "examples/printed.hour"]
-        self.assertEqual(ended(words), (0, "examples/printed.hour 0 0\n" * 2,
-                                        "examples: Is a directory\nnothing: No such file or directory\n"))
+        self.assertEqual(ended(programs.command("statement"), closing=0), (0, "", "standard input: Bad file descriptor\n"))
 
 
 class CannotWrite(unittest.TestCase):
     """It is said once, however much there is to write."""
 
-    # What each is started on: a word, standard input.
-    STARTED = {"statement": ((), PRINTED), "buffers": ((), PRINTED), "short_buffers": ((), PRINTED),
-               "amounts": ((), ROOT / "crates" / "amounts" / "stdin"),
-               "examined": (["examples/printed.hour"] * 2, PRINTED), "figures": ((), PRINTED)}
+    NAMES = ("statement", "figures")
 
     def test_standard_output_full(self):
-        for name, (words, data) in self.STARTED.items():
-            with self.subTest(name), opened(data, "/dev/full") as (stdin, full):
-                self.assertEqual(ended([*programs.command(name), *words], stdin, full),
+        for name in self.NAMES:
+            with self.subTest(name), opened(PRINTED, "/dev/full") as (stdin, full):
+                self.assertEqual(ended(programs.command(name), stdin, full),
                                  (0, None, "standard output: No space left on device\n"))
 
     def test_standard_output_closed(self):
-        for name, (words, data) in self.STARTED.items():
-            with self.subTest(name), opened(data) as (stdin,):
-                self.assertEqual(ended([*programs.command(name), *words], stdin, closing=1),
+        for name in self.NAMES:
+            with self.subTest(name), opened(PRINTED) as (stdin,):
+                self.assertEqual(ended(programs.command(name), stdin, closing=1),
                                  (0, "", "standard output: Bad file descriptor\n"))
 
 

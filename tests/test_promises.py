@@ -12,7 +12,7 @@ from naming import CRATES, ROOT, edits, sections  # noqa: E402
 PROMISES = (ROOT / "docs" / "PROMISES.md").read_text()
 
 # Crates whose functions are no promise to anybody: laws only (a crate must hold a function), and what programs read and print with.
-WITHOUT_PROMISES = {"whole", "rules", "determined", "streams", "showing"}
+WITHOUT_PROMISES = {"whole", "rules", "determined", "streams"}
 
 
 def public_modules(lib):

@@ -27,6 +27,7 @@ ROOT = HERE.parent
 sys.path.insert(0, str(HERE))
 import fields  # noqa: E402
 import hours  # noqa: E402
+import known  # noqa: E402
 import programs  # noqa: E402
 import second  # noqa: E402
 from hours import EXPORT, GENERATOR, IMPORT, PROFILE_LOAD, REAL_TIME_LOAD, Hour, record  # noqa: E402
@@ -121,24 +122,26 @@ class PrintedCase(unittest.TestCase):
         self.assertEqual(second.statement(hours.printed_case().encode()),
                          b"hour 7 members 2 records 2\n00          +5.00\n01          -5.00\n")
 
-    def test_buffers(self):
-        self.assertEqual(second.buffers(hours.printed_case().encode(), [3, 2, 4, 3]).decode(),
+    def test_settled(self):
+        self.assertEqual(second.settled(hours.printed_case().encode(), [3, 2, 4, 3]).decode(),
                          "answer 0 at 0\n"
                          "ufe 300000 0 0 0 0 0 0 0\n"
                          "charges 500 -500 77\n"
                          "shares 0 300000 77 77\n"
                          "deviations 1000000 1300000 77\n"
-                         "lines 5000000000:1 -5000000000:1\n")
+                         "lines 5000000000:1 -5000000000:1\n"
+                         "bodies 32:480 544:480" + " 0:0" * 27 + "\n")
 
-    def test_buffers_of_a_refusal(self):
-        self.assertEqual(second.buffers(b"", [1, 2, 0]).split(b"deviations")[0].decode(),
-                         "answer 1 at 0\nufe 0 0 0 0 0 0 0 0\ncharges 77\nshares\n")
+    def test_settled_of_a_refusal(self):
+        self.assertEqual(second.settled(b"", [1, 2, 0, 1]).decode(),
+                         "answer 1 at 0\nufe 0 0 0 0 0 0 0 0\ncharges 77\nshares\ndeviations 77\n"
+                         "lines 77:77 77:77\nbodies" + " 0:0" * 29 + "\n")
 
     def test_as_a_command(self):
         data = hours.printed_case().encode()
         for words, text in ((["statement"], second.statement(data)),
-                            (["buffers"], second.buffers(data)),
-                            (["buffers", "2", "1"], second.buffers(data, [2, 1]))):
+                            (["settled"], second.settled(data)),
+                            (["settled", "2", "1"], second.settled(data, [2, 1]))):
             ended = subprocess.run([sys.executable, HERE / "second.py", *words], input=data, capture_output=True)
             self.assertEqual((ended.returncode, ended.stdout), (0, text))
 
@@ -184,6 +187,17 @@ class Refusals(unittest.TestCase):
         hour.records[1]["A"] = 870
         self.assertEqual(answer(hour, short), (11, 0))
         self.assertEqual(answer(hour), (0, 0))
+
+    def test_bodies(self):
+        """The block reader looks at the length only."""
+        self.assertEqual(second.bodies(bytes(1_024), (0, 1, 2)), [(32, 480), (544, 480), (0, 0)])
+        self.assertEqual(second.bodies(bytes(13_312), (25, 26, 2**64 - 1)), [(12_832, 480), (0, 0), (0, 0)])
+        for length in (0, 511, 1_025, 13_824):
+            self.assertEqual(second.bodies(bytes(length), (0, 1)), [(0, 0), (0, 0)])
+
+    def test_known_files(self):
+        for name, line, data in known.cases():
+            self.assertEqual(second.statement(data).decode().splitlines()[0], line, name)
 
     def test_first_such_place(self):
         hour = Hour(0, 1, [1], [[0, 5, 5]] * 3 + [[0, 1, 0], [0, 0, 1]], [record(EXPORT, 0, 0)] * 12)
@@ -388,8 +402,8 @@ class MadeHours(unittest.TestCase):
         self.assertGreater(areas, 10)
 
 
-# Wrong programs: each is the second program with one text changed. Document 01's "Slips to catch" come
-# first; the hours must show every one.
+# Wrong programs: each is the second program with one text changed, or several, an old one before each
+# new one. Document 01's "Slips to catch" come first; the hours must show every one.
 HOUR_SLIPS = {
     "ancillary energy times H": (
         'multiplier(r["H"]) - r["N"]', 'multiplier(r["H"]) - r["N"] * multiplier(r["H"])'),
@@ -418,11 +432,32 @@ HOUR_SLIPS = {
         "    check_sums(blocks)\n    check_layout(blocks)", "    check_layout(blocks)\n    check_sums(blocks)"),
     "sums without their highest bit": ("sum(block) % 2**32", "sum(block) % 2**31"),
     "no refusal 6": ("energy != 0 and demand(hour, area) == 0", "False"),
+    "charges short by one": ("min(len(charges), len(lines)) <", "min(len(charges) + 1, len(lines)) <"),
     "lines short by one": ("min(len(charges), len(lines)) <", "min(len(charges), len(lines) + 1) <"),
     "shares short by one": ("min(len(shares), len(deviations)) <", "min(len(shares) + 1, len(deviations)) <"),
+    "deviations short by one": ("min(len(shares), len(deviations)) <", "min(len(shares), len(deviations) + 1) <"),
     "record count of the next member": ('r["member"] == member for r', 'r["member"] == member + 1 for r'),
     "an invented record count": ('hour["members"], len(hour["records"]))\n    for', 'hour["members"], 2)\n    for'),
 }
+
+# A refusal that names the last such place in place of the first.
+HOUR_SLIPS.update({
+    "last block whose sum isn't zero": (
+        "for place, block in enumerate(blocks):\n        if sum", "for place, block in reversed([*enumerate(blocks)]):\n        if sum"),
+    "last block that breaks the layout": (
+        "for place in range(len(blocks)):\n        if not", "for place in reversed(range(len(blocks))):\n        if not"),
+    "last word of the head": (
+        '    head = {"number": word(8, WORD)}', '    bad = []\n    head = {"number": word(8, WORD)}',
+        "raise Refused(4, place)", "bad.append(place)",
+        '    head["prices"] =', '    if bad:\n        raise Refused(4, bad[-1])\n    head["prices"] ='),
+    "last record": (
+        "    records = []\n    for block in blocks[1:]", "    records, bad = [], []\n    for block in blocks[1:]",
+        "raise Refused(5, len(records))", "bad.append(len(records))",
+        "    return records\n", "    if bad:\n        raise Refused(5, bad[-1])\n    return records\n"),
+    "last area": ("for area, energy in enumerate(ufe):", "for area, energy in reversed([*enumerate(ufe)]):"),
+    "the body of the block before": ("(BLOCK_BYTES * place + before,", "(BLOCK_BYTES * (place - 1) + before,"),
+    "a body past the last block": ("if place < there else", "if place <= there else"),
+})
 
 # Every end of every range one too wide, and one too narrow.
 ENDS = {"PRICE": (-1_000_000, 1_000_000), "TIE": (0, 10_000_000), "ENERGY": (0, 100_000),
@@ -468,9 +503,11 @@ SLIPS = {**HOUR_SLIPS, **AMOUNT_SLIPS}
 
 def slipped(name):
     """The second program's text with one slip in it."""
-    old, new = SLIPS[name]
-    assert SECOND.count(old) == 1, name
-    return SECOND.replace(old, new)
+    text, changes = SECOND, SLIPS[name]
+    for old, new in zip(changes[::2], changes[1::2]):
+        assert text.count(old) == 1, name
+        text = text.replace(old, new)
+    return text
 
 
 class Noticing(unittest.TestCase):
@@ -485,10 +522,10 @@ class Noticing(unittest.TestCase):
         return status, said.getvalue()
 
     @contextlib.contextmanager
-    def stand_ins(self, statement=SECOND, buffers=SECOND, amounts=SECOND):
+    def stand_ins(self, statement=SECOND, settled=SECOND, amounts=SECOND):
         """A folder with programs of these names that are these Python texts."""
         with tempfile.TemporaryDirectory() as folder:
-            for name, text in (("statement", statement), ("buffers", buffers), ("amounts", amounts)):
+            for name, text in (("statement", statement), ("settled", settled), ("amounts", amounts)):
                 program = Path(folder, name)
                 Path(folder, name + ".py").write_text(text)
                 program.write_text(f'#!/bin/sh\nexec "{sys.executable}" "$0.py" {name} "$@"\n')
@@ -534,6 +571,11 @@ class Noticing(unittest.TestCase):
                     status, said = self.run_compare(what, 2, "--programs", folder, "--save", folder / "saved")
                     self.assertEqual(status, 1, said)
 
+    def test_by_hand_the_statement_is_left_out(self):
+        with self.stand_ins(statement="") as folder:
+            status, said = self.run_compare("--hand", "--hours", 5, "--programs", folder)
+            self.assertEqual(status, 0, said)
+
     def test_no_programs(self):
         with tempfile.TemporaryDirectory() as folder:
             self.assertEqual(self.run_compare("--programs", folder)[0], 2)
@@ -577,7 +619,7 @@ class Noticing(unittest.TestCase):
             wrong = self.wrong_program(name)
             with self.subTest(name):
                 self.assertTrue(any(wrong.statement(case.hour.data) != case.statement
-                                    or wrong.buffers(case.hour.data, case.lengths) != case.buffers
+                                    or wrong.settled(case.hour.data, case.lengths) != case.settled
                                     for case in cases))
 
     @unittest.skipUnless(shutil.which("rt"), "asks rt where the kit is")
@@ -598,7 +640,7 @@ class Noticing(unittest.TestCase):
 
 
 class Pages(unittest.TestCase):
-    """The examples, docs/FORMAT.md and the stored files say what the programs do."""
+    """The examples, docs/FORMAT.md and the stored amounts say what the programs do."""
 
     @staticmethod
     def printed(number):
@@ -617,6 +659,20 @@ class Pages(unittest.TestCase):
             for figure in settled.ufe + settled.deviations + settled.shares + amounts + settled.charges:
                 if figure != second.UNTOUCHED:
                     self.assertIn(self.printed(figure), page, name)
+
+    def test_the_example_in_c(self):
+        """What examples/c/check expects, and the example's page."""
+        folder = ROOT / "examples" / "c"
+        for name in ("printed", "two-zones", "left-over"):
+            settled = second.settle((ROOT / "examples" / f"{name}.hour").read_bytes())
+            text = f"answer {settled.number} at {settled.place}\n"
+            for member, ((amount, records), charge) in enumerate(zip(settled.lines, settled.charges)):
+                if (amount, records) != (second.UNTOUCHED, second.UNTOUCHED):
+                    field = second.write_amount(charge, 14)[1].decode()
+                    text += f"member {member} records {records} grains {amount} charge {field}\n"
+            self.assertEqual((folder / "expected" / f"{name}.txt").read_text(), text)
+        printed = (folder / "expected" / "printed.txt").read_text()
+        self.assertIn("".join(f"    {line}\n" for line in printed.splitlines()), (folder / "README.md").read_text())
 
     def test_the_refusal_that_an_example_tells_of(self):
         hour = load_script(ROOT / "examples" / "make.py").two_zones()
@@ -641,12 +697,9 @@ class Pages(unittest.TestCase):
             data[at:at + 16] = bytes.fromhex(line)
         self.assertEqual(bytes(data), (ROOT / "examples" / "printed.hour").read_bytes())
 
-    def test_stored_files(self):
-        """What the gate's programs are run on, and must print, is what the second program says of it."""
-        check = subprocess.run([sys.executable, HERE / "make_examined.py", "--check"], capture_output=True, text=True)
-        self.assertEqual(check.returncode, 0, check.stdout + check.stderr)
-        crate = ROOT / "crates" / "amounts"
-        self.assertEqual(second.amounts((crate / "stdin").read_bytes()), (crate / "stdout").read_bytes())
+    def test_stored_amounts(self):
+        folder = HERE / "archive"
+        self.assertEqual(second.amounts((folder / "amounts.in").read_bytes()), (folder / "amounts.out").read_bytes())
 
     def test_text_amounts_of_the_format(self):
         page = (ROOT / "docs" / "FORMAT.md").read_text().replace("\u2212", "-")

@@ -8,6 +8,7 @@ import unittest
 from pathlib import Path
 
 sys.path.insert(0, str(Path(__file__).resolve().parent))
+import known  # noqa: E402
 import naming  # noqa: E402
 
 PAGE = (naming.ROOT / "docs" / "SENTENCES.md").read_text()
@@ -158,12 +159,14 @@ class Whole(PageTest):
 
 class OtherTables(PageTest):
     def test_figures(self):
-        shown = [line for crate in ("figures", "amounts", "examined") for line in under_headings((naming.CRATES / crate / "stdout").read_text())]
+        shown = [*under_headings((naming.CRATES / "figures" / "stdout").read_text()),
+                 *(naming.ROOT / "tests" / "archive" / "amounts.out").read_text().splitlines(),
+                 *(f"{name}: {line}" for name, line, _ in known.cases())]
         starred = (naming.CRATES / "rules" / "specs" / "Figures.antt").read_text().split("\nstarred =")[1]
         cases = []
         for row in rows_of("G"):
             with self.subTest(number(row)):
-                case, lines = row["case of the list"], naming.names(row["line of `figures`, `amounts` or `examined`"])
+                case, lines = row["case of the list"], naming.names(row["line of `figures`, `amounts.out` or `known.py`"])
                 self.assertEqual(case != "—", "** * " in row["figure"])
                 cases += [case] if case != "—" else []
                 self.assertTrue(lines)

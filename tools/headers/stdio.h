@@ -8,6 +8,7 @@ int fprintf(FILE *, const char *, ...) __attribute__((format(printf, 2, 3)));
 int dprintf(int, const char *, ...) __attribute__((format(printf, 2, 3)));
 int snprintf(char *, size_t, const char *, ...) __attribute__((format(printf, 3, 4)));
 size_t fread(void *, size_t, size_t, FILE *);
+size_t fwrite(const void *, size_t, size_t, FILE *);
 FILE *fopen(const char *, const char *);
 int fclose(FILE *);
 int ferror(FILE *);

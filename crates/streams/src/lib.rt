@@ -1,14 +1,8 @@
-// What the programs read and print, and numbers in what they are given. What fails is said on standard error: a program cannot set its
-// exit status.
-mod numbers;
-
-pub use numbers::Number;
-pub use numbers::number_in;
+// What the programs read and print with. What fails is said on standard error: a program cannot set its exit status.
 ghost use lib.ListN.{length};
 ghost use Rattle.libc.specs.Io.{Moved};
 use libc::STDERR_FILENO;
 use libc::STDOUT_FILENO;
-use rules::Answer;
 
 // Reads what `name` names until it ends, which a read of no bytes tells, or `file` is full. It answers as `libc::read` does: -1 where a
 // read failed, else how many bytes it put at the start of `file`.
@@ -43,27 +37,10 @@ pub fn print(text: &[u8]) {
     say_unless(io::write_all(STDOUT_FILENO, text));
 }
 
-pub fn print_number(number: u64) {
-    say_unless(io::print_decimal(STDOUT_FILENO, number));
-}
-
 // A number whole, with its minus.
 pub fn print_signed(number: i64) {
     if number < 0 {
         print(b"-");
     }
-    print_number(sign::size_of(number));
-}
-
-// `accepted`, or `refused` with the number and place of document 01's table, and the end of the line.
-pub fn print_answer(answer: Answer) {
-    if let Answer::Accepted = answer {
-        print(b"accepted\n");
-    } else {
-        print(b"refused ");
-        print_number(answer::number_of(answer));
-        print(b" at ");
-        print_number(answer::place_of(answer) as u64);
-        print(b"\n");
-    }
+    say_unless(io::print_decimal(STDOUT_FILENO, sign::size_of(number)));
 }

@@ -1,2 +1,0 @@
--- What the walks of `showing` rest on.
-pub mod Port

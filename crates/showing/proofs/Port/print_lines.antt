@@ -1,3 +1,0 @@
--- Made by tools/walk.py.
-pub mod Kinds
-pub mod Reads

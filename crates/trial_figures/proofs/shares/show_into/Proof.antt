@@ -1,0 +1,86 @@
+-- `trial_figures::shares::show_into` is safe: what it shares is small, so it can be shared, and every share has room for a sign.
+use Prim.Native.Nat.{_≤_}
+use mir.Syntax.{w64}
+use mir.ValLaws.{toZ-ofZ}
+use borrow.Author.Needs.{needs}
+use Rattle.trial_figures.proofs.Shown.{small-fits, shareable, share-fits}
+use Rattle.trial_figures.proofs.shares.show_into.Statement.{statement}
+use Rattle.trial_figures.proofs.shares.show_into.Tie as tie
+
+slice-aggregate-print : tie.Need-slice-aggregate-print
+slice-aggregate-print c = search needs
+
+print-requires : tie.Need-print-requires
+print-requires c κs = search needs
+
+print-signed-requires : tie.Need-print-signed-requires
+print-signed-requires c κs = search needs
+
+slice-aggregate-print-2 : tie.Need-slice-aggregate-print-2
+slice-aggregate-print-2 c = search needs
+
+print-requires-2 : tie.Need-print-requires-2
+print-requires-2 c κs = search needs
+
+print-sizes-requires : tie.Need-print-sizes-requires
+print-sizes-requires c κs = let start = c .before .before .before .before .before .before .before in
+    small-fits (start .args .demands .now) (start .pre .0)
+
+size-of-requires : tie.Need-size-of-requires
+size-of-requires c κs = search needs
+
+module _ (c : tie.After-shares-arg) where
+  abbrev start : tie.Start
+  start = c .before .before .before .before .before .before .before .before .before .before
+
+  size-most : c .before .size-of .result ≤ 1000
+  size-most = rw (c .before .size-of .ensures, toZ-ofZ w64 (start .args .u) (start .fits .u)) (start .pre .2)
+
+shares-requires : tie.Need-shares-requires
+shares-requires c κs = let s = start c in
+    shareable (s .args .demands .now) (s .pre .0) (s .pre .1) (c .before .size-of .result) (size-most c) (s .args .sizes .now) (s .pre .3)
+
+slice-aggregate-print-3 : tie.Need-slice-aggregate-print-3
+slice-aggregate-print-3 c = search needs
+
+print-requires-3 : tie.Need-print-requires-3
+print-requires-3 c κs = search needs
+
+print-sizes-requires-2 : tie.Need-print-sizes-requires-2
+print-sizes-requires-2 c κs = let d = c .before .before .before .before .before .before in
+    let s = start d in
+    let shared = c .before .before .before .before .before in
+    share-fits (s .args .demands .now) (s .pre .0) (s .pre .1) (d .before .size-of .result) (size-most d) (s .args .sizes .now) (s .pre .3) _
+    (shared .shares .ensures)
+
+slice-aggregate-print-4 : tie.Need-slice-aggregate-print-4
+slice-aggregate-print-4 c = search needs
+
+print-requires-4 : tie.Need-print-requires-4
+print-requires-4 c κs = search needs
+
+same-length : tie.Need-same-length
+same-length c = search needs
+
+returns : tie.Need-returns
+returns c = search needs
+
+pub show-into-spec : {M : Type 1} → statement M
+show-into-spec =
+    tie.close
+    (tie.spec
+    slice-aggregate-print
+    print-requires
+    print-signed-requires
+    slice-aggregate-print-2
+    print-requires-2
+    print-sizes-requires
+    size-of-requires
+    shares-requires
+    slice-aggregate-print-3
+    print-requires-3
+    print-sizes-requires-2
+    slice-aggregate-print-4
+    print-requires-4
+    same-length
+    returns)

@@ -1,0 +1,132 @@
+"""Hour files whose answers are known by hand, from document 01's table: refusals 1 to 5 at a first, a middle and a last place, the ends of
+several ranges, the longest file, the highest price, and two faults of which the table's order or the first place decides.
+
+`cases()` gives each file's name, the first line of its statement, and its bytes. No program had a part in those lines, and nothing here is
+left to chance, so that the files come out the same each time.
+"""
+
+import itertools
+
+import hours
+
+
+# ---- Hours that keep every rule
+
+def value(letter, place):
+    """A letter's least, greatest or middle value, by turns."""
+    low, high = hours.LOWEST[letter], hours.HIGHEST[letter]
+    return (low, high, (low + high) // 2 + place)[(place + hours.LETTERS.index(letter)) % 3]
+
+
+def hour_of(count):
+    """So many records, of all kinds by turns, with the largest head that there is."""
+    records = []
+    for place in range(count):
+        kind = hours.KINDS[place % 5]
+        letters = {letter: value(letter, place) for letter in hours.USED[kind]}
+        records.append(hours.record(kind, place % 32, place % 8, **letters))
+    areas = [[area % 4, 10_000_000 - 1_000_000 * area, 10_000_000] for area in range(8)]
+    return hours.Hour(4_000_000_000, 32, [1_000_000, -1_000_000, 0, 12_345], areas, records)
+
+
+def five_blocks():
+    """A head and 35 records, five in the last block."""
+    return hour_of(35).blocks()
+
+
+# ---- What is damaged
+
+def changed(blocks, *changes):
+    """The blocks with these words changed, given as block, word, value; the sums mended."""
+    for block, word, new in changes:
+        blocks[block][word] = new % 2**32
+    for block in blocks:
+        hours.mend(block)
+    return blocks
+
+
+def words(blocks, *changes):
+    return hours.to_bytes(changed(blocks, *changes))
+
+
+def sums(blocks, *places):
+    """The bytes of the blocks with a bit turned over in each of these blocks."""
+    for place in places:
+        blocks[place][100] ^= 2**31
+    return hours.to_bytes(blocks)
+
+
+def field(place, word):
+    """The block and the word in it at which a word of a record stands."""
+    return place // 10 + 1, 8 + 12 * (place % 10) + word
+
+
+# ---- The files: name, first line of the statement, bytes
+
+def of_lengths():
+    full = hour_of(250).encode()
+    yield "printed", "hour 7 members 2 records 2", hours.printed_case().encode()
+    # every area but the first has UFE, and nobody takes anything
+    yield "head-alone", "refused 6 at 1", hour_of(0).encode()
+    yield "bytes-13312", "hour 4000000000 members 32 records 250", full
+    yield "bytes-13824", "refused 1 at 0", full + full[-512:]
+    yield "bytes-0", "refused 1 at 0", b""
+    yield "bytes-511", "refused 1 at 0", full[:511]
+    yield "bytes-513", "refused 1 at 0", full[:513]
+
+
+def of_blocks():
+    yield "sum-first", "refused 2 at 0", sums(five_blocks(), 0)
+    yield "sum-middle", "refused 2 at 2", sums(five_blocks(), 2)
+    yield "sum-last", "refused 2 at 4", sums(five_blocks(), 4)
+    yield "block-first", "refused 3 at 0", words(five_blocks(), (0, 2, 5))
+    yield "block-middle", "refused 3 at 2", words(five_blocks(), (2, 3, 1))
+    yield "block-last", "refused 3 at 4", words(five_blocks(), (4, 127, 1))
+    yield "block-marked-first", "refused 3 at 3", words(five_blocks(), (3, 0, 1))
+    yield "block-displaced", "refused 3 at 1", words(five_blocks(), (1, 1, 2))
+    yield "block-not-full", "refused 3 at 1", words(five_blocks(), (1, 2, 9))
+    yield "last-block-empty", "refused 3 at 4", words(five_blocks(), (4, 2, 0), *((4, word, 0) for word in range(8, 68)))
+    yield "last-block-eleven", "refused 3 at 4", words(hour_of(40).blocks(), (4, 2, 11))
+
+
+def of_heads():
+    yield "head-first", "refused 4 at 9", words(five_blocks(), (0, 9, 33))
+    yield "head-middle", "refused 4 at 29", words(five_blocks(), (0, 29, 10_000_001))
+    yield "head-last", "refused 4 at 127", words(five_blocks(), (0, 127, 1))
+    yield "no-members", "refused 4 at 9", words(five_blocks(), (0, 9, 0))
+    # record 2 gives area 2 its only demand
+    yield "price-1000000", "hour 4000000000 members 32 records 35", words(five_blocks(), (0, 15, 1_000_000), (*field(2, 4), 1))
+    yield "price-1000001", "refused 4 at 15", words(five_blocks(), (0, 15, 1_000_001))
+    yield "price-minus-1000001", "refused 4 at 15", words(five_blocks(), (0, 15, -1_000_001))
+    yield "price-past-zones", "refused 4 at 15", words(five_blocks(), (0, 10, 3), (0, 28, 0), (0, 44, 0))
+    yield "zone-past-zones", "refused 4 at 20", words(five_blocks(), (0, 20, 4))
+    yield "area-past-areas", "refused 4 at 44", words(five_blocks(), (0, 11, 7), (0, 45, 0), (0, 46, 0))
+
+
+def of_records():
+    yield "record-first", "refused 5 at 0", words(five_blocks(), (*field(0, 0), 0))
+    yield "record-middle", "refused 5 at 17", words(five_blocks(), (*field(17, 5), -100_001))
+    yield "record-last", "refused 5 at 34", words(five_blocks(), (*field(34, 11), 1))
+    yield "kind-six", "refused 5 at 9", words(five_blocks(), (*field(9, 0), 6))
+    yield "member-past-members", "refused 5 at 12", words(five_blocks(), (*field(12, 1), 32))
+    yield "area-number-past-areas", "refused 5 at 10", words(five_blocks(), (*field(10, 2), 8))
+    yield "energy-100001", "refused 5 at 30", words(five_blocks(), (*field(30, 4), 100_001))
+    yield "export-with-ancillary", "refused 5 at 24", words(five_blocks(), (*field(24, 6), 1))
+    yield "multiplier-0", "refused 5 at 3", words(five_blocks(), (*field(3, 10), 0))
+    yield "multiplier-20001", "refused 5 at 5", words(five_blocks(), (*field(5, 9), 20_001))
+
+
+def of_two_faults():
+    """The order of the table decides, and in a row the first place."""
+    yield "length-before-sum", "refused 1 at 0", sums(five_blocks(), 0)[:-1]
+    yield "sum-before-layout", "refused 2 at 4", sums(changed(five_blocks(), (0, 3, 1)), 4)
+    yield "layout-before-head", "refused 3 at 4", words(five_blocks(), (0, 9, 0), (4, 3, 1))
+    yield "head-before-record", "refused 4 at 127", words(five_blocks(), (0, 127, 1), (*field(0, 0), 0))
+    yield "first-of-two-sums", "refused 2 at 1", sums(five_blocks(), 3, 1)
+    yield "first-of-two-blocks", "refused 3 at 1", words(five_blocks(), (3, 3, 1), (1, 6, 1))
+    yield "first-of-two-words", "refused 4 at 12", words(five_blocks(), (0, 127, 1), (0, 12, 1_000_001))
+    yield "first-of-two-records", "refused 5 at 20", words(five_blocks(), (*field(33, 0), 0), (*field(20, 11), 1))
+
+
+def cases():
+    return itertools.chain(of_lengths(), of_blocks(), of_heads(), of_records(), of_two_faults())
