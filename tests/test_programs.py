@@ -52,7 +52,7 @@ class CannotRead(unittest.TestCase):
 class CannotWrite(unittest.TestCase):
     """It is said once, however much there is to write."""
 
-    NAMES = ("statement", "figures")
+    NAMES = ("statement", "trial_figures")
 
     def test_standard_output_full(self):
         for name in self.NAMES:

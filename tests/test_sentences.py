@@ -159,7 +159,7 @@ class Whole(PageTest):
 
 class OtherTables(PageTest):
     def test_figures(self):
-        shown = [*under_headings((naming.CRATES / "figures" / "stdout").read_text()),
+        shown = [*under_headings((naming.CRATES / "trial_figures" / "stdout").read_text()),
                  *(naming.ROOT / "tests" / "archive" / "amounts.out").read_text().splitlines(),
                  *(f"{name}: {line}" for name, line, _ in known.cases())]
         starred = (naming.CRATES / "rules" / "specs" / "Figures.antt").read_text().split("\nstarred =")[1]
