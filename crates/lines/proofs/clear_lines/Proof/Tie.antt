@@ -1,4 +1,4 @@
--- Made by tools/walk.py: `lines::clear_lines`, the needs that the derivation leaves.
+-- Made by `python3 tools/walk lines clear_lines`: the needs that the derivation of the function's body leaves.
 use Rattle.lines.proofs.clear_lines.Code
 use Rattle.lines.proofs.clear_lines.Key
 use Rattle.lines.proofs.Port.clear_lines.Kinds

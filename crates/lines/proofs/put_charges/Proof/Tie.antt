@@ -1,4 +1,4 @@
--- Made by tools/walk.py: `lines::put_charges`, the needs that the derivation leaves.
+-- Made by `python3 tools/walk lines put_charges`: the needs that the derivation of the function's body leaves.
 use Rattle.lines.proofs.put_charges.Code
 use Rattle.lines.proofs.put_charges.Key
 use Rattle.lines.proofs.Port.put_charges.Kinds

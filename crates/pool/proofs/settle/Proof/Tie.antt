@@ -1,4 +1,4 @@
--- Made by tools/walk.py: `pool::settle`, the needs that the derivation leaves.
+-- Made by `python3 tools/walk pool settle`: the needs that the derivation of the function's body leaves.
 use Rattle.deviations.proofs.put_deviations.Met
 use Rattle.deviations.proofs.put_deviations.Reads
 use Rattle.deviations.proofs.put_deviations.Symbol

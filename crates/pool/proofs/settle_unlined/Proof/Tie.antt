@@ -1,4 +1,4 @@
--- Made by tools/walk.py: `pool::settle_unlined`, the needs that the derivation leaves.
+-- Made by `python3 tools/walk pool settle_unlined`: the needs that the derivation of the function's body leaves.
 use Rattle.pool.proofs.settle.Met
 use Rattle.pool.proofs.Port.settle.Reads
 use Rattle.pool.proofs.settle.Symbol

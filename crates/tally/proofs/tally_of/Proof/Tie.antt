@@ -1,4 +1,4 @@
--- Made by tools/walk.py: `tally::tally_of`, the needs that the derivation leaves.
+-- Made by `python3 tools/walk tally tally_of`: the needs that the derivation of the function's body leaves.
 use Rattle.formula.proofs.deviation.accounted.Met
 use Rattle.formula.proofs.deviation.accounted.Reads
 use Rattle.formula.proofs.deviation.accounted.Symbol
