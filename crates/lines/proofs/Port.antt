@@ -1,4 +1,4 @@
--- Made by tools/walk.py.
+-- Made by `python3 tools/walk lines`.
 pub mod LineKit
 pub mod clear_lines
 pub mod post_line

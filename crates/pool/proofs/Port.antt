@@ -1,4 +1,4 @@
--- Made by tools/walk.py.
+-- Made by `python3 tools/walk pool`.
 pub mod LineKit
 pub mod settle
 pub mod sneupelaar_settle

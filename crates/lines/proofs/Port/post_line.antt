@@ -1,3 +1,3 @@
--- Made by tools/walk.py.
+-- Made by `python3 tools/walk lines`.
 pub mod Kinds
 pub mod Reads

@@ -1,4 +1,4 @@
--- Made by tools/walk.py: `lines::clear_lines`, its contract as a caller and the derivation read it.
+-- Made by `python3 tools/walk lines clear_lines`: the function's contract as its callers and the derivation read it.
 use Rattle.lines.proofs.clear_lines
 use Rattle.lines.proofs.Port.clear_lines.Kinds
 use base.Logic

@@ -1,4 +1,4 @@
--- Made by tools/walk.py: `lines::post_line`, its contract as a caller and the derivation read it.
+-- Made by `python3 tools/walk lines post_line`: the function's contract as its callers and the derivation read it.
 use Rattle.lines.proofs.post_line
 use Rattle.lines.proofs.Port.post_line.Kinds
 use base.Logic

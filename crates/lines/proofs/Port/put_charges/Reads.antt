@@ -1,4 +1,4 @@
--- Made by tools/walk.py: `lines::put_charges`, its contract as a caller and the derivation read it.
+-- Made by `python3 tools/walk lines put_charges`: the function's contract as its callers and the derivation read it.
 use Rattle.lines.proofs.put_charges
 use Rattle.lines.proofs.Port.put_charges.Kinds
 use base.Logic

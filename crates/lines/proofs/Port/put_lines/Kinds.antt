@@ -1,4 +1,4 @@
--- Made by tools/walk.py: `lines::put_lines`, its contract as a caller and the derivation read it.
+-- Made by `python3 tools/walk lines put_lines`: the function's contract as its callers and the derivation read it.
 use Rattle.lines.proofs.Port.LineKit
 use borrow.Fn.Kinds
 use borrow.Kind.MutSlice

@@ -1,4 +1,4 @@
--- Made by tools/walk.py: `lines::put_lines`, its contract as a caller and the derivation read it.
+-- Made by `python3 tools/walk lines put_lines`: the function's contract as its callers and the derivation read it.
 use Rattle.lines.proofs.put_lines
 use Rattle.lines.proofs.Port.put_lines.Kinds
 use base.Logic

@@ -1,4 +1,4 @@
--- Made by tools/walk.py: `lines::clear_lines`, the derivation of its body.
+-- Made by `python3 tools/walk lines clear_lines`: the derivation of the function's body.
 use Rattle.lines.proofs.Port.LineKit
 use borrow.Kind.Value
 use Prim.Native.Nat

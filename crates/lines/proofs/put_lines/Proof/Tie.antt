@@ -1,4 +1,4 @@
--- Made by tools/walk.py: `lines::put_lines`, the needs that the derivation leaves.
+-- Made by `python3 tools/walk lines put_lines`: the needs that the derivation of the function's body leaves.
 use Rattle.hour.proofs.member_of.Met
 use Rattle.hour.proofs.member_of.Reads
 use Rattle.hour.proofs.member_of.Symbol

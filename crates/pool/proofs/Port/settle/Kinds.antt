@@ -1,4 +1,4 @@
--- Made by tools/walk.py: `pool::settle`, its contract as a caller and the derivation read it.
+-- Made by `python3 tools/walk pool settle`: the function's contract as its callers and the derivation read it.
 use Rattle.pool.proofs.Port.LineKit
 use Rattle.rules.proofs.Settled
 use Rattle.rules.proofs.Settled.Laws

@@ -1,4 +1,4 @@
--- Made by tools/walk.py: `pool::sneupelaar_settle`, its contract as a caller and the derivation read it.
+-- Made by `python3 tools/walk pool sneupelaar_settle`: the function's contract as its callers and the derivation read it.
 use Rattle.pool.proofs.sneupelaar_settle
 use Rattle.pool.proofs.Port.sneupelaar_settle.Kinds
 use base.Logic

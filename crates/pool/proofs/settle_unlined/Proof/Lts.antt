@@ -1,4 +1,4 @@
--- Made by tools/walk.py: `pool::settle_unlined`, the derivation of its body.
+-- Made by `python3 tools/walk pool settle_unlined`: the derivation of the function's body.
 use Rattle.pool.proofs.Port.LineKit
 use Prim.Native.Nat
 use Rattle.rules.proofs.Settled

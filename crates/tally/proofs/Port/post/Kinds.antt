@@ -1,4 +1,4 @@
--- Made by tools/walk.py: `tally::post`, its contract as a caller and the derivation read it.
+-- Made by `python3 tools/walk tally post`: the function's contract as its callers and the derivation read it.
 use Rattle.tally.proofs.Port.TallyKit
 use borrow.Fn.Kinds
 use mathlib.Core.List

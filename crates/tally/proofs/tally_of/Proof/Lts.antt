@@ -1,4 +1,4 @@
--- Made by tools/walk.py: `tally::tally_of`, the derivation of its body.
+-- Made by `python3 tools/walk tally tally_of`: the derivation of the function's body.
 use Rattle.tally.proofs.Port.TallyKit
 use Prim.Native.Nat
 use Rattle.formula.proofs.entry.Entry
