@@ -76,6 +76,12 @@ def edits():
     return {f"{edit.parent.parent.name}/{edit.stem}" for edit in CRATES.glob("*/must-fail/*.edit")}
 
 
+def edits_named(page):
+    """Every `crate/edit` that a page names, as often as it does, whether there is one or not."""
+    named = [name for line in page.splitlines() for name in names(line) if re.fullmatch(r"\w+/\w+", name)]
+    return [name for name in named if (CRATES / name.split("/")[0]).is_dir()]
+
+
 # ---- definitions and laws: `FILE.name` of `rules`, or `crate/FILE.name`
 
 def stated_in(name, folder):

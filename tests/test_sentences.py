@@ -1,6 +1,6 @@
 """That docs/SENTENCES.md is true of the code: every definition, function, law, edit and check that it names is there and of the kind
-that its column says, every definition of document 01 and every edit at one has its sentence, and the list of sentences without an edit is
-whole. Run from the project's root:   python3 -m unittest tests/test_sentences.py"""
+that its column says, every definition of document 01 has its sentence, and every edit its one. Run from the project's root:
+    python3 -m unittest tests/test_sentences.py"""
 
 import re
 import sys
@@ -50,7 +50,8 @@ def named_as(cell, kind):
 SENTENCES = [row for letter in LETTERS for row in rows_of(letter) if "proved" in row]
 RENDERED = [row for row in SENTENCES if not row["definition"].startswith("nothing")]
 HELPERS = naming.rows(SECTIONS["Definitions that render no sentence"])
-WITHOUT_AN_EDIT = naming.rows(SECTIONS["Sentences without an edit"])
+# The rows that name an edit, those of the slips among them.
+WITH_AN_EDIT = {number(row) for row in RENDERED + rows_of("L") if any(named_as(cell, "edit") for cell in row.values())}
 
 
 def under_headings(text):
@@ -118,8 +119,11 @@ class Sentences(PageTest):
     def test_edits(self):
         for row in RENDERED:
             with self.subTest(number(row)):
-                self.assertNotEqual(bool(named_as(row["edits"], "edit")), row["edits"].startswith("none: "))
-                self.assert_named(row["edits"], "edit", "definition", "crate", "path")
+                edits, seen = row["edits"], re.match(r"see ((?:[A-Z]\d+(?:, )?)+)", row["edits"])
+                self.assertEqual(bool(named_as(edits, "edit")) + bool(seen) + edits.startswith("none: "), 1)
+                self.assert_named(edits, "edit", "definition", "crate", "path")
+                for other in seen.group(1).split(", ") if seen else []:
+                    self.assertIn(other, WITH_AN_EDIT)
 
 
 class Whole(PageTest):
@@ -132,15 +136,9 @@ class Whole(PageTest):
         self.assertEqual(helping - public, set())
         self.assertEqual(helping & rendering, set())
 
-    def test_every_edit_at_a_definition_is_named(self):
-        named = {name for row in RENDERED for name in naming.names(row["edits"])}
-        at_definitions = {edit for edit in naming.edits() if edit.startswith("rules/")}
-        self.assertTrue(at_definitions)
-        self.assertEqual(at_definitions - named, set())
-
-    def test_the_list_of_sentences_without_an_edit(self):
-        without = [number(row) for row in RENDERED if row["edits"].startswith("none: ")]
-        self.assertEqual([row["sentence"] for row in WITHOUT_AN_EDIT], without)
+    def test_every_edit_is_named_once(self):
+        self.assertTrue(naming.edits())
+        self.assertEqual(sorted(naming.edits_named(PAGE)), sorted(naming.edits()))
 
     def test_definitions_to_read_twice(self):
         twice = naming.rows(SECTIONS["Definitions to read twice"])
@@ -149,12 +147,6 @@ class Whole(PageTest):
             with self.subTest(row["sentence"]):
                 self.assert_named(row["definition"], "definition")
                 self.assert_named(row["the code that then fails"], "function")
-
-    def test_what_that_list_proposes(self):
-        for row in WITHOUT_AN_EDIT:
-            with self.subTest(row["sentence"]):
-                self.assert_named(row["an edit that would try it"], "function", "definition", "crate")
-                self.assert_named(row["in"], "crate")
 
 
 class OtherTables(PageTest):
