@@ -88,8 +88,8 @@ def stated_in(name, folder):
     """The text of the file that a name says, under specs/ or proofs/, and the last part of the name."""
     crate, _, rest = name.rpartition("/")
     file, _, last = rest.partition(".")
-    path = CRATES / (crate or "rules") / folder / f"{file}.antt"
-    return (path.read_text() if path.exists() else ""), last
+    found = sorted((CRATES / (crate or "rules") / folder).rglob(f"{file}.antt"))
+    return (found[0].read_text() if found else ""), last
 
 
 def definition(name):
@@ -104,5 +104,5 @@ def law(name):
 
 def public_definitions(crate):
     """Every public definition of a crate's specs/, as `FILE.name`; a record's fields are part of it."""
-    return {f"{file.stem}.{name}" for file in (CRATES / crate / "specs").glob("*.antt")
+    return {f"{file.stem}.{name}" for file in (CRATES / crate / "specs").rglob("*.antt")
             for name in re.findall(rf"{DEFINED}(\S+)", file.read_text(), re.M)}

@@ -158,7 +158,7 @@ class OtherTables(PageTest):
         cases = []
         for row in rows_of("G"):
             with self.subTest(number(row)):
-                case, lines = row["case of the list"], naming.names(row["line of `figures`, `amounts.out` or `known.py`"])
+                case, lines = row["case of the list"], naming.names(row["line of `trial_figures`, `amounts.out` or `known.py`"])
                 self.assertEqual(case != "—", "** * " in row["figure"])
                 cases += [case] if case != "—" else []
                 self.assertTrue(lines)
