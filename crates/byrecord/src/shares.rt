@@ -22,7 +22,7 @@ fn demand_there(file: &[u8], a: usize, i: usize) -> u64
 {
     let words = hour::record(file, i);
     if hour::area_in(words) == a {
-        return hour::demand_in(words);
+        return hour::demand_in(words) as u64;
     }
     0
 }

@@ -15,14 +15,14 @@ pub fn empty_tally() -> Tally
 {
     Tally {
         records: 0,
-        demand: [0u64; 8],
+        demand: [0u32; 8],
         energy: [0i64; 8],
     }
 }
 
 // A record of an area, with its demand and its energy, brings the tally up to date. `t` is not read again once `next` is made: the compiler
 // then makes a copy less of the tally at each posting.
-pub fn tallied(t: Tally, area: usize, demand: u64, energy: i64) -> Tally
+pub fn tallied(t: Tally, area: usize, demand: u32, energy: i64) -> Tally
     requires { ⌜ TallyRoom t area demand energy ⌝ }
     ensures { λ u. ⌜ u ≡ Posting.tallied t area demand energy ⌝ }
 {

@@ -109,12 +109,12 @@ pub fn entry_in(words: &[u8]) -> Entry
     }
 }
 
-pub fn demand_in(words: &[u8]) -> u64
+pub fn demand_in(words: &[u8]) -> u32
     requires { ⌜ length (now words) ≡ 48 ⌝ }
     ensures { λ r. ⌜ r ≡ demandBy (word (now (words .entry))) ⌝ }
 {
     if formula::entry::is_load(kind_in(words)) {
-        return blocks::whole_word(words, 4) as u64;
+        return blocks::whole_word(words, 4);
     }
     0
 }
@@ -144,7 +144,7 @@ pub fn entry_of(file: &[u8], i: usize) -> Entry
 }
 
 // What a record demands of its area's UFE: only a load demands.
-pub fn demand_of(file: &[u8], i: usize) -> u64
+pub fn demand_of(file: &[u8], i: usize) -> u32
     requires { ⌜ FileKept (now file) × (i < hourIn (now file) .count) ⌝ }
     ensures { λ r. ⌜ r ≡ demandOf (hourIn (now (file .entry))) i ⌝ }
 {

@@ -14,7 +14,7 @@ use rules::Found;
 use rules::Tally;
 
 // Brings the lent tally up to date.
-fn post(tally: &mut Tally, area: usize, demand: u64, energy: i64)
+fn post(tally: &mut Tally, area: usize, demand: u32, energy: i64)
     requires { ⌜ TallyRoom (now tally) area demand energy ⌝ }
     ensures { λ _. ⌜ now (tally .exit) ≡ Posting.tallied (now (tally .entry)) area demand energy ⌝ }
 {

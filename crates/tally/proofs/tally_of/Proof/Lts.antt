@@ -53,7 +53,7 @@ abbrev pub r : Kinds.RK 1
 r = Value.rVal TallyKit.valued TallyKit.valued-laws
 
 abbrev pub xs : List.List Syntax.Ty
-xs = List._∷_ (Syntax.tyInt Syntax.w64) (List._∷_ (TallyKit.plain-ty) (List._∷_ (Syntax.tyInt Syntax.w64) (List._∷_ (Syntax.tyInt Syntax.w64) (List._∷_ (Syntax.tyInt Syntax.w64) (List._∷_ (Syntax.tyInt Syntax.w64) (List._∷_ (TallyKit.plain-ty) (List._∷_ Syntax.tyBool (List._∷_ (Syntax.tyStruct (List._∷_ 102 (List._∷_ 111 (List._∷_ 114 (List._∷_ 109 (List._∷_ 117 (List._∷_ 108 (List._∷_ 97 (List._∷_ 58 (List._∷_ 58 (List._∷_ 101 (List._∷_ 110 (List._∷_ 116 (List._∷_ 114 (List._∷_ 121 (List._∷_ 58 (List._∷_ 58 (List._∷_ 69 (List._∷_ 110 (List._∷_ 116 (List._∷_ 114 (List._∷_ 121 List.[]))))))))))))))))))))) (Syntax.tcons (Syntax.tyEnum (List._∷_ 114 (List._∷_ 117 (List._∷_ 108 (List._∷_ 101 (List._∷_ 115 (List._∷_ 58 (List._∷_ 58 (List._∷_ 75 (List._∷_ 105 (List._∷_ 110 (List._∷_ 100 List.[]))))))))))) (Syntax.ttcons Syntax.tnil (Syntax.ttcons Syntax.tnil (Syntax.ttcons Syntax.tnil (Syntax.ttcons Syntax.tnil (Syntax.ttcons Syntax.tnil (Syntax.ttcons Syntax.tnil Syntax.ttnil))))))) (Syntax.tcons (Syntax.tyInt Syntax.w64) (Syntax.tcons (Syntax.tyInt Syntax.w64) (Syntax.tcons (Syntax.tyInt Syntax.w64) (Syntax.tcons (Syntax.tyInt Syntax.w64) (Syntax.tcons (Syntax.tyInt Syntax.w64) (Syntax.tcons (Syntax.tyInt Syntax.w64) (Syntax.tcons (Syntax.tyInt Syntax.w64) (Syntax.tcons (Syntax.tyInt Syntax.w64) Syntax.tnil)))))))))) (List._∷_ Syntax.tyUnit (List._∷_ (Syntax.tyRef Syntax.erased Syntax.mut TallyKit.behind) List.[]))))))))))
+xs = List._∷_ (Syntax.tyInt Syntax.w64) (List._∷_ (TallyKit.plain-ty) (List._∷_ (Syntax.tyInt Syntax.w64) (List._∷_ (Syntax.tyInt Syntax.w64) (List._∷_ (Syntax.tyInt Syntax.w32) (List._∷_ (Syntax.tyInt Syntax.w64) (List._∷_ (TallyKit.plain-ty) (List._∷_ Syntax.tyBool (List._∷_ (Syntax.tyStruct (List._∷_ 102 (List._∷_ 111 (List._∷_ 114 (List._∷_ 109 (List._∷_ 117 (List._∷_ 108 (List._∷_ 97 (List._∷_ 58 (List._∷_ 58 (List._∷_ 101 (List._∷_ 110 (List._∷_ 116 (List._∷_ 114 (List._∷_ 121 (List._∷_ 58 (List._∷_ 58 (List._∷_ 69 (List._∷_ 110 (List._∷_ 116 (List._∷_ 114 (List._∷_ 121 List.[]))))))))))))))))))))) (Syntax.tcons (Syntax.tyEnum (List._∷_ 114 (List._∷_ 117 (List._∷_ 108 (List._∷_ 101 (List._∷_ 115 (List._∷_ 58 (List._∷_ 58 (List._∷_ 75 (List._∷_ 105 (List._∷_ 110 (List._∷_ 100 List.[]))))))))))) (Syntax.ttcons Syntax.tnil (Syntax.ttcons Syntax.tnil (Syntax.ttcons Syntax.tnil (Syntax.ttcons Syntax.tnil (Syntax.ttcons Syntax.tnil (Syntax.ttcons Syntax.tnil Syntax.ttnil))))))) (Syntax.tcons (Syntax.tyInt Syntax.w64) (Syntax.tcons (Syntax.tyInt Syntax.w64) (Syntax.tcons (Syntax.tyInt Syntax.w64) (Syntax.tcons (Syntax.tyInt Syntax.w64) (Syntax.tcons (Syntax.tyInt Syntax.w64) (Syntax.tcons (Syntax.tyInt Syntax.w64) (Syntax.tcons (Syntax.tyInt Syntax.w64) (Syntax.tcons (Syntax.tyInt Syntax.w64) Syntax.tnil)))))))))) (List._∷_ Syntax.tyUnit (List._∷_ (Syntax.tyRef Syntax.erased Syntax.mut TallyKit.behind) List.[]))))))))))
 
 abbrev pub m : Nat.ℕ
 m = 1
@@ -80,7 +80,7 @@ abbrev pub ps·3 : List.List (Kinds.PK 1)
 ps·3 = List._∷_ (ShrSlice.pShrS (Referent.rtF (Referent.fInt Syntax.w8)) 0 tt) (List._∷_ (Num.pNum Syntax.w64) List.[])
 
 abbrev pub r·3 : Kinds.RK 1
-r·3 = Num.rNum Syntax.w64
+r·3 = Num.rNum Syntax.w32
 
 abbrev pub ps·4 : List.List (Kinds.PK 1)
 ps·4 = List._∷_ (ShrSlice.pShrS (Referent.rtF (Referent.fInt Syntax.w8)) 0 tt) (List._∷_ (Num.pNum Syntax.w64) List.[])
@@ -95,7 +95,7 @@ abbrev pub r·5 : Kinds.RK 0
 r·5 = Kinds.rSNum Syntax.w64
 
 abbrev pub ps·6 : List.List (Kinds.PK 1)
-ps·6 = List._∷_ (Kinds.pMut (TallyKit.R) 0 tt) (List._∷_ (Num.pNum Syntax.w64) (List._∷_ (Num.pNum Syntax.w64) (List._∷_ (Kinds.pSNum Syntax.w64) List.[])))
+ps·6 = List._∷_ (Kinds.pMut (TallyKit.R) 0 tt) (List._∷_ (Num.pNum Syntax.w64) (List._∷_ (Num.pNum Syntax.w32) (List._∷_ (Kinds.pSNum Syntax.w64) List.[])))
 
 abbrev pub r·6 : Kinds.RK 1
 r·6 = Unit'.rUnit
@@ -209,67 +209,67 @@ abbrev pub Claims : Type 1
 Claims = Kinds.In 1 ps·0 × Kinds.Out 1 ps·0 r·0 × Kinds.In 0 ps·1 × Kinds.Out 0 ps·1 r·1 × Kinds.In 1 ps·2 × Kinds.Out 1 ps·2 r·2 × Kinds.In 1 ps·3 × Kinds.Out 1 ps·3 r·3 × Kinds.In 1 ps·4 × Kinds.Out 1 ps·4 r·4 × Kinds.In 0 ps·5 × Kinds.Out 0 ps·5 r·5 × Kinds.In 1 ps·6 × Kinds.Out 1 ps·6 r·6
 
 abbrev pub t0 : List.List Row.Entry
-t0 = List._∷_ (0, Rows'.any-gone (TallyKit.plain-ty)) (List._∷_ (1, Rows'.sslice (Referent.rtF (Referent.fInt Syntax.w8)) (Syntax.tyRef (Syntax.named 0) Syntax.imm (Syntax.tyInt Syntax.w8)) 0) (List._∷_ (2, Rows'.any-gone (Syntax.tyInt Syntax.w64)) (List._∷_ (3, Rows'.any-gone (TallyKit.plain-ty)) (List._∷_ (4, Rows'.any-gone (Syntax.tyInt Syntax.w64)) (List._∷_ (5, Rows'.any-gone (Syntax.tyInt Syntax.w64)) (List._∷_ (6, Rows'.any-gone (Syntax.tyInt Syntax.w64)) (List._∷_ (7, Rows'.any-gone (Syntax.tyInt Syntax.w64)) (List._∷_ (8, Rows'.any-gone (TallyKit.plain-ty)) (List._∷_ (9, Rows'.any-gone Syntax.tyBool) (List._∷_ (10, Rows'.any-gone (Syntax.tyStruct (List._∷_ 102 (List._∷_ 111 (List._∷_ 114 (List._∷_ 109 (List._∷_ 117 (List._∷_ 108 (List._∷_ 97 (List._∷_ 58 (List._∷_ 58 (List._∷_ 101 (List._∷_ 110 (List._∷_ 116 (List._∷_ 114 (List._∷_ 121 (List._∷_ 58 (List._∷_ 58 (List._∷_ 69 (List._∷_ 110 (List._∷_ 116 (List._∷_ 114 (List._∷_ 121 List.[]))))))))))))))))))))) (Syntax.tcons (Syntax.tyEnum (List._∷_ 114 (List._∷_ 117 (List._∷_ 108 (List._∷_ 101 (List._∷_ 115 (List._∷_ 58 (List._∷_ 58 (List._∷_ 75 (List._∷_ 105 (List._∷_ 110 (List._∷_ 100 List.[]))))))))))) (Syntax.ttcons Syntax.tnil (Syntax.ttcons Syntax.tnil (Syntax.ttcons Syntax.tnil (Syntax.ttcons Syntax.tnil (Syntax.ttcons Syntax.tnil (Syntax.ttcons Syntax.tnil Syntax.ttnil))))))) (Syntax.tcons (Syntax.tyInt Syntax.w64) (Syntax.tcons (Syntax.tyInt Syntax.w64) (Syntax.tcons (Syntax.tyInt Syntax.w64) (Syntax.tcons (Syntax.tyInt Syntax.w64) (Syntax.tcons (Syntax.tyInt Syntax.w64) (Syntax.tcons (Syntax.tyInt Syntax.w64) (Syntax.tcons (Syntax.tyInt Syntax.w64) (Syntax.tcons (Syntax.tyInt Syntax.w64) Syntax.tnil))))))))))) (List._∷_ (11, Rows'.any-gone Syntax.tyUnit) (List._∷_ (12, Rows'.any-gone (Syntax.tyRef Syntax.erased Syntax.mut TallyKit.behind)) List.[]))))))))))))
+t0 = List._∷_ (0, Rows'.any-gone (TallyKit.plain-ty)) (List._∷_ (1, Rows'.sslice (Referent.rtF (Referent.fInt Syntax.w8)) (Syntax.tyRef (Syntax.named 0) Syntax.imm (Syntax.tyInt Syntax.w8)) 0) (List._∷_ (2, Rows'.any-gone (Syntax.tyInt Syntax.w64)) (List._∷_ (3, Rows'.any-gone (TallyKit.plain-ty)) (List._∷_ (4, Rows'.any-gone (Syntax.tyInt Syntax.w64)) (List._∷_ (5, Rows'.any-gone (Syntax.tyInt Syntax.w64)) (List._∷_ (6, Rows'.any-gone (Syntax.tyInt Syntax.w32)) (List._∷_ (7, Rows'.any-gone (Syntax.tyInt Syntax.w64)) (List._∷_ (8, Rows'.any-gone (TallyKit.plain-ty)) (List._∷_ (9, Rows'.any-gone Syntax.tyBool) (List._∷_ (10, Rows'.any-gone (Syntax.tyStruct (List._∷_ 102 (List._∷_ 111 (List._∷_ 114 (List._∷_ 109 (List._∷_ 117 (List._∷_ 108 (List._∷_ 97 (List._∷_ 58 (List._∷_ 58 (List._∷_ 101 (List._∷_ 110 (List._∷_ 116 (List._∷_ 114 (List._∷_ 121 (List._∷_ 58 (List._∷_ 58 (List._∷_ 69 (List._∷_ 110 (List._∷_ 116 (List._∷_ 114 (List._∷_ 121 List.[]))))))))))))))))))))) (Syntax.tcons (Syntax.tyEnum (List._∷_ 114 (List._∷_ 117 (List._∷_ 108 (List._∷_ 101 (List._∷_ 115 (List._∷_ 58 (List._∷_ 58 (List._∷_ 75 (List._∷_ 105 (List._∷_ 110 (List._∷_ 100 List.[]))))))))))) (Syntax.ttcons Syntax.tnil (Syntax.ttcons Syntax.tnil (Syntax.ttcons Syntax.tnil (Syntax.ttcons Syntax.tnil (Syntax.ttcons Syntax.tnil (Syntax.ttcons Syntax.tnil Syntax.ttnil))))))) (Syntax.tcons (Syntax.tyInt Syntax.w64) (Syntax.tcons (Syntax.tyInt Syntax.w64) (Syntax.tcons (Syntax.tyInt Syntax.w64) (Syntax.tcons (Syntax.tyInt Syntax.w64) (Syntax.tcons (Syntax.tyInt Syntax.w64) (Syntax.tcons (Syntax.tyInt Syntax.w64) (Syntax.tcons (Syntax.tyInt Syntax.w64) (Syntax.tcons (Syntax.tyInt Syntax.w64) Syntax.tnil))))))))))) (List._∷_ (11, Rows'.any-gone Syntax.tyUnit) (List._∷_ (12, Rows'.any-gone (Syntax.tyRef Syntax.erased Syntax.mut TallyKit.behind)) List.[]))))))))))))
 
 abbrev pub t1 : List.List Row.Entry
-t1 = List._∷_ (0, TallyKit.row) (List._∷_ (1, Rows'.sslice (Referent.rtF (Referent.fInt Syntax.w8)) (Syntax.tyRef (Syntax.named 0) Syntax.imm (Syntax.tyInt Syntax.w8)) 0) (List._∷_ (2, Rows'.any-gone (Syntax.tyInt Syntax.w64)) (List._∷_ (3, Rows'.any-gone (TallyKit.plain-ty)) (List._∷_ (4, Rows'.any-gone (Syntax.tyInt Syntax.w64)) (List._∷_ (5, Rows'.any-gone (Syntax.tyInt Syntax.w64)) (List._∷_ (6, Rows'.any-gone (Syntax.tyInt Syntax.w64)) (List._∷_ (7, Rows'.any-gone (Syntax.tyInt Syntax.w64)) (List._∷_ (8, Rows'.any-gone (TallyKit.plain-ty)) (List._∷_ (9, Rows'.any-gone Syntax.tyBool) (List._∷_ (10, Rows'.any-gone (Syntax.tyStruct (List._∷_ 102 (List._∷_ 111 (List._∷_ 114 (List._∷_ 109 (List._∷_ 117 (List._∷_ 108 (List._∷_ 97 (List._∷_ 58 (List._∷_ 58 (List._∷_ 101 (List._∷_ 110 (List._∷_ 116 (List._∷_ 114 (List._∷_ 121 (List._∷_ 58 (List._∷_ 58 (List._∷_ 69 (List._∷_ 110 (List._∷_ 116 (List._∷_ 114 (List._∷_ 121 List.[]))))))))))))))))))))) (Syntax.tcons (Syntax.tyEnum (List._∷_ 114 (List._∷_ 117 (List._∷_ 108 (List._∷_ 101 (List._∷_ 115 (List._∷_ 58 (List._∷_ 58 (List._∷_ 75 (List._∷_ 105 (List._∷_ 110 (List._∷_ 100 List.[]))))))))))) (Syntax.ttcons Syntax.tnil (Syntax.ttcons Syntax.tnil (Syntax.ttcons Syntax.tnil (Syntax.ttcons Syntax.tnil (Syntax.ttcons Syntax.tnil (Syntax.ttcons Syntax.tnil Syntax.ttnil))))))) (Syntax.tcons (Syntax.tyInt Syntax.w64) (Syntax.tcons (Syntax.tyInt Syntax.w64) (Syntax.tcons (Syntax.tyInt Syntax.w64) (Syntax.tcons (Syntax.tyInt Syntax.w64) (Syntax.tcons (Syntax.tyInt Syntax.w64) (Syntax.tcons (Syntax.tyInt Syntax.w64) (Syntax.tcons (Syntax.tyInt Syntax.w64) (Syntax.tcons (Syntax.tyInt Syntax.w64) Syntax.tnil))))))))))) (List._∷_ (11, Rows'.any-gone Syntax.tyUnit) (List._∷_ (12, Rows'.any-gone (Syntax.tyRef Syntax.erased Syntax.mut TallyKit.behind)) List.[]))))))))))))
+t1 = List._∷_ (0, TallyKit.row) (List._∷_ (1, Rows'.sslice (Referent.rtF (Referent.fInt Syntax.w8)) (Syntax.tyRef (Syntax.named 0) Syntax.imm (Syntax.tyInt Syntax.w8)) 0) (List._∷_ (2, Rows'.any-gone (Syntax.tyInt Syntax.w64)) (List._∷_ (3, Rows'.any-gone (TallyKit.plain-ty)) (List._∷_ (4, Rows'.any-gone (Syntax.tyInt Syntax.w64)) (List._∷_ (5, Rows'.any-gone (Syntax.tyInt Syntax.w64)) (List._∷_ (6, Rows'.any-gone (Syntax.tyInt Syntax.w32)) (List._∷_ (7, Rows'.any-gone (Syntax.tyInt Syntax.w64)) (List._∷_ (8, Rows'.any-gone (TallyKit.plain-ty)) (List._∷_ (9, Rows'.any-gone Syntax.tyBool) (List._∷_ (10, Rows'.any-gone (Syntax.tyStruct (List._∷_ 102 (List._∷_ 111 (List._∷_ 114 (List._∷_ 109 (List._∷_ 117 (List._∷_ 108 (List._∷_ 97 (List._∷_ 58 (List._∷_ 58 (List._∷_ 101 (List._∷_ 110 (List._∷_ 116 (List._∷_ 114 (List._∷_ 121 (List._∷_ 58 (List._∷_ 58 (List._∷_ 69 (List._∷_ 110 (List._∷_ 116 (List._∷_ 114 (List._∷_ 121 List.[]))))))))))))))))))))) (Syntax.tcons (Syntax.tyEnum (List._∷_ 114 (List._∷_ 117 (List._∷_ 108 (List._∷_ 101 (List._∷_ 115 (List._∷_ 58 (List._∷_ 58 (List._∷_ 75 (List._∷_ 105 (List._∷_ 110 (List._∷_ 100 List.[]))))))))))) (Syntax.ttcons Syntax.tnil (Syntax.ttcons Syntax.tnil (Syntax.ttcons Syntax.tnil (Syntax.ttcons Syntax.tnil (Syntax.ttcons Syntax.tnil (Syntax.ttcons Syntax.tnil Syntax.ttnil))))))) (Syntax.tcons (Syntax.tyInt Syntax.w64) (Syntax.tcons (Syntax.tyInt Syntax.w64) (Syntax.tcons (Syntax.tyInt Syntax.w64) (Syntax.tcons (Syntax.tyInt Syntax.w64) (Syntax.tcons (Syntax.tyInt Syntax.w64) (Syntax.tcons (Syntax.tyInt Syntax.w64) (Syntax.tcons (Syntax.tyInt Syntax.w64) (Syntax.tcons (Syntax.tyInt Syntax.w64) Syntax.tnil))))))))))) (List._∷_ (11, Rows'.any-gone Syntax.tyUnit) (List._∷_ (12, Rows'.any-gone (Syntax.tyRef Syntax.erased Syntax.mut TallyKit.behind)) List.[]))))))))))))
 
 abbrev pub t2 : List.List Row.Entry
-t2 = List._∷_ (0, Rows'.any-gone (TallyKit.plain-ty)) (List._∷_ (1, Rows'.sslice (Referent.rtF (Referent.fInt Syntax.w8)) (Syntax.tyRef (Syntax.named 0) Syntax.imm (Syntax.tyInt Syntax.w8)) 0) (List._∷_ (2, Rows'.sc-here (Row.sInt Syntax.w64)) (List._∷_ (3, Rows'.any-gone (TallyKit.plain-ty)) (List._∷_ (4, Rows'.any-gone (Syntax.tyInt Syntax.w64)) (List._∷_ (5, Rows'.any-gone (Syntax.tyInt Syntax.w64)) (List._∷_ (6, Rows'.any-gone (Syntax.tyInt Syntax.w64)) (List._∷_ (7, Rows'.any-gone (Syntax.tyInt Syntax.w64)) (List._∷_ (8, Rows'.any-gone (TallyKit.plain-ty)) (List._∷_ (9, Rows'.any-gone Syntax.tyBool) (List._∷_ (10, Rows'.any-gone (Syntax.tyStruct (List._∷_ 102 (List._∷_ 111 (List._∷_ 114 (List._∷_ 109 (List._∷_ 117 (List._∷_ 108 (List._∷_ 97 (List._∷_ 58 (List._∷_ 58 (List._∷_ 101 (List._∷_ 110 (List._∷_ 116 (List._∷_ 114 (List._∷_ 121 (List._∷_ 58 (List._∷_ 58 (List._∷_ 69 (List._∷_ 110 (List._∷_ 116 (List._∷_ 114 (List._∷_ 121 List.[]))))))))))))))))))))) (Syntax.tcons (Syntax.tyEnum (List._∷_ 114 (List._∷_ 117 (List._∷_ 108 (List._∷_ 101 (List._∷_ 115 (List._∷_ 58 (List._∷_ 58 (List._∷_ 75 (List._∷_ 105 (List._∷_ 110 (List._∷_ 100 List.[]))))))))))) (Syntax.ttcons Syntax.tnil (Syntax.ttcons Syntax.tnil (Syntax.ttcons Syntax.tnil (Syntax.ttcons Syntax.tnil (Syntax.ttcons Syntax.tnil (Syntax.ttcons Syntax.tnil Syntax.ttnil))))))) (Syntax.tcons (Syntax.tyInt Syntax.w64) (Syntax.tcons (Syntax.tyInt Syntax.w64) (Syntax.tcons (Syntax.tyInt Syntax.w64) (Syntax.tcons (Syntax.tyInt Syntax.w64) (Syntax.tcons (Syntax.tyInt Syntax.w64) (Syntax.tcons (Syntax.tyInt Syntax.w64) (Syntax.tcons (Syntax.tyInt Syntax.w64) (Syntax.tcons (Syntax.tyInt Syntax.w64) Syntax.tnil))))))))))) (List._∷_ (11, Rows'.any-gone Syntax.tyUnit) (List._∷_ (12, Rows'.any-gone (Syntax.tyRef Syntax.erased Syntax.mut TallyKit.behind)) List.[]))))))))))))
+t2 = List._∷_ (0, Rows'.any-gone (TallyKit.plain-ty)) (List._∷_ (1, Rows'.sslice (Referent.rtF (Referent.fInt Syntax.w8)) (Syntax.tyRef (Syntax.named 0) Syntax.imm (Syntax.tyInt Syntax.w8)) 0) (List._∷_ (2, Rows'.sc-here (Row.sInt Syntax.w64)) (List._∷_ (3, Rows'.any-gone (TallyKit.plain-ty)) (List._∷_ (4, Rows'.any-gone (Syntax.tyInt Syntax.w64)) (List._∷_ (5, Rows'.any-gone (Syntax.tyInt Syntax.w64)) (List._∷_ (6, Rows'.any-gone (Syntax.tyInt Syntax.w32)) (List._∷_ (7, Rows'.any-gone (Syntax.tyInt Syntax.w64)) (List._∷_ (8, Rows'.any-gone (TallyKit.plain-ty)) (List._∷_ (9, Rows'.any-gone Syntax.tyBool) (List._∷_ (10, Rows'.any-gone (Syntax.tyStruct (List._∷_ 102 (List._∷_ 111 (List._∷_ 114 (List._∷_ 109 (List._∷_ 117 (List._∷_ 108 (List._∷_ 97 (List._∷_ 58 (List._∷_ 58 (List._∷_ 101 (List._∷_ 110 (List._∷_ 116 (List._∷_ 114 (List._∷_ 121 (List._∷_ 58 (List._∷_ 58 (List._∷_ 69 (List._∷_ 110 (List._∷_ 116 (List._∷_ 114 (List._∷_ 121 List.[]))))))))))))))))))))) (Syntax.tcons (Syntax.tyEnum (List._∷_ 114 (List._∷_ 117 (List._∷_ 108 (List._∷_ 101 (List._∷_ 115 (List._∷_ 58 (List._∷_ 58 (List._∷_ 75 (List._∷_ 105 (List._∷_ 110 (List._∷_ 100 List.[]))))))))))) (Syntax.ttcons Syntax.tnil (Syntax.ttcons Syntax.tnil (Syntax.ttcons Syntax.tnil (Syntax.ttcons Syntax.tnil (Syntax.ttcons Syntax.tnil (Syntax.ttcons Syntax.tnil Syntax.ttnil))))))) (Syntax.tcons (Syntax.tyInt Syntax.w64) (Syntax.tcons (Syntax.tyInt Syntax.w64) (Syntax.tcons (Syntax.tyInt Syntax.w64) (Syntax.tcons (Syntax.tyInt Syntax.w64) (Syntax.tcons (Syntax.tyInt Syntax.w64) (Syntax.tcons (Syntax.tyInt Syntax.w64) (Syntax.tcons (Syntax.tyInt Syntax.w64) (Syntax.tcons (Syntax.tyInt Syntax.w64) Syntax.tnil))))))))))) (List._∷_ (11, Rows'.any-gone Syntax.tyUnit) (List._∷_ (12, Rows'.any-gone (Syntax.tyRef Syntax.erased Syntax.mut TallyKit.behind)) List.[]))))))))))))
 
 abbrev pub t3 : List.List Row.Entry
-t3 = List._∷_ (0, Rows'.any-gone (TallyKit.plain-ty)) (List._∷_ (1, Rows'.sslice (Referent.rtF (Referent.fInt Syntax.w8)) (Syntax.tyRef (Syntax.named 0) Syntax.imm (Syntax.tyInt Syntax.w8)) 0) (List._∷_ (2, Rows'.sc-here (Row.sInt Syntax.w64)) (List._∷_ (3, Rows'.any-gone (TallyKit.plain-ty)) (List._∷_ (4, Rows'.any-gone (Syntax.tyInt Syntax.w64)) (List._∷_ (5, Rows'.any-gone (Syntax.tyInt Syntax.w64)) (List._∷_ (6, Rows'.any-gone (Syntax.tyInt Syntax.w64)) (List._∷_ (7, Rows'.any-gone (Syntax.tyInt Syntax.w64)) (List._∷_ (8, TallyKit.row) (List._∷_ (9, Rows'.any-gone Syntax.tyBool) (List._∷_ (10, Rows'.any-gone (Syntax.tyStruct (List._∷_ 102 (List._∷_ 111 (List._∷_ 114 (List._∷_ 109 (List._∷_ 117 (List._∷_ 108 (List._∷_ 97 (List._∷_ 58 (List._∷_ 58 (List._∷_ 101 (List._∷_ 110 (List._∷_ 116 (List._∷_ 114 (List._∷_ 121 (List._∷_ 58 (List._∷_ 58 (List._∷_ 69 (List._∷_ 110 (List._∷_ 116 (List._∷_ 114 (List._∷_ 121 List.[]))))))))))))))))))))) (Syntax.tcons (Syntax.tyEnum (List._∷_ 114 (List._∷_ 117 (List._∷_ 108 (List._∷_ 101 (List._∷_ 115 (List._∷_ 58 (List._∷_ 58 (List._∷_ 75 (List._∷_ 105 (List._∷_ 110 (List._∷_ 100 List.[]))))))))))) (Syntax.ttcons Syntax.tnil (Syntax.ttcons Syntax.tnil (Syntax.ttcons Syntax.tnil (Syntax.ttcons Syntax.tnil (Syntax.ttcons Syntax.tnil (Syntax.ttcons Syntax.tnil Syntax.ttnil))))))) (Syntax.tcons (Syntax.tyInt Syntax.w64) (Syntax.tcons (Syntax.tyInt Syntax.w64) (Syntax.tcons (Syntax.tyInt Syntax.w64) (Syntax.tcons (Syntax.tyInt Syntax.w64) (Syntax.tcons (Syntax.tyInt Syntax.w64) (Syntax.tcons (Syntax.tyInt Syntax.w64) (Syntax.tcons (Syntax.tyInt Syntax.w64) (Syntax.tcons (Syntax.tyInt Syntax.w64) Syntax.tnil))))))))))) (List._∷_ (11, Rows'.any-gone Syntax.tyUnit) (List._∷_ (12, Rows'.any-gone (Syntax.tyRef Syntax.erased Syntax.mut TallyKit.behind)) List.[]))))))))))))
+t3 = List._∷_ (0, Rows'.any-gone (TallyKit.plain-ty)) (List._∷_ (1, Rows'.sslice (Referent.rtF (Referent.fInt Syntax.w8)) (Syntax.tyRef (Syntax.named 0) Syntax.imm (Syntax.tyInt Syntax.w8)) 0) (List._∷_ (2, Rows'.sc-here (Row.sInt Syntax.w64)) (List._∷_ (3, Rows'.any-gone (TallyKit.plain-ty)) (List._∷_ (4, Rows'.any-gone (Syntax.tyInt Syntax.w64)) (List._∷_ (5, Rows'.any-gone (Syntax.tyInt Syntax.w64)) (List._∷_ (6, Rows'.any-gone (Syntax.tyInt Syntax.w32)) (List._∷_ (7, Rows'.any-gone (Syntax.tyInt Syntax.w64)) (List._∷_ (8, TallyKit.row) (List._∷_ (9, Rows'.any-gone Syntax.tyBool) (List._∷_ (10, Rows'.any-gone (Syntax.tyStruct (List._∷_ 102 (List._∷_ 111 (List._∷_ 114 (List._∷_ 109 (List._∷_ 117 (List._∷_ 108 (List._∷_ 97 (List._∷_ 58 (List._∷_ 58 (List._∷_ 101 (List._∷_ 110 (List._∷_ 116 (List._∷_ 114 (List._∷_ 121 (List._∷_ 58 (List._∷_ 58 (List._∷_ 69 (List._∷_ 110 (List._∷_ 116 (List._∷_ 114 (List._∷_ 121 List.[]))))))))))))))))))))) (Syntax.tcons (Syntax.tyEnum (List._∷_ 114 (List._∷_ 117 (List._∷_ 108 (List._∷_ 101 (List._∷_ 115 (List._∷_ 58 (List._∷_ 58 (List._∷_ 75 (List._∷_ 105 (List._∷_ 110 (List._∷_ 100 List.[]))))))))))) (Syntax.ttcons Syntax.tnil (Syntax.ttcons Syntax.tnil (Syntax.ttcons Syntax.tnil (Syntax.ttcons Syntax.tnil (Syntax.ttcons Syntax.tnil (Syntax.ttcons Syntax.tnil Syntax.ttnil))))))) (Syntax.tcons (Syntax.tyInt Syntax.w64) (Syntax.tcons (Syntax.tyInt Syntax.w64) (Syntax.tcons (Syntax.tyInt Syntax.w64) (Syntax.tcons (Syntax.tyInt Syntax.w64) (Syntax.tcons (Syntax.tyInt Syntax.w64) (Syntax.tcons (Syntax.tyInt Syntax.w64) (Syntax.tcons (Syntax.tyInt Syntax.w64) (Syntax.tcons (Syntax.tyInt Syntax.w64) Syntax.tnil))))))))))) (List._∷_ (11, Rows'.any-gone Syntax.tyUnit) (List._∷_ (12, Rows'.any-gone (Syntax.tyRef Syntax.erased Syntax.mut TallyKit.behind)) List.[]))))))))))))
 
 abbrev pub t4 : List.List Row.Entry
-t4 = List._∷_ (0, Rows'.any-gone (TallyKit.plain-ty)) (List._∷_ (1, Rows'.sslice (Referent.rtF (Referent.fInt Syntax.w8)) (Syntax.tyRef (Syntax.named 0) Syntax.imm (Syntax.tyInt Syntax.w8)) 0) (List._∷_ (2, Rows'.sc-here (Row.sInt Syntax.w64)) (List._∷_ (3, TallyKit.row) (List._∷_ (4, Rows'.any-gone (Syntax.tyInt Syntax.w64)) (List._∷_ (5, Rows'.any-gone (Syntax.tyInt Syntax.w64)) (List._∷_ (6, Rows'.any-gone (Syntax.tyInt Syntax.w64)) (List._∷_ (7, Rows'.any-gone (Syntax.tyInt Syntax.w64)) (List._∷_ (8, TallyKit.row) (List._∷_ (9, Rows'.any-gone Syntax.tyBool) (List._∷_ (10, Rows'.any-gone (Syntax.tyStruct (List._∷_ 102 (List._∷_ 111 (List._∷_ 114 (List._∷_ 109 (List._∷_ 117 (List._∷_ 108 (List._∷_ 97 (List._∷_ 58 (List._∷_ 58 (List._∷_ 101 (List._∷_ 110 (List._∷_ 116 (List._∷_ 114 (List._∷_ 121 (List._∷_ 58 (List._∷_ 58 (List._∷_ 69 (List._∷_ 110 (List._∷_ 116 (List._∷_ 114 (List._∷_ 121 List.[]))))))))))))))))))))) (Syntax.tcons (Syntax.tyEnum (List._∷_ 114 (List._∷_ 117 (List._∷_ 108 (List._∷_ 101 (List._∷_ 115 (List._∷_ 58 (List._∷_ 58 (List._∷_ 75 (List._∷_ 105 (List._∷_ 110 (List._∷_ 100 List.[]))))))))))) (Syntax.ttcons Syntax.tnil (Syntax.ttcons Syntax.tnil (Syntax.ttcons Syntax.tnil (Syntax.ttcons Syntax.tnil (Syntax.ttcons Syntax.tnil (Syntax.ttcons Syntax.tnil Syntax.ttnil))))))) (Syntax.tcons (Syntax.tyInt Syntax.w64) (Syntax.tcons (Syntax.tyInt Syntax.w64) (Syntax.tcons (Syntax.tyInt Syntax.w64) (Syntax.tcons (Syntax.tyInt Syntax.w64) (Syntax.tcons (Syntax.tyInt Syntax.w64) (Syntax.tcons (Syntax.tyInt Syntax.w64) (Syntax.tcons (Syntax.tyInt Syntax.w64) (Syntax.tcons (Syntax.tyInt Syntax.w64) Syntax.tnil))))))))))) (List._∷_ (11, Rows'.any-gone Syntax.tyUnit) (List._∷_ (12, Rows'.any-gone (Syntax.tyRef Syntax.erased Syntax.mut TallyKit.behind)) List.[]))))))))))))
+t4 = List._∷_ (0, Rows'.any-gone (TallyKit.plain-ty)) (List._∷_ (1, Rows'.sslice (Referent.rtF (Referent.fInt Syntax.w8)) (Syntax.tyRef (Syntax.named 0) Syntax.imm (Syntax.tyInt Syntax.w8)) 0) (List._∷_ (2, Rows'.sc-here (Row.sInt Syntax.w64)) (List._∷_ (3, TallyKit.row) (List._∷_ (4, Rows'.any-gone (Syntax.tyInt Syntax.w64)) (List._∷_ (5, Rows'.any-gone (Syntax.tyInt Syntax.w64)) (List._∷_ (6, Rows'.any-gone (Syntax.tyInt Syntax.w32)) (List._∷_ (7, Rows'.any-gone (Syntax.tyInt Syntax.w64)) (List._∷_ (8, TallyKit.row) (List._∷_ (9, Rows'.any-gone Syntax.tyBool) (List._∷_ (10, Rows'.any-gone (Syntax.tyStruct (List._∷_ 102 (List._∷_ 111 (List._∷_ 114 (List._∷_ 109 (List._∷_ 117 (List._∷_ 108 (List._∷_ 97 (List._∷_ 58 (List._∷_ 58 (List._∷_ 101 (List._∷_ 110 (List._∷_ 116 (List._∷_ 114 (List._∷_ 121 (List._∷_ 58 (List._∷_ 58 (List._∷_ 69 (List._∷_ 110 (List._∷_ 116 (List._∷_ 114 (List._∷_ 121 List.[]))))))))))))))))))))) (Syntax.tcons (Syntax.tyEnum (List._∷_ 114 (List._∷_ 117 (List._∷_ 108 (List._∷_ 101 (List._∷_ 115 (List._∷_ 58 (List._∷_ 58 (List._∷_ 75 (List._∷_ 105 (List._∷_ 110 (List._∷_ 100 List.[]))))))))))) (Syntax.ttcons Syntax.tnil (Syntax.ttcons Syntax.tnil (Syntax.ttcons Syntax.tnil (Syntax.ttcons Syntax.tnil (Syntax.ttcons Syntax.tnil (Syntax.ttcons Syntax.tnil Syntax.ttnil))))))) (Syntax.tcons (Syntax.tyInt Syntax.w64) (Syntax.tcons (Syntax.tyInt Syntax.w64) (Syntax.tcons (Syntax.tyInt Syntax.w64) (Syntax.tcons (Syntax.tyInt Syntax.w64) (Syntax.tcons (Syntax.tyInt Syntax.w64) (Syntax.tcons (Syntax.tyInt Syntax.w64) (Syntax.tcons (Syntax.tyInt Syntax.w64) (Syntax.tcons (Syntax.tyInt Syntax.w64) Syntax.tnil))))))))))) (List._∷_ (11, Rows'.any-gone Syntax.tyUnit) (List._∷_ (12, Rows'.any-gone (Syntax.tyRef Syntax.erased Syntax.mut TallyKit.behind)) List.[]))))))))))))
 
 abbrev pub t5 : List.List Row.Entry
-t5 = List._∷_ (0, Rows'.any-gone (TallyKit.plain-ty)) (List._∷_ (1, Rows'.sslice (Referent.rtF (Referent.fInt Syntax.w8)) (Syntax.tyRef (Syntax.named 0) Syntax.imm (Syntax.tyInt Syntax.w8)) 0) (List._∷_ (2, Rows'.sc-here (Row.sInt Syntax.w64)) (List._∷_ (3, TallyKit.row) (List._∷_ (4, Rows'.any-gone (Syntax.tyInt Syntax.w64)) (List._∷_ (5, Rows'.any-gone (Syntax.tyInt Syntax.w64)) (List._∷_ (6, Rows'.any-gone (Syntax.tyInt Syntax.w64)) (List._∷_ (7, Rows'.any-gone (Syntax.tyInt Syntax.w64)) (List._∷_ (8, Rows'.any-gone (TallyKit.plain-ty)) (List._∷_ (9, Rows'.any-gone Syntax.tyBool) (List._∷_ (10, Rows'.any-gone (Syntax.tyStruct (List._∷_ 102 (List._∷_ 111 (List._∷_ 114 (List._∷_ 109 (List._∷_ 117 (List._∷_ 108 (List._∷_ 97 (List._∷_ 58 (List._∷_ 58 (List._∷_ 101 (List._∷_ 110 (List._∷_ 116 (List._∷_ 114 (List._∷_ 121 (List._∷_ 58 (List._∷_ 58 (List._∷_ 69 (List._∷_ 110 (List._∷_ 116 (List._∷_ 114 (List._∷_ 121 List.[]))))))))))))))))))))) (Syntax.tcons (Syntax.tyEnum (List._∷_ 114 (List._∷_ 117 (List._∷_ 108 (List._∷_ 101 (List._∷_ 115 (List._∷_ 58 (List._∷_ 58 (List._∷_ 75 (List._∷_ 105 (List._∷_ 110 (List._∷_ 100 List.[]))))))))))) (Syntax.ttcons Syntax.tnil (Syntax.ttcons Syntax.tnil (Syntax.ttcons Syntax.tnil (Syntax.ttcons Syntax.tnil (Syntax.ttcons Syntax.tnil (Syntax.ttcons Syntax.tnil Syntax.ttnil))))))) (Syntax.tcons (Syntax.tyInt Syntax.w64) (Syntax.tcons (Syntax.tyInt Syntax.w64) (Syntax.tcons (Syntax.tyInt Syntax.w64) (Syntax.tcons (Syntax.tyInt Syntax.w64) (Syntax.tcons (Syntax.tyInt Syntax.w64) (Syntax.tcons (Syntax.tyInt Syntax.w64) (Syntax.tcons (Syntax.tyInt Syntax.w64) (Syntax.tcons (Syntax.tyInt Syntax.w64) Syntax.tnil))))))))))) (List._∷_ (11, Rows'.any-gone Syntax.tyUnit) (List._∷_ (12, Rows'.any-gone (Syntax.tyRef Syntax.erased Syntax.mut TallyKit.behind)) List.[]))))))))))))
+t5 = List._∷_ (0, Rows'.any-gone (TallyKit.plain-ty)) (List._∷_ (1, Rows'.sslice (Referent.rtF (Referent.fInt Syntax.w8)) (Syntax.tyRef (Syntax.named 0) Syntax.imm (Syntax.tyInt Syntax.w8)) 0) (List._∷_ (2, Rows'.sc-here (Row.sInt Syntax.w64)) (List._∷_ (3, TallyKit.row) (List._∷_ (4, Rows'.any-gone (Syntax.tyInt Syntax.w64)) (List._∷_ (5, Rows'.any-gone (Syntax.tyInt Syntax.w64)) (List._∷_ (6, Rows'.any-gone (Syntax.tyInt Syntax.w32)) (List._∷_ (7, Rows'.any-gone (Syntax.tyInt Syntax.w64)) (List._∷_ (8, Rows'.any-gone (TallyKit.plain-ty)) (List._∷_ (9, Rows'.any-gone Syntax.tyBool) (List._∷_ (10, Rows'.any-gone (Syntax.tyStruct (List._∷_ 102 (List._∷_ 111 (List._∷_ 114 (List._∷_ 109 (List._∷_ 117 (List._∷_ 108 (List._∷_ 97 (List._∷_ 58 (List._∷_ 58 (List._∷_ 101 (List._∷_ 110 (List._∷_ 116 (List._∷_ 114 (List._∷_ 121 (List._∷_ 58 (List._∷_ 58 (List._∷_ 69 (List._∷_ 110 (List._∷_ 116 (List._∷_ 114 (List._∷_ 121 List.[]))))))))))))))))))))) (Syntax.tcons (Syntax.tyEnum (List._∷_ 114 (List._∷_ 117 (List._∷_ 108 (List._∷_ 101 (List._∷_ 115 (List._∷_ 58 (List._∷_ 58 (List._∷_ 75 (List._∷_ 105 (List._∷_ 110 (List._∷_ 100 List.[]))))))))))) (Syntax.ttcons Syntax.tnil (Syntax.ttcons Syntax.tnil (Syntax.ttcons Syntax.tnil (Syntax.ttcons Syntax.tnil (Syntax.ttcons Syntax.tnil (Syntax.ttcons Syntax.tnil Syntax.ttnil))))))) (Syntax.tcons (Syntax.tyInt Syntax.w64) (Syntax.tcons (Syntax.tyInt Syntax.w64) (Syntax.tcons (Syntax.tyInt Syntax.w64) (Syntax.tcons (Syntax.tyInt Syntax.w64) (Syntax.tcons (Syntax.tyInt Syntax.w64) (Syntax.tcons (Syntax.tyInt Syntax.w64) (Syntax.tcons (Syntax.tyInt Syntax.w64) (Syntax.tcons (Syntax.tyInt Syntax.w64) Syntax.tnil))))))))))) (List._∷_ (11, Rows'.any-gone Syntax.tyUnit) (List._∷_ (12, Rows'.any-gone (Syntax.tyRef Syntax.erased Syntax.mut TallyKit.behind)) List.[]))))))))))))
 
 abbrev pub t6 : List.List Row.Entry
-t6 = List._∷_ (0, Rows'.any-gone (TallyKit.plain-ty)) (List._∷_ (1, Rows'.sslice (Referent.rtF (Referent.fInt Syntax.w8)) (Syntax.tyRef (Syntax.named 0) Syntax.imm (Syntax.tyInt Syntax.w8)) 0) (List._∷_ (2, Rows'.sc-here (Row.sInt Syntax.w64)) (List._∷_ (3, TallyKit.row) (List._∷_ (4, Rows'.sc-here (Row.sInt Syntax.w64)) (List._∷_ (5, Rows'.any-gone (Syntax.tyInt Syntax.w64)) (List._∷_ (6, Rows'.any-gone (Syntax.tyInt Syntax.w64)) (List._∷_ (7, Rows'.any-gone (Syntax.tyInt Syntax.w64)) (List._∷_ (8, Rows'.any-gone (TallyKit.plain-ty)) (List._∷_ (9, Rows'.any-gone Syntax.tyBool) (List._∷_ (10, Rows'.any-gone (Syntax.tyStruct (List._∷_ 102 (List._∷_ 111 (List._∷_ 114 (List._∷_ 109 (List._∷_ 117 (List._∷_ 108 (List._∷_ 97 (List._∷_ 58 (List._∷_ 58 (List._∷_ 101 (List._∷_ 110 (List._∷_ 116 (List._∷_ 114 (List._∷_ 121 (List._∷_ 58 (List._∷_ 58 (List._∷_ 69 (List._∷_ 110 (List._∷_ 116 (List._∷_ 114 (List._∷_ 121 List.[]))))))))))))))))))))) (Syntax.tcons (Syntax.tyEnum (List._∷_ 114 (List._∷_ 117 (List._∷_ 108 (List._∷_ 101 (List._∷_ 115 (List._∷_ 58 (List._∷_ 58 (List._∷_ 75 (List._∷_ 105 (List._∷_ 110 (List._∷_ 100 List.[]))))))))))) (Syntax.ttcons Syntax.tnil (Syntax.ttcons Syntax.tnil (Syntax.ttcons Syntax.tnil (Syntax.ttcons Syntax.tnil (Syntax.ttcons Syntax.tnil (Syntax.ttcons Syntax.tnil Syntax.ttnil))))))) (Syntax.tcons (Syntax.tyInt Syntax.w64) (Syntax.tcons (Syntax.tyInt Syntax.w64) (Syntax.tcons (Syntax.tyInt Syntax.w64) (Syntax.tcons (Syntax.tyInt Syntax.w64) (Syntax.tcons (Syntax.tyInt Syntax.w64) (Syntax.tcons (Syntax.tyInt Syntax.w64) (Syntax.tcons (Syntax.tyInt Syntax.w64) (Syntax.tcons (Syntax.tyInt Syntax.w64) Syntax.tnil))))))))))) (List._∷_ (11, Rows'.any-gone Syntax.tyUnit) (List._∷_ (12, Rows'.any-gone (Syntax.tyRef Syntax.erased Syntax.mut TallyKit.behind)) List.[]))))))))))))
+t6 = List._∷_ (0, Rows'.any-gone (TallyKit.plain-ty)) (List._∷_ (1, Rows'.sslice (Referent.rtF (Referent.fInt Syntax.w8)) (Syntax.tyRef (Syntax.named 0) Syntax.imm (Syntax.tyInt Syntax.w8)) 0) (List._∷_ (2, Rows'.sc-here (Row.sInt Syntax.w64)) (List._∷_ (3, TallyKit.row) (List._∷_ (4, Rows'.sc-here (Row.sInt Syntax.w64)) (List._∷_ (5, Rows'.any-gone (Syntax.tyInt Syntax.w64)) (List._∷_ (6, Rows'.any-gone (Syntax.tyInt Syntax.w32)) (List._∷_ (7, Rows'.any-gone (Syntax.tyInt Syntax.w64)) (List._∷_ (8, Rows'.any-gone (TallyKit.plain-ty)) (List._∷_ (9, Rows'.any-gone Syntax.tyBool) (List._∷_ (10, Rows'.any-gone (Syntax.tyStruct (List._∷_ 102 (List._∷_ 111 (List._∷_ 114 (List._∷_ 109 (List._∷_ 117 (List._∷_ 108 (List._∷_ 97 (List._∷_ 58 (List._∷_ 58 (List._∷_ 101 (List._∷_ 110 (List._∷_ 116 (List._∷_ 114 (List._∷_ 121 (List._∷_ 58 (List._∷_ 58 (List._∷_ 69 (List._∷_ 110 (List._∷_ 116 (List._∷_ 114 (List._∷_ 121 List.[]))))))))))))))))))))) (Syntax.tcons (Syntax.tyEnum (List._∷_ 114 (List._∷_ 117 (List._∷_ 108 (List._∷_ 101 (List._∷_ 115 (List._∷_ 58 (List._∷_ 58 (List._∷_ 75 (List._∷_ 105 (List._∷_ 110 (List._∷_ 100 List.[]))))))))))) (Syntax.ttcons Syntax.tnil (Syntax.ttcons Syntax.tnil (Syntax.ttcons Syntax.tnil (Syntax.ttcons Syntax.tnil (Syntax.ttcons Syntax.tnil (Syntax.ttcons Syntax.tnil Syntax.ttnil))))))) (Syntax.tcons (Syntax.tyInt Syntax.w64) (Syntax.tcons (Syntax.tyInt Syntax.w64) (Syntax.tcons (Syntax.tyInt Syntax.w64) (Syntax.tcons (Syntax.tyInt Syntax.w64) (Syntax.tcons (Syntax.tyInt Syntax.w64) (Syntax.tcons (Syntax.tyInt Syntax.w64) (Syntax.tcons (Syntax.tyInt Syntax.w64) (Syntax.tcons (Syntax.tyInt Syntax.w64) Syntax.tnil))))))))))) (List._∷_ (11, Rows'.any-gone Syntax.tyUnit) (List._∷_ (12, Rows'.any-gone (Syntax.tyRef Syntax.erased Syntax.mut TallyKit.behind)) List.[]))))))))))))
 
 abbrev pub t7 : List.List Row.Entry
-t7 = List._∷_ (0, Rows'.any-gone (TallyKit.plain-ty)) (List._∷_ (1, Rows'.sslice (Referent.rtF (Referent.fInt Syntax.w8)) (Syntax.tyRef (Syntax.named 0) Syntax.imm (Syntax.tyInt Syntax.w8)) 0) (List._∷_ (2, Rows'.sc-here (Row.sInt Syntax.w64)) (List._∷_ (3, TallyKit.row) (List._∷_ (4, Rows'.sc-here (Row.sInt Syntax.w64)) (List._∷_ (5, Rows'.any-gone (Syntax.tyInt Syntax.w64)) (List._∷_ (6, Rows'.any-gone (Syntax.tyInt Syntax.w64)) (List._∷_ (7, Rows'.any-gone (Syntax.tyInt Syntax.w64)) (List._∷_ (8, Rows'.any-gone (TallyKit.plain-ty)) (List._∷_ (9, Rows'.sc-here Row.sBool) (List._∷_ (10, Rows'.any-gone (Syntax.tyStruct (List._∷_ 102 (List._∷_ 111 (List._∷_ 114 (List._∷_ 109 (List._∷_ 117 (List._∷_ 108 (List._∷_ 97 (List._∷_ 58 (List._∷_ 58 (List._∷_ 101 (List._∷_ 110 (List._∷_ 116 (List._∷_ 114 (List._∷_ 121 (List._∷_ 58 (List._∷_ 58 (List._∷_ 69 (List._∷_ 110 (List._∷_ 116 (List._∷_ 114 (List._∷_ 121 List.[]))))))))))))))))))))) (Syntax.tcons (Syntax.tyEnum (List._∷_ 114 (List._∷_ 117 (List._∷_ 108 (List._∷_ 101 (List._∷_ 115 (List._∷_ 58 (List._∷_ 58 (List._∷_ 75 (List._∷_ 105 (List._∷_ 110 (List._∷_ 100 List.[]))))))))))) (Syntax.ttcons Syntax.tnil (Syntax.ttcons Syntax.tnil (Syntax.ttcons Syntax.tnil (Syntax.ttcons Syntax.tnil (Syntax.ttcons Syntax.tnil (Syntax.ttcons Syntax.tnil Syntax.ttnil))))))) (Syntax.tcons (Syntax.tyInt Syntax.w64) (Syntax.tcons (Syntax.tyInt Syntax.w64) (Syntax.tcons (Syntax.tyInt Syntax.w64) (Syntax.tcons (Syntax.tyInt Syntax.w64) (Syntax.tcons (Syntax.tyInt Syntax.w64) (Syntax.tcons (Syntax.tyInt Syntax.w64) (Syntax.tcons (Syntax.tyInt Syntax.w64) (Syntax.tcons (Syntax.tyInt Syntax.w64) Syntax.tnil))))))))))) (List._∷_ (11, Rows'.any-gone Syntax.tyUnit) (List._∷_ (12, Rows'.any-gone (Syntax.tyRef Syntax.erased Syntax.mut TallyKit.behind)) List.[]))))))))))))
+t7 = List._∷_ (0, Rows'.any-gone (TallyKit.plain-ty)) (List._∷_ (1, Rows'.sslice (Referent.rtF (Referent.fInt Syntax.w8)) (Syntax.tyRef (Syntax.named 0) Syntax.imm (Syntax.tyInt Syntax.w8)) 0) (List._∷_ (2, Rows'.sc-here (Row.sInt Syntax.w64)) (List._∷_ (3, TallyKit.row) (List._∷_ (4, Rows'.sc-here (Row.sInt Syntax.w64)) (List._∷_ (5, Rows'.any-gone (Syntax.tyInt Syntax.w64)) (List._∷_ (6, Rows'.any-gone (Syntax.tyInt Syntax.w32)) (List._∷_ (7, Rows'.any-gone (Syntax.tyInt Syntax.w64)) (List._∷_ (8, Rows'.any-gone (TallyKit.plain-ty)) (List._∷_ (9, Rows'.sc-here Row.sBool) (List._∷_ (10, Rows'.any-gone (Syntax.tyStruct (List._∷_ 102 (List._∷_ 111 (List._∷_ 114 (List._∷_ 109 (List._∷_ 117 (List._∷_ 108 (List._∷_ 97 (List._∷_ 58 (List._∷_ 58 (List._∷_ 101 (List._∷_ 110 (List._∷_ 116 (List._∷_ 114 (List._∷_ 121 (List._∷_ 58 (List._∷_ 58 (List._∷_ 69 (List._∷_ 110 (List._∷_ 116 (List._∷_ 114 (List._∷_ 121 List.[]))))))))))))))))))))) (Syntax.tcons (Syntax.tyEnum (List._∷_ 114 (List._∷_ 117 (List._∷_ 108 (List._∷_ 101 (List._∷_ 115 (List._∷_ 58 (List._∷_ 58 (List._∷_ 75 (List._∷_ 105 (List._∷_ 110 (List._∷_ 100 List.[]))))))))))) (Syntax.ttcons Syntax.tnil (Syntax.ttcons Syntax.tnil (Syntax.ttcons Syntax.tnil (Syntax.ttcons Syntax.tnil (Syntax.ttcons Syntax.tnil (Syntax.ttcons Syntax.tnil Syntax.ttnil))))))) (Syntax.tcons (Syntax.tyInt Syntax.w64) (Syntax.tcons (Syntax.tyInt Syntax.w64) (Syntax.tcons (Syntax.tyInt Syntax.w64) (Syntax.tcons (Syntax.tyInt Syntax.w64) (Syntax.tcons (Syntax.tyInt Syntax.w64) (Syntax.tcons (Syntax.tyInt Syntax.w64) (Syntax.tcons (Syntax.tyInt Syntax.w64) (Syntax.tcons (Syntax.tyInt Syntax.w64) Syntax.tnil))))))))))) (List._∷_ (11, Rows'.any-gone Syntax.tyUnit) (List._∷_ (12, Rows'.any-gone (Syntax.tyRef Syntax.erased Syntax.mut TallyKit.behind)) List.[]))))))))))))
 
 abbrev pub t8 : List.List Row.Entry
-t8 = List._∷_ (0, Rows'.any-gone (TallyKit.plain-ty)) (List._∷_ (1, Rows'.sslice (Referent.rtF (Referent.fInt Syntax.w8)) (Syntax.tyRef (Syntax.named 0) Syntax.imm (Syntax.tyInt Syntax.w8)) 0) (List._∷_ (2, Rows'.sc-here (Row.sInt Syntax.w64)) (List._∷_ (3, TallyKit.row) (List._∷_ (4, Rows'.sc-here (Row.sInt Syntax.w64)) (List._∷_ (5, Rows'.sc-here (Row.sInt Syntax.w64)) (List._∷_ (6, Rows'.any-gone (Syntax.tyInt Syntax.w64)) (List._∷_ (7, Rows'.any-gone (Syntax.tyInt Syntax.w64)) (List._∷_ (8, Rows'.any-gone (TallyKit.plain-ty)) (List._∷_ (9, Rows'.any-gone Syntax.tyBool) (List._∷_ (10, Rows'.any-gone (Syntax.tyStruct (List._∷_ 102 (List._∷_ 111 (List._∷_ 114 (List._∷_ 109 (List._∷_ 117 (List._∷_ 108 (List._∷_ 97 (List._∷_ 58 (List._∷_ 58 (List._∷_ 101 (List._∷_ 110 (List._∷_ 116 (List._∷_ 114 (List._∷_ 121 (List._∷_ 58 (List._∷_ 58 (List._∷_ 69 (List._∷_ 110 (List._∷_ 116 (List._∷_ 114 (List._∷_ 121 List.[]))))))))))))))))))))) (Syntax.tcons (Syntax.tyEnum (List._∷_ 114 (List._∷_ 117 (List._∷_ 108 (List._∷_ 101 (List._∷_ 115 (List._∷_ 58 (List._∷_ 58 (List._∷_ 75 (List._∷_ 105 (List._∷_ 110 (List._∷_ 100 List.[]))))))))))) (Syntax.ttcons Syntax.tnil (Syntax.ttcons Syntax.tnil (Syntax.ttcons Syntax.tnil (Syntax.ttcons Syntax.tnil (Syntax.ttcons Syntax.tnil (Syntax.ttcons Syntax.tnil Syntax.ttnil))))))) (Syntax.tcons (Syntax.tyInt Syntax.w64) (Syntax.tcons (Syntax.tyInt Syntax.w64) (Syntax.tcons (Syntax.tyInt Syntax.w64) (Syntax.tcons (Syntax.tyInt Syntax.w64) (Syntax.tcons (Syntax.tyInt Syntax.w64) (Syntax.tcons (Syntax.tyInt Syntax.w64) (Syntax.tcons (Syntax.tyInt Syntax.w64) (Syntax.tcons (Syntax.tyInt Syntax.w64) Syntax.tnil))))))))))) (List._∷_ (11, Rows'.any-gone Syntax.tyUnit) (List._∷_ (12, Rows'.any-gone (Syntax.tyRef Syntax.erased Syntax.mut TallyKit.behind)) List.[]))))))))))))
+t8 = List._∷_ (0, Rows'.any-gone (TallyKit.plain-ty)) (List._∷_ (1, Rows'.sslice (Referent.rtF (Referent.fInt Syntax.w8)) (Syntax.tyRef (Syntax.named 0) Syntax.imm (Syntax.tyInt Syntax.w8)) 0) (List._∷_ (2, Rows'.sc-here (Row.sInt Syntax.w64)) (List._∷_ (3, TallyKit.row) (List._∷_ (4, Rows'.sc-here (Row.sInt Syntax.w64)) (List._∷_ (5, Rows'.sc-here (Row.sInt Syntax.w64)) (List._∷_ (6, Rows'.any-gone (Syntax.tyInt Syntax.w32)) (List._∷_ (7, Rows'.any-gone (Syntax.tyInt Syntax.w64)) (List._∷_ (8, Rows'.any-gone (TallyKit.plain-ty)) (List._∷_ (9, Rows'.any-gone Syntax.tyBool) (List._∷_ (10, Rows'.any-gone (Syntax.tyStruct (List._∷_ 102 (List._∷_ 111 (List._∷_ 114 (List._∷_ 109 (List._∷_ 117 (List._∷_ 108 (List._∷_ 97 (List._∷_ 58 (List._∷_ 58 (List._∷_ 101 (List._∷_ 110 (List._∷_ 116 (List._∷_ 114 (List._∷_ 121 (List._∷_ 58 (List._∷_ 58 (List._∷_ 69 (List._∷_ 110 (List._∷_ 116 (List._∷_ 114 (List._∷_ 121 List.[]))))))))))))))))))))) (Syntax.tcons (Syntax.tyEnum (List._∷_ 114 (List._∷_ 117 (List._∷_ 108 (List._∷_ 101 (List._∷_ 115 (List._∷_ 58 (List._∷_ 58 (List._∷_ 75 (List._∷_ 105 (List._∷_ 110 (List._∷_ 100 List.[]))))))))))) (Syntax.ttcons Syntax.tnil (Syntax.ttcons Syntax.tnil (Syntax.ttcons Syntax.tnil (Syntax.ttcons Syntax.tnil (Syntax.ttcons Syntax.tnil (Syntax.ttcons Syntax.tnil Syntax.ttnil))))))) (Syntax.tcons (Syntax.tyInt Syntax.w64) (Syntax.tcons (Syntax.tyInt Syntax.w64) (Syntax.tcons (Syntax.tyInt Syntax.w64) (Syntax.tcons (Syntax.tyInt Syntax.w64) (Syntax.tcons (Syntax.tyInt Syntax.w64) (Syntax.tcons (Syntax.tyInt Syntax.w64) (Syntax.tcons (Syntax.tyInt Syntax.w64) (Syntax.tcons (Syntax.tyInt Syntax.w64) Syntax.tnil))))))))))) (List._∷_ (11, Rows'.any-gone Syntax.tyUnit) (List._∷_ (12, Rows'.any-gone (Syntax.tyRef Syntax.erased Syntax.mut TallyKit.behind)) List.[]))))))))))))
 
 abbrev pub t9 : List.List Row.Entry
-t9 = List._∷_ (0, Rows'.any-gone (TallyKit.plain-ty)) (List._∷_ (1, Rows'.sslice (Referent.rtF (Referent.fInt Syntax.w8)) (Syntax.tyRef (Syntax.named 0) Syntax.imm (Syntax.tyInt Syntax.w8)) 0) (List._∷_ (2, Rows'.sc-here (Row.sInt Syntax.w64)) (List._∷_ (3, TallyKit.row) (List._∷_ (4, Rows'.sc-here (Row.sInt Syntax.w64)) (List._∷_ (5, Rows'.sc-here (Row.sInt Syntax.w64)) (List._∷_ (6, Rows'.sc-here (Row.sInt Syntax.w64)) (List._∷_ (7, Rows'.any-gone (Syntax.tyInt Syntax.w64)) (List._∷_ (8, Rows'.any-gone (TallyKit.plain-ty)) (List._∷_ (9, Rows'.any-gone Syntax.tyBool) (List._∷_ (10, Rows'.any-gone (Syntax.tyStruct (List._∷_ 102 (List._∷_ 111 (List._∷_ 114 (List._∷_ 109 (List._∷_ 117 (List._∷_ 108 (List._∷_ 97 (List._∷_ 58 (List._∷_ 58 (List._∷_ 101 (List._∷_ 110 (List._∷_ 116 (List._∷_ 114 (List._∷_ 121 (List._∷_ 58 (List._∷_ 58 (List._∷_ 69 (List._∷_ 110 (List._∷_ 116 (List._∷_ 114 (List._∷_ 121 List.[]))))))))))))))))))))) (Syntax.tcons (Syntax.tyEnum (List._∷_ 114 (List._∷_ 117 (List._∷_ 108 (List._∷_ 101 (List._∷_ 115 (List._∷_ 58 (List._∷_ 58 (List._∷_ 75 (List._∷_ 105 (List._∷_ 110 (List._∷_ 100 List.[]))))))))))) (Syntax.ttcons Syntax.tnil (Syntax.ttcons Syntax.tnil (Syntax.ttcons Syntax.tnil (Syntax.ttcons Syntax.tnil (Syntax.ttcons Syntax.tnil (Syntax.ttcons Syntax.tnil Syntax.ttnil))))))) (Syntax.tcons (Syntax.tyInt Syntax.w64) (Syntax.tcons (Syntax.tyInt Syntax.w64) (Syntax.tcons (Syntax.tyInt Syntax.w64) (Syntax.tcons (Syntax.tyInt Syntax.w64) (Syntax.tcons (Syntax.tyInt Syntax.w64) (Syntax.tcons (Syntax.tyInt Syntax.w64) (Syntax.tcons (Syntax.tyInt Syntax.w64) (Syntax.tcons (Syntax.tyInt Syntax.w64) Syntax.tnil))))))))))) (List._∷_ (11, Rows'.any-gone Syntax.tyUnit) (List._∷_ (12, Rows'.any-gone (Syntax.tyRef Syntax.erased Syntax.mut TallyKit.behind)) List.[]))))))))))))
+t9 = List._∷_ (0, Rows'.any-gone (TallyKit.plain-ty)) (List._∷_ (1, Rows'.sslice (Referent.rtF (Referent.fInt Syntax.w8)) (Syntax.tyRef (Syntax.named 0) Syntax.imm (Syntax.tyInt Syntax.w8)) 0) (List._∷_ (2, Rows'.sc-here (Row.sInt Syntax.w64)) (List._∷_ (3, TallyKit.row) (List._∷_ (4, Rows'.sc-here (Row.sInt Syntax.w64)) (List._∷_ (5, Rows'.sc-here (Row.sInt Syntax.w64)) (List._∷_ (6, Rows'.sc-here (Row.sInt Syntax.w32)) (List._∷_ (7, Rows'.any-gone (Syntax.tyInt Syntax.w64)) (List._∷_ (8, Rows'.any-gone (TallyKit.plain-ty)) (List._∷_ (9, Rows'.any-gone Syntax.tyBool) (List._∷_ (10, Rows'.any-gone (Syntax.tyStruct (List._∷_ 102 (List._∷_ 111 (List._∷_ 114 (List._∷_ 109 (List._∷_ 117 (List._∷_ 108 (List._∷_ 97 (List._∷_ 58 (List._∷_ 58 (List._∷_ 101 (List._∷_ 110 (List._∷_ 116 (List._∷_ 114 (List._∷_ 121 (List._∷_ 58 (List._∷_ 58 (List._∷_ 69 (List._∷_ 110 (List._∷_ 116 (List._∷_ 114 (List._∷_ 121 List.[]))))))))))))))))))))) (Syntax.tcons (Syntax.tyEnum (List._∷_ 114 (List._∷_ 117 (List._∷_ 108 (List._∷_ 101 (List._∷_ 115 (List._∷_ 58 (List._∷_ 58 (List._∷_ 75 (List._∷_ 105 (List._∷_ 110 (List._∷_ 100 List.[]))))))))))) (Syntax.ttcons Syntax.tnil (Syntax.ttcons Syntax.tnil (Syntax.ttcons Syntax.tnil (Syntax.ttcons Syntax.tnil (Syntax.ttcons Syntax.tnil (Syntax.ttcons Syntax.tnil Syntax.ttnil))))))) (Syntax.tcons (Syntax.tyInt Syntax.w64) (Syntax.tcons (Syntax.tyInt Syntax.w64) (Syntax.tcons (Syntax.tyInt Syntax.w64) (Syntax.tcons (Syntax.tyInt Syntax.w64) (Syntax.tcons (Syntax.tyInt Syntax.w64) (Syntax.tcons (Syntax.tyInt Syntax.w64) (Syntax.tcons (Syntax.tyInt Syntax.w64) (Syntax.tcons (Syntax.tyInt Syntax.w64) Syntax.tnil))))))))))) (List._∷_ (11, Rows'.any-gone Syntax.tyUnit) (List._∷_ (12, Rows'.any-gone (Syntax.tyRef Syntax.erased Syntax.mut TallyKit.behind)) List.[]))))))))))))
 
 abbrev pub t10 : List.List Row.Entry
-t10 = List._∷_ (0, Rows'.any-gone (TallyKit.plain-ty)) (List._∷_ (1, Rows'.sslice (Referent.rtF (Referent.fInt Syntax.w8)) (Syntax.tyRef (Syntax.named 0) Syntax.imm (Syntax.tyInt Syntax.w8)) 0) (List._∷_ (2, Rows'.sc-here (Row.sInt Syntax.w64)) (List._∷_ (3, TallyKit.row) (List._∷_ (4, Rows'.sc-here (Row.sInt Syntax.w64)) (List._∷_ (5, Rows'.sc-here (Row.sInt Syntax.w64)) (List._∷_ (6, Rows'.sc-here (Row.sInt Syntax.w64)) (List._∷_ (7, Rows'.any-gone (Syntax.tyInt Syntax.w64)) (List._∷_ (8, Rows'.any-gone (TallyKit.plain-ty)) (List._∷_ (9, Rows'.any-gone Syntax.tyBool) (List._∷_ (10, Rows'.whole (Declared.row Entry.the-type)) (List._∷_ (11, Rows'.any-gone Syntax.tyUnit) (List._∷_ (12, Rows'.any-gone (Syntax.tyRef Syntax.erased Syntax.mut TallyKit.behind)) List.[]))))))))))))
+t10 = List._∷_ (0, Rows'.any-gone (TallyKit.plain-ty)) (List._∷_ (1, Rows'.sslice (Referent.rtF (Referent.fInt Syntax.w8)) (Syntax.tyRef (Syntax.named 0) Syntax.imm (Syntax.tyInt Syntax.w8)) 0) (List._∷_ (2, Rows'.sc-here (Row.sInt Syntax.w64)) (List._∷_ (3, TallyKit.row) (List._∷_ (4, Rows'.sc-here (Row.sInt Syntax.w64)) (List._∷_ (5, Rows'.sc-here (Row.sInt Syntax.w64)) (List._∷_ (6, Rows'.sc-here (Row.sInt Syntax.w32)) (List._∷_ (7, Rows'.any-gone (Syntax.tyInt Syntax.w64)) (List._∷_ (8, Rows'.any-gone (TallyKit.plain-ty)) (List._∷_ (9, Rows'.any-gone Syntax.tyBool) (List._∷_ (10, Rows'.whole (Declared.row Entry.the-type)) (List._∷_ (11, Rows'.any-gone Syntax.tyUnit) (List._∷_ (12, Rows'.any-gone (Syntax.tyRef Syntax.erased Syntax.mut TallyKit.behind)) List.[]))))))))))))
 
 abbrev pub t11 : List.List Row.Entry
-t11 = List._∷_ (0, Rows'.any-gone (TallyKit.plain-ty)) (List._∷_ (1, Rows'.sslice (Referent.rtF (Referent.fInt Syntax.w8)) (Syntax.tyRef (Syntax.named 0) Syntax.imm (Syntax.tyInt Syntax.w8)) 0) (List._∷_ (2, Rows'.sc-here (Row.sInt Syntax.w64)) (List._∷_ (3, TallyKit.row) (List._∷_ (4, Rows'.sc-here (Row.sInt Syntax.w64)) (List._∷_ (5, Rows'.sc-here (Row.sInt Syntax.w64)) (List._∷_ (6, Rows'.sc-here (Row.sInt Syntax.w64)) (List._∷_ (7, Rows'.sc-here (Row.sInt Syntax.w64)) (List._∷_ (8, Rows'.any-gone (TallyKit.plain-ty)) (List._∷_ (9, Rows'.any-gone Syntax.tyBool) (List._∷_ (10, Rows'.whole (Declared.row Entry.the-type)) (List._∷_ (11, Rows'.any-gone Syntax.tyUnit) (List._∷_ (12, Rows'.any-gone (Syntax.tyRef Syntax.erased Syntax.mut TallyKit.behind)) List.[]))))))))))))
+t11 = List._∷_ (0, Rows'.any-gone (TallyKit.plain-ty)) (List._∷_ (1, Rows'.sslice (Referent.rtF (Referent.fInt Syntax.w8)) (Syntax.tyRef (Syntax.named 0) Syntax.imm (Syntax.tyInt Syntax.w8)) 0) (List._∷_ (2, Rows'.sc-here (Row.sInt Syntax.w64)) (List._∷_ (3, TallyKit.row) (List._∷_ (4, Rows'.sc-here (Row.sInt Syntax.w64)) (List._∷_ (5, Rows'.sc-here (Row.sInt Syntax.w64)) (List._∷_ (6, Rows'.sc-here (Row.sInt Syntax.w32)) (List._∷_ (7, Rows'.sc-here (Row.sInt Syntax.w64)) (List._∷_ (8, Rows'.any-gone (TallyKit.plain-ty)) (List._∷_ (9, Rows'.any-gone Syntax.tyBool) (List._∷_ (10, Rows'.whole (Declared.row Entry.the-type)) (List._∷_ (11, Rows'.any-gone Syntax.tyUnit) (List._∷_ (12, Rows'.any-gone (Syntax.tyRef Syntax.erased Syntax.mut TallyKit.behind)) List.[]))))))))))))
 
 abbrev pub t12 : List.List Row.Entry
-t12 = List._∷_ (0, Rows'.any-gone (TallyKit.plain-ty)) (List._∷_ (1, Rows'.sslice (Referent.rtF (Referent.fInt Syntax.w8)) (Syntax.tyRef (Syntax.named 0) Syntax.imm (Syntax.tyInt Syntax.w8)) 0) (List._∷_ (2, Rows'.sc-here (Row.sInt Syntax.w64)) (List._∷_ (3, TallyKit.row) (List._∷_ (4, Rows'.sc-here (Row.sInt Syntax.w64)) (List._∷_ (5, Rows'.sc-here (Row.sInt Syntax.w64)) (List._∷_ (6, Rows'.sc-here (Row.sInt Syntax.w64)) (List._∷_ (7, Rows'.sc-here (Row.sInt Syntax.w64)) (List._∷_ (8, Rows'.any-gone (TallyKit.plain-ty)) (List._∷_ (9, Rows'.any-gone Syntax.tyBool) (List._∷_ (10, Rows'.any-gone (Syntax.tyStruct (List._∷_ 102 (List._∷_ 111 (List._∷_ 114 (List._∷_ 109 (List._∷_ 117 (List._∷_ 108 (List._∷_ 97 (List._∷_ 58 (List._∷_ 58 (List._∷_ 101 (List._∷_ 110 (List._∷_ 116 (List._∷_ 114 (List._∷_ 121 (List._∷_ 58 (List._∷_ 58 (List._∷_ 69 (List._∷_ 110 (List._∷_ 116 (List._∷_ 114 (List._∷_ 121 List.[]))))))))))))))))))))) (Syntax.tcons (Syntax.tyEnum (List._∷_ 114 (List._∷_ 117 (List._∷_ 108 (List._∷_ 101 (List._∷_ 115 (List._∷_ 58 (List._∷_ 58 (List._∷_ 75 (List._∷_ 105 (List._∷_ 110 (List._∷_ 100 List.[]))))))))))) (Syntax.ttcons Syntax.tnil (Syntax.ttcons Syntax.tnil (Syntax.ttcons Syntax.tnil (Syntax.ttcons Syntax.tnil (Syntax.ttcons Syntax.tnil (Syntax.ttcons Syntax.tnil Syntax.ttnil))))))) (Syntax.tcons (Syntax.tyInt Syntax.w64) (Syntax.tcons (Syntax.tyInt Syntax.w64) (Syntax.tcons (Syntax.tyInt Syntax.w64) (Syntax.tcons (Syntax.tyInt Syntax.w64) (Syntax.tcons (Syntax.tyInt Syntax.w64) (Syntax.tcons (Syntax.tyInt Syntax.w64) (Syntax.tcons (Syntax.tyInt Syntax.w64) (Syntax.tcons (Syntax.tyInt Syntax.w64) Syntax.tnil))))))))))) (List._∷_ (11, Rows'.any-gone Syntax.tyUnit) (List._∷_ (12, Rows'.any-gone (Syntax.tyRef Syntax.erased Syntax.mut TallyKit.behind)) List.[]))))))))))))
+t12 = List._∷_ (0, Rows'.any-gone (TallyKit.plain-ty)) (List._∷_ (1, Rows'.sslice (Referent.rtF (Referent.fInt Syntax.w8)) (Syntax.tyRef (Syntax.named 0) Syntax.imm (Syntax.tyInt Syntax.w8)) 0) (List._∷_ (2, Rows'.sc-here (Row.sInt Syntax.w64)) (List._∷_ (3, TallyKit.row) (List._∷_ (4, Rows'.sc-here (Row.sInt Syntax.w64)) (List._∷_ (5, Rows'.sc-here (Row.sInt Syntax.w64)) (List._∷_ (6, Rows'.sc-here (Row.sInt Syntax.w32)) (List._∷_ (7, Rows'.sc-here (Row.sInt Syntax.w64)) (List._∷_ (8, Rows'.any-gone (TallyKit.plain-ty)) (List._∷_ (9, Rows'.any-gone Syntax.tyBool) (List._∷_ (10, Rows'.any-gone (Syntax.tyStruct (List._∷_ 102 (List._∷_ 111 (List._∷_ 114 (List._∷_ 109 (List._∷_ 117 (List._∷_ 108 (List._∷_ 97 (List._∷_ 58 (List._∷_ 58 (List._∷_ 101 (List._∷_ 110 (List._∷_ 116 (List._∷_ 114 (List._∷_ 121 (List._∷_ 58 (List._∷_ 58 (List._∷_ 69 (List._∷_ 110 (List._∷_ 116 (List._∷_ 114 (List._∷_ 121 List.[]))))))))))))))))))))) (Syntax.tcons (Syntax.tyEnum (List._∷_ 114 (List._∷_ 117 (List._∷_ 108 (List._∷_ 101 (List._∷_ 115 (List._∷_ 58 (List._∷_ 58 (List._∷_ 75 (List._∷_ 105 (List._∷_ 110 (List._∷_ 100 List.[]))))))))))) (Syntax.ttcons Syntax.tnil (Syntax.ttcons Syntax.tnil (Syntax.ttcons Syntax.tnil (Syntax.ttcons Syntax.tnil (Syntax.ttcons Syntax.tnil (Syntax.ttcons Syntax.tnil Syntax.ttnil))))))) (Syntax.tcons (Syntax.tyInt Syntax.w64) (Syntax.tcons (Syntax.tyInt Syntax.w64) (Syntax.tcons (Syntax.tyInt Syntax.w64) (Syntax.tcons (Syntax.tyInt Syntax.w64) (Syntax.tcons (Syntax.tyInt Syntax.w64) (Syntax.tcons (Syntax.tyInt Syntax.w64) (Syntax.tcons (Syntax.tyInt Syntax.w64) (Syntax.tcons (Syntax.tyInt Syntax.w64) Syntax.tnil))))))))))) (List._∷_ (11, Rows'.any-gone Syntax.tyUnit) (List._∷_ (12, Rows'.any-gone (Syntax.tyRef Syntax.erased Syntax.mut TallyKit.behind)) List.[]))))))))))))
 
 abbrev pub t13 : List.List Row.Entry
-t13 = List._∷_ (0, Rows'.any-gone (TallyKit.plain-ty)) (List._∷_ (1, Rows'.sslice (Referent.rtF (Referent.fInt Syntax.w8)) (Syntax.tyRef (Syntax.named 0) Syntax.imm (Syntax.tyInt Syntax.w8)) 0) (List._∷_ (2, Rows'.sc-here (Row.sInt Syntax.w64)) (List._∷_ (3, Rows'.sc-owed (TallyKit.R) 1) (List._∷_ (4, Rows'.sc-here (Row.sInt Syntax.w64)) (List._∷_ (5, Rows'.sc-here (Row.sInt Syntax.w64)) (List._∷_ (6, Rows'.sc-here (Row.sInt Syntax.w64)) (List._∷_ (7, Rows'.sc-here (Row.sInt Syntax.w64)) (List._∷_ (8, Rows'.any-gone (TallyKit.plain-ty)) (List._∷_ (9, Rows'.any-gone Syntax.tyBool) (List._∷_ (10, Rows'.any-gone (Syntax.tyStruct (List._∷_ 102 (List._∷_ 111 (List._∷_ 114 (List._∷_ 109 (List._∷_ 117 (List._∷_ 108 (List._∷_ 97 (List._∷_ 58 (List._∷_ 58 (List._∷_ 101 (List._∷_ 110 (List._∷_ 116 (List._∷_ 114 (List._∷_ 121 (List._∷_ 58 (List._∷_ 58 (List._∷_ 69 (List._∷_ 110 (List._∷_ 116 (List._∷_ 114 (List._∷_ 121 List.[]))))))))))))))))))))) (Syntax.tcons (Syntax.tyEnum (List._∷_ 114 (List._∷_ 117 (List._∷_ 108 (List._∷_ 101 (List._∷_ 115 (List._∷_ 58 (List._∷_ 58 (List._∷_ 75 (List._∷_ 105 (List._∷_ 110 (List._∷_ 100 List.[]))))))))))) (Syntax.ttcons Syntax.tnil (Syntax.ttcons Syntax.tnil (Syntax.ttcons Syntax.tnil (Syntax.ttcons Syntax.tnil (Syntax.ttcons Syntax.tnil (Syntax.ttcons Syntax.tnil Syntax.ttnil))))))) (Syntax.tcons (Syntax.tyInt Syntax.w64) (Syntax.tcons (Syntax.tyInt Syntax.w64) (Syntax.tcons (Syntax.tyInt Syntax.w64) (Syntax.tcons (Syntax.tyInt Syntax.w64) (Syntax.tcons (Syntax.tyInt Syntax.w64) (Syntax.tcons (Syntax.tyInt Syntax.w64) (Syntax.tcons (Syntax.tyInt Syntax.w64) (Syntax.tcons (Syntax.tyInt Syntax.w64) Syntax.tnil))))))))))) (List._∷_ (11, Rows'.any-gone Syntax.tyUnit) (List._∷_ (12, Rows'.mref (TallyKit.R) (Syntax.tyRef Syntax.erased Syntax.mut TallyKit.behind) 1) List.[]))))))))))))
+t13 = List._∷_ (0, Rows'.any-gone (TallyKit.plain-ty)) (List._∷_ (1, Rows'.sslice (Referent.rtF (Referent.fInt Syntax.w8)) (Syntax.tyRef (Syntax.named 0) Syntax.imm (Syntax.tyInt Syntax.w8)) 0) (List._∷_ (2, Rows'.sc-here (Row.sInt Syntax.w64)) (List._∷_ (3, Rows'.sc-owed (TallyKit.R) 1) (List._∷_ (4, Rows'.sc-here (Row.sInt Syntax.w64)) (List._∷_ (5, Rows'.sc-here (Row.sInt Syntax.w64)) (List._∷_ (6, Rows'.sc-here (Row.sInt Syntax.w32)) (List._∷_ (7, Rows'.sc-here (Row.sInt Syntax.w64)) (List._∷_ (8, Rows'.any-gone (TallyKit.plain-ty)) (List._∷_ (9, Rows'.any-gone Syntax.tyBool) (List._∷_ (10, Rows'.any-gone (Syntax.tyStruct (List._∷_ 102 (List._∷_ 111 (List._∷_ 114 (List._∷_ 109 (List._∷_ 117 (List._∷_ 108 (List._∷_ 97 (List._∷_ 58 (List._∷_ 58 (List._∷_ 101 (List._∷_ 110 (List._∷_ 116 (List._∷_ 114 (List._∷_ 121 (List._∷_ 58 (List._∷_ 58 (List._∷_ 69 (List._∷_ 110 (List._∷_ 116 (List._∷_ 114 (List._∷_ 121 List.[]))))))))))))))))))))) (Syntax.tcons (Syntax.tyEnum (List._∷_ 114 (List._∷_ 117 (List._∷_ 108 (List._∷_ 101 (List._∷_ 115 (List._∷_ 58 (List._∷_ 58 (List._∷_ 75 (List._∷_ 105 (List._∷_ 110 (List._∷_ 100 List.[]))))))))))) (Syntax.ttcons Syntax.tnil (Syntax.ttcons Syntax.tnil (Syntax.ttcons Syntax.tnil (Syntax.ttcons Syntax.tnil (Syntax.ttcons Syntax.tnil (Syntax.ttcons Syntax.tnil Syntax.ttnil))))))) (Syntax.tcons (Syntax.tyInt Syntax.w64) (Syntax.tcons (Syntax.tyInt Syntax.w64) (Syntax.tcons (Syntax.tyInt Syntax.w64) (Syntax.tcons (Syntax.tyInt Syntax.w64) (Syntax.tcons (Syntax.tyInt Syntax.w64) (Syntax.tcons (Syntax.tyInt Syntax.w64) (Syntax.tcons (Syntax.tyInt Syntax.w64) (Syntax.tcons (Syntax.tyInt Syntax.w64) Syntax.tnil))))))))))) (List._∷_ (11, Rows'.any-gone Syntax.tyUnit) (List._∷_ (12, Rows'.mref (TallyKit.R) (Syntax.tyRef Syntax.erased Syntax.mut TallyKit.behind) 1) List.[]))))))))))))
 
 abbrev pub t14 : List.List Row.Entry
-t14 = List._∷_ (0, Rows'.any-gone (TallyKit.plain-ty)) (List._∷_ (1, Rows'.sslice (Referent.rtF (Referent.fInt Syntax.w8)) (Syntax.tyRef (Syntax.named 0) Syntax.imm (Syntax.tyInt Syntax.w8)) 0) (List._∷_ (2, Rows'.sc-here (Row.sInt Syntax.w64)) (List._∷_ (3, Rows'.sc-owed (TallyKit.R) 1) (List._∷_ (4, Rows'.sc-here (Row.sInt Syntax.w64)) (List._∷_ (5, Rows'.sc-here (Row.sInt Syntax.w64)) (List._∷_ (6, Rows'.sc-here (Row.sInt Syntax.w64)) (List._∷_ (7, Rows'.sc-here (Row.sInt Syntax.w64)) (List._∷_ (8, Rows'.any-gone (TallyKit.plain-ty)) (List._∷_ (9, Rows'.any-gone Syntax.tyBool) (List._∷_ (10, Rows'.any-gone (Syntax.tyStruct (List._∷_ 102 (List._∷_ 111 (List._∷_ 114 (List._∷_ 109 (List._∷_ 117 (List._∷_ 108 (List._∷_ 97 (List._∷_ 58 (List._∷_ 58 (List._∷_ 101 (List._∷_ 110 (List._∷_ 116 (List._∷_ 114 (List._∷_ 121 (List._∷_ 58 (List._∷_ 58 (List._∷_ 69 (List._∷_ 110 (List._∷_ 116 (List._∷_ 114 (List._∷_ 121 List.[]))))))))))))))))))))) (Syntax.tcons (Syntax.tyEnum (List._∷_ 114 (List._∷_ 117 (List._∷_ 108 (List._∷_ 101 (List._∷_ 115 (List._∷_ 58 (List._∷_ 58 (List._∷_ 75 (List._∷_ 105 (List._∷_ 110 (List._∷_ 100 List.[]))))))))))) (Syntax.ttcons Syntax.tnil (Syntax.ttcons Syntax.tnil (Syntax.ttcons Syntax.tnil (Syntax.ttcons Syntax.tnil (Syntax.ttcons Syntax.tnil (Syntax.ttcons Syntax.tnil Syntax.ttnil))))))) (Syntax.tcons (Syntax.tyInt Syntax.w64) (Syntax.tcons (Syntax.tyInt Syntax.w64) (Syntax.tcons (Syntax.tyInt Syntax.w64) (Syntax.tcons (Syntax.tyInt Syntax.w64) (Syntax.tcons (Syntax.tyInt Syntax.w64) (Syntax.tcons (Syntax.tyInt Syntax.w64) (Syntax.tcons (Syntax.tyInt Syntax.w64) (Syntax.tcons (Syntax.tyInt Syntax.w64) Syntax.tnil))))))))))) (List._∷_ (11, Rows'.sc-here Row.sUnit) (List._∷_ (12, Rows'.mleft (TallyKit.R) (Syntax.tyRef Syntax.erased Syntax.mut TallyKit.behind)) List.[]))))))))))))
+t14 = List._∷_ (0, Rows'.any-gone (TallyKit.plain-ty)) (List._∷_ (1, Rows'.sslice (Referent.rtF (Referent.fInt Syntax.w8)) (Syntax.tyRef (Syntax.named 0) Syntax.imm (Syntax.tyInt Syntax.w8)) 0) (List._∷_ (2, Rows'.sc-here (Row.sInt Syntax.w64)) (List._∷_ (3, Rows'.sc-owed (TallyKit.R) 1) (List._∷_ (4, Rows'.sc-here (Row.sInt Syntax.w64)) (List._∷_ (5, Rows'.sc-here (Row.sInt Syntax.w64)) (List._∷_ (6, Rows'.sc-here (Row.sInt Syntax.w32)) (List._∷_ (7, Rows'.sc-here (Row.sInt Syntax.w64)) (List._∷_ (8, Rows'.any-gone (TallyKit.plain-ty)) (List._∷_ (9, Rows'.any-gone Syntax.tyBool) (List._∷_ (10, Rows'.any-gone (Syntax.tyStruct (List._∷_ 102 (List._∷_ 111 (List._∷_ 114 (List._∷_ 109 (List._∷_ 117 (List._∷_ 108 (List._∷_ 97 (List._∷_ 58 (List._∷_ 58 (List._∷_ 101 (List._∷_ 110 (List._∷_ 116 (List._∷_ 114 (List._∷_ 121 (List._∷_ 58 (List._∷_ 58 (List._∷_ 69 (List._∷_ 110 (List._∷_ 116 (List._∷_ 114 (List._∷_ 121 List.[]))))))))))))))))))))) (Syntax.tcons (Syntax.tyEnum (List._∷_ 114 (List._∷_ 117 (List._∷_ 108 (List._∷_ 101 (List._∷_ 115 (List._∷_ 58 (List._∷_ 58 (List._∷_ 75 (List._∷_ 105 (List._∷_ 110 (List._∷_ 100 List.[]))))))))))) (Syntax.ttcons Syntax.tnil (Syntax.ttcons Syntax.tnil (Syntax.ttcons Syntax.tnil (Syntax.ttcons Syntax.tnil (Syntax.ttcons Syntax.tnil (Syntax.ttcons Syntax.tnil Syntax.ttnil))))))) (Syntax.tcons (Syntax.tyInt Syntax.w64) (Syntax.tcons (Syntax.tyInt Syntax.w64) (Syntax.tcons (Syntax.tyInt Syntax.w64) (Syntax.tcons (Syntax.tyInt Syntax.w64) (Syntax.tcons (Syntax.tyInt Syntax.w64) (Syntax.tcons (Syntax.tyInt Syntax.w64) (Syntax.tcons (Syntax.tyInt Syntax.w64) (Syntax.tcons (Syntax.tyInt Syntax.w64) Syntax.tnil))))))))))) (List._∷_ (11, Rows'.sc-here Row.sUnit) (List._∷_ (12, Rows'.mleft (TallyKit.R) (Syntax.tyRef Syntax.erased Syntax.mut TallyKit.behind)) List.[]))))))))))))
 
 abbrev pub t15 : List.List Row.Entry
-t15 = List._∷_ (0, Rows'.any-gone (TallyKit.plain-ty)) (List._∷_ (1, Rows'.sslice (Referent.rtF (Referent.fInt Syntax.w8)) (Syntax.tyRef (Syntax.named 0) Syntax.imm (Syntax.tyInt Syntax.w8)) 0) (List._∷_ (2, Rows'.sc-here (Row.sInt Syntax.w64)) (List._∷_ (3, Rows'.sc-owed (TallyKit.R) 1) (List._∷_ (4, Rows'.sc-here (Row.sInt Syntax.w64)) (List._∷_ (5, Rows'.sc-here (Row.sInt Syntax.w64)) (List._∷_ (6, Rows'.sc-here (Row.sInt Syntax.w64)) (List._∷_ (7, Rows'.sc-here (Row.sInt Syntax.w64)) (List._∷_ (8, Rows'.any-gone (TallyKit.plain-ty)) (List._∷_ (9, Rows'.any-gone Syntax.tyBool) (List._∷_ (10, Rows'.any-gone (Syntax.tyStruct (List._∷_ 102 (List._∷_ 111 (List._∷_ 114 (List._∷_ 109 (List._∷_ 117 (List._∷_ 108 (List._∷_ 97 (List._∷_ 58 (List._∷_ 58 (List._∷_ 101 (List._∷_ 110 (List._∷_ 116 (List._∷_ 114 (List._∷_ 121 (List._∷_ 58 (List._∷_ 58 (List._∷_ 69 (List._∷_ 110 (List._∷_ 116 (List._∷_ 114 (List._∷_ 121 List.[]))))))))))))))))))))) (Syntax.tcons (Syntax.tyEnum (List._∷_ 114 (List._∷_ 117 (List._∷_ 108 (List._∷_ 101 (List._∷_ 115 (List._∷_ 58 (List._∷_ 58 (List._∷_ 75 (List._∷_ 105 (List._∷_ 110 (List._∷_ 100 List.[]))))))))))) (Syntax.ttcons Syntax.tnil (Syntax.ttcons Syntax.tnil (Syntax.ttcons Syntax.tnil (Syntax.ttcons Syntax.tnil (Syntax.ttcons Syntax.tnil (Syntax.ttcons Syntax.tnil Syntax.ttnil))))))) (Syntax.tcons (Syntax.tyInt Syntax.w64) (Syntax.tcons (Syntax.tyInt Syntax.w64) (Syntax.tcons (Syntax.tyInt Syntax.w64) (Syntax.tcons (Syntax.tyInt Syntax.w64) (Syntax.tcons (Syntax.tyInt Syntax.w64) (Syntax.tcons (Syntax.tyInt Syntax.w64) (Syntax.tcons (Syntax.tyInt Syntax.w64) (Syntax.tcons (Syntax.tyInt Syntax.w64) Syntax.tnil))))))))))) (List._∷_ (11, Rows'.any-gone Syntax.tyUnit) (List._∷_ (12, Rows'.mleft (TallyKit.R) (Syntax.tyRef Syntax.erased Syntax.mut TallyKit.behind)) List.[]))))))))))))
+t15 = List._∷_ (0, Rows'.any-gone (TallyKit.plain-ty)) (List._∷_ (1, Rows'.sslice (Referent.rtF (Referent.fInt Syntax.w8)) (Syntax.tyRef (Syntax.named 0) Syntax.imm (Syntax.tyInt Syntax.w8)) 0) (List._∷_ (2, Rows'.sc-here (Row.sInt Syntax.w64)) (List._∷_ (3, Rows'.sc-owed (TallyKit.R) 1) (List._∷_ (4, Rows'.sc-here (Row.sInt Syntax.w64)) (List._∷_ (5, Rows'.sc-here (Row.sInt Syntax.w64)) (List._∷_ (6, Rows'.sc-here (Row.sInt Syntax.w32)) (List._∷_ (7, Rows'.sc-here (Row.sInt Syntax.w64)) (List._∷_ (8, Rows'.any-gone (TallyKit.plain-ty)) (List._∷_ (9, Rows'.any-gone Syntax.tyBool) (List._∷_ (10, Rows'.any-gone (Syntax.tyStruct (List._∷_ 102 (List._∷_ 111 (List._∷_ 114 (List._∷_ 109 (List._∷_ 117 (List._∷_ 108 (List._∷_ 97 (List._∷_ 58 (List._∷_ 58 (List._∷_ 101 (List._∷_ 110 (List._∷_ 116 (List._∷_ 114 (List._∷_ 121 (List._∷_ 58 (List._∷_ 58 (List._∷_ 69 (List._∷_ 110 (List._∷_ 116 (List._∷_ 114 (List._∷_ 121 List.[]))))))))))))))))))))) (Syntax.tcons (Syntax.tyEnum (List._∷_ 114 (List._∷_ 117 (List._∷_ 108 (List._∷_ 101 (List._∷_ 115 (List._∷_ 58 (List._∷_ 58 (List._∷_ 75 (List._∷_ 105 (List._∷_ 110 (List._∷_ 100 List.[]))))))))))) (Syntax.ttcons Syntax.tnil (Syntax.ttcons Syntax.tnil (Syntax.ttcons Syntax.tnil (Syntax.ttcons Syntax.tnil (Syntax.ttcons Syntax.tnil (Syntax.ttcons Syntax.tnil Syntax.ttnil))))))) (Syntax.tcons (Syntax.tyInt Syntax.w64) (Syntax.tcons (Syntax.tyInt Syntax.w64) (Syntax.tcons (Syntax.tyInt Syntax.w64) (Syntax.tcons (Syntax.tyInt Syntax.w64) (Syntax.tcons (Syntax.tyInt Syntax.w64) (Syntax.tcons (Syntax.tyInt Syntax.w64) (Syntax.tcons (Syntax.tyInt Syntax.w64) (Syntax.tcons (Syntax.tyInt Syntax.w64) Syntax.tnil))))))))))) (List._∷_ (11, Rows'.any-gone Syntax.tyUnit) (List._∷_ (12, Rows'.mleft (TallyKit.R) (Syntax.tyRef Syntax.erased Syntax.mut TallyKit.behind)) List.[]))))))))))))
 
 abbrev pub t16 : List.List Row.Entry
-t16 = List._∷_ (0, Rows'.any-gone (TallyKit.plain-ty)) (List._∷_ (1, Rows'.sslice (Referent.rtF (Referent.fInt Syntax.w8)) (Syntax.tyRef (Syntax.named 0) Syntax.imm (Syntax.tyInt Syntax.w8)) 0) (List._∷_ (2, Rows'.sc-here (Row.sInt Syntax.w64)) (List._∷_ (3, TallyKit.row) (List._∷_ (4, Rows'.sc-here (Row.sInt Syntax.w64)) (List._∷_ (5, Rows'.any-gone (Syntax.tyInt Syntax.w64)) (List._∷_ (6, Rows'.sc-here (Row.sInt Syntax.w64)) (List._∷_ (7, Rows'.sc-here (Row.sInt Syntax.w64)) (List._∷_ (8, Rows'.any-gone (TallyKit.plain-ty)) (List._∷_ (9, Rows'.any-gone Syntax.tyBool) (List._∷_ (10, Rows'.any-gone (Syntax.tyStruct (List._∷_ 102 (List._∷_ 111 (List._∷_ 114 (List._∷_ 109 (List._∷_ 117 (List._∷_ 108 (List._∷_ 97 (List._∷_ 58 (List._∷_ 58 (List._∷_ 101 (List._∷_ 110 (List._∷_ 116 (List._∷_ 114 (List._∷_ 121 (List._∷_ 58 (List._∷_ 58 (List._∷_ 69 (List._∷_ 110 (List._∷_ 116 (List._∷_ 114 (List._∷_ 121 List.[]))))))))))))))))))))) (Syntax.tcons (Syntax.tyEnum (List._∷_ 114 (List._∷_ 117 (List._∷_ 108 (List._∷_ 101 (List._∷_ 115 (List._∷_ 58 (List._∷_ 58 (List._∷_ 75 (List._∷_ 105 (List._∷_ 110 (List._∷_ 100 List.[]))))))))))) (Syntax.ttcons Syntax.tnil (Syntax.ttcons Syntax.tnil (Syntax.ttcons Syntax.tnil (Syntax.ttcons Syntax.tnil (Syntax.ttcons Syntax.tnil (Syntax.ttcons Syntax.tnil Syntax.ttnil))))))) (Syntax.tcons (Syntax.tyInt Syntax.w64) (Syntax.tcons (Syntax.tyInt Syntax.w64) (Syntax.tcons (Syntax.tyInt Syntax.w64) (Syntax.tcons (Syntax.tyInt Syntax.w64) (Syntax.tcons (Syntax.tyInt Syntax.w64) (Syntax.tcons (Syntax.tyInt Syntax.w64) (Syntax.tcons (Syntax.tyInt Syntax.w64) (Syntax.tcons (Syntax.tyInt Syntax.w64) Syntax.tnil))))))))))) (List._∷_ (11, Rows'.any-gone Syntax.tyUnit) (List._∷_ (12, Rows'.any-gone (Syntax.tyRef Syntax.erased Syntax.mut TallyKit.behind)) List.[]))))))))))))
+t16 = List._∷_ (0, Rows'.any-gone (TallyKit.plain-ty)) (List._∷_ (1, Rows'.sslice (Referent.rtF (Referent.fInt Syntax.w8)) (Syntax.tyRef (Syntax.named 0) Syntax.imm (Syntax.tyInt Syntax.w8)) 0) (List._∷_ (2, Rows'.sc-here (Row.sInt Syntax.w64)) (List._∷_ (3, TallyKit.row) (List._∷_ (4, Rows'.sc-here (Row.sInt Syntax.w64)) (List._∷_ (5, Rows'.any-gone (Syntax.tyInt Syntax.w64)) (List._∷_ (6, Rows'.sc-here (Row.sInt Syntax.w32)) (List._∷_ (7, Rows'.sc-here (Row.sInt Syntax.w64)) (List._∷_ (8, Rows'.any-gone (TallyKit.plain-ty)) (List._∷_ (9, Rows'.any-gone Syntax.tyBool) (List._∷_ (10, Rows'.any-gone (Syntax.tyStruct (List._∷_ 102 (List._∷_ 111 (List._∷_ 114 (List._∷_ 109 (List._∷_ 117 (List._∷_ 108 (List._∷_ 97 (List._∷_ 58 (List._∷_ 58 (List._∷_ 101 (List._∷_ 110 (List._∷_ 116 (List._∷_ 114 (List._∷_ 121 (List._∷_ 58 (List._∷_ 58 (List._∷_ 69 (List._∷_ 110 (List._∷_ 116 (List._∷_ 114 (List._∷_ 121 List.[]))))))))))))))))))))) (Syntax.tcons (Syntax.tyEnum (List._∷_ 114 (List._∷_ 117 (List._∷_ 108 (List._∷_ 101 (List._∷_ 115 (List._∷_ 58 (List._∷_ 58 (List._∷_ 75 (List._∷_ 105 (List._∷_ 110 (List._∷_ 100 List.[]))))))))))) (Syntax.ttcons Syntax.tnil (Syntax.ttcons Syntax.tnil (Syntax.ttcons Syntax.tnil (Syntax.ttcons Syntax.tnil (Syntax.ttcons Syntax.tnil (Syntax.ttcons Syntax.tnil Syntax.ttnil))))))) (Syntax.tcons (Syntax.tyInt Syntax.w64) (Syntax.tcons (Syntax.tyInt Syntax.w64) (Syntax.tcons (Syntax.tyInt Syntax.w64) (Syntax.tcons (Syntax.tyInt Syntax.w64) (Syntax.tcons (Syntax.tyInt Syntax.w64) (Syntax.tcons (Syntax.tyInt Syntax.w64) (Syntax.tcons (Syntax.tyInt Syntax.w64) (Syntax.tcons (Syntax.tyInt Syntax.w64) Syntax.tnil))))))))))) (List._∷_ (11, Rows'.any-gone Syntax.tyUnit) (List._∷_ (12, Rows'.any-gone (Syntax.tyRef Syntax.erased Syntax.mut TallyKit.behind)) List.[]))))))))))))
 
 abbrev pub t17 : List.List Row.Entry
-t17 = List._∷_ (0, Rows'.any-gone (TallyKit.plain-ty)) (List._∷_ (1, Rows'.sslice (Referent.rtF (Referent.fInt Syntax.w8)) (Syntax.tyRef (Syntax.named 0) Syntax.imm (Syntax.tyInt Syntax.w8)) 0) (List._∷_ (2, Rows'.sc-here (Row.sInt Syntax.w64)) (List._∷_ (3, TallyKit.row) (List._∷_ (4, Rows'.sc-here (Row.sInt Syntax.w64)) (List._∷_ (5, Rows'.any-gone (Syntax.tyInt Syntax.w64)) (List._∷_ (6, Rows'.any-gone (Syntax.tyInt Syntax.w64)) (List._∷_ (7, Rows'.sc-here (Row.sInt Syntax.w64)) (List._∷_ (8, Rows'.any-gone (TallyKit.plain-ty)) (List._∷_ (9, Rows'.any-gone Syntax.tyBool) (List._∷_ (10, Rows'.any-gone (Syntax.tyStruct (List._∷_ 102 (List._∷_ 111 (List._∷_ 114 (List._∷_ 109 (List._∷_ 117 (List._∷_ 108 (List._∷_ 97 (List._∷_ 58 (List._∷_ 58 (List._∷_ 101 (List._∷_ 110 (List._∷_ 116 (List._∷_ 114 (List._∷_ 121 (List._∷_ 58 (List._∷_ 58 (List._∷_ 69 (List._∷_ 110 (List._∷_ 116 (List._∷_ 114 (List._∷_ 121 List.[]))))))))))))))))))))) (Syntax.tcons (Syntax.tyEnum (List._∷_ 114 (List._∷_ 117 (List._∷_ 108 (List._∷_ 101 (List._∷_ 115 (List._∷_ 58 (List._∷_ 58 (List._∷_ 75 (List._∷_ 105 (List._∷_ 110 (List._∷_ 100 List.[]))))))))))) (Syntax.ttcons Syntax.tnil (Syntax.ttcons Syntax.tnil (Syntax.ttcons Syntax.tnil (Syntax.ttcons Syntax.tnil (Syntax.ttcons Syntax.tnil (Syntax.ttcons Syntax.tnil Syntax.ttnil))))))) (Syntax.tcons (Syntax.tyInt Syntax.w64) (Syntax.tcons (Syntax.tyInt Syntax.w64) (Syntax.tcons (Syntax.tyInt Syntax.w64) (Syntax.tcons (Syntax.tyInt Syntax.w64) (Syntax.tcons (Syntax.tyInt Syntax.w64) (Syntax.tcons (Syntax.tyInt Syntax.w64) (Syntax.tcons (Syntax.tyInt Syntax.w64) (Syntax.tcons (Syntax.tyInt Syntax.w64) Syntax.tnil))))))))))) (List._∷_ (11, Rows'.any-gone Syntax.tyUnit) (List._∷_ (12, Rows'.any-gone (Syntax.tyRef Syntax.erased Syntax.mut TallyKit.behind)) List.[]))))))))))))
+t17 = List._∷_ (0, Rows'.any-gone (TallyKit.plain-ty)) (List._∷_ (1, Rows'.sslice (Referent.rtF (Referent.fInt Syntax.w8)) (Syntax.tyRef (Syntax.named 0) Syntax.imm (Syntax.tyInt Syntax.w8)) 0) (List._∷_ (2, Rows'.sc-here (Row.sInt Syntax.w64)) (List._∷_ (3, TallyKit.row) (List._∷_ (4, Rows'.sc-here (Row.sInt Syntax.w64)) (List._∷_ (5, Rows'.any-gone (Syntax.tyInt Syntax.w64)) (List._∷_ (6, Rows'.any-gone (Syntax.tyInt Syntax.w32)) (List._∷_ (7, Rows'.sc-here (Row.sInt Syntax.w64)) (List._∷_ (8, Rows'.any-gone (TallyKit.plain-ty)) (List._∷_ (9, Rows'.any-gone Syntax.tyBool) (List._∷_ (10, Rows'.any-gone (Syntax.tyStruct (List._∷_ 102 (List._∷_ 111 (List._∷_ 114 (List._∷_ 109 (List._∷_ 117 (List._∷_ 108 (List._∷_ 97 (List._∷_ 58 (List._∷_ 58 (List._∷_ 101 (List._∷_ 110 (List._∷_ 116 (List._∷_ 114 (List._∷_ 121 (List._∷_ 58 (List._∷_ 58 (List._∷_ 69 (List._∷_ 110 (List._∷_ 116 (List._∷_ 114 (List._∷_ 121 List.[]))))))))))))))))))))) (Syntax.tcons (Syntax.tyEnum (List._∷_ 114 (List._∷_ 117 (List._∷_ 108 (List._∷_ 101 (List._∷_ 115 (List._∷_ 58 (List._∷_ 58 (List._∷_ 75 (List._∷_ 105 (List._∷_ 110 (List._∷_ 100 List.[]))))))))))) (Syntax.ttcons Syntax.tnil (Syntax.ttcons Syntax.tnil (Syntax.ttcons Syntax.tnil (Syntax.ttcons Syntax.tnil (Syntax.ttcons Syntax.tnil (Syntax.ttcons Syntax.tnil Syntax.ttnil))))))) (Syntax.tcons (Syntax.tyInt Syntax.w64) (Syntax.tcons (Syntax.tyInt Syntax.w64) (Syntax.tcons (Syntax.tyInt Syntax.w64) (Syntax.tcons (Syntax.tyInt Syntax.w64) (Syntax.tcons (Syntax.tyInt Syntax.w64) (Syntax.tcons (Syntax.tyInt Syntax.w64) (Syntax.tcons (Syntax.tyInt Syntax.w64) (Syntax.tcons (Syntax.tyInt Syntax.w64) Syntax.tnil))))))))))) (List._∷_ (11, Rows'.any-gone Syntax.tyUnit) (List._∷_ (12, Rows'.any-gone (Syntax.tyRef Syntax.erased Syntax.mut TallyKit.behind)) List.[]))))))))))))
 
 abbrev pub t18 : List.List Row.Entry
-t18 = List._∷_ (0, TallyKit.row) (List._∷_ (1, Rows'.sslice (Referent.rtF (Referent.fInt Syntax.w8)) (Syntax.tyRef (Syntax.named 0) Syntax.imm (Syntax.tyInt Syntax.w8)) 0) (List._∷_ (2, Rows'.sc-here (Row.sInt Syntax.w64)) (List._∷_ (3, TallyKit.row) (List._∷_ (4, Rows'.sc-here (Row.sInt Syntax.w64)) (List._∷_ (5, Rows'.any-gone (Syntax.tyInt Syntax.w64)) (List._∷_ (6, Rows'.any-gone (Syntax.tyInt Syntax.w64)) (List._∷_ (7, Rows'.any-gone (Syntax.tyInt Syntax.w64)) (List._∷_ (8, Rows'.any-gone (TallyKit.plain-ty)) (List._∷_ (9, Rows'.any-gone Syntax.tyBool) (List._∷_ (10, Rows'.any-gone (Syntax.tyStruct (List._∷_ 102 (List._∷_ 111 (List._∷_ 114 (List._∷_ 109 (List._∷_ 117 (List._∷_ 108 (List._∷_ 97 (List._∷_ 58 (List._∷_ 58 (List._∷_ 101 (List._∷_ 110 (List._∷_ 116 (List._∷_ 114 (List._∷_ 121 (List._∷_ 58 (List._∷_ 58 (List._∷_ 69 (List._∷_ 110 (List._∷_ 116 (List._∷_ 114 (List._∷_ 121 List.[]))))))))))))))))))))) (Syntax.tcons (Syntax.tyEnum (List._∷_ 114 (List._∷_ 117 (List._∷_ 108 (List._∷_ 101 (List._∷_ 115 (List._∷_ 58 (List._∷_ 58 (List._∷_ 75 (List._∷_ 105 (List._∷_ 110 (List._∷_ 100 List.[]))))))))))) (Syntax.ttcons Syntax.tnil (Syntax.ttcons Syntax.tnil (Syntax.ttcons Syntax.tnil (Syntax.ttcons Syntax.tnil (Syntax.ttcons Syntax.tnil (Syntax.ttcons Syntax.tnil Syntax.ttnil))))))) (Syntax.tcons (Syntax.tyInt Syntax.w64) (Syntax.tcons (Syntax.tyInt Syntax.w64) (Syntax.tcons (Syntax.tyInt Syntax.w64) (Syntax.tcons (Syntax.tyInt Syntax.w64) (Syntax.tcons (Syntax.tyInt Syntax.w64) (Syntax.tcons (Syntax.tyInt Syntax.w64) (Syntax.tcons (Syntax.tyInt Syntax.w64) (Syntax.tcons (Syntax.tyInt Syntax.w64) Syntax.tnil))))))))))) (List._∷_ (11, Rows'.any-gone Syntax.tyUnit) (List._∷_ (12, Rows'.any-gone (Syntax.tyRef Syntax.erased Syntax.mut TallyKit.behind)) List.[]))))))))))))
+t18 = List._∷_ (0, TallyKit.row) (List._∷_ (1, Rows'.sslice (Referent.rtF (Referent.fInt Syntax.w8)) (Syntax.tyRef (Syntax.named 0) Syntax.imm (Syntax.tyInt Syntax.w8)) 0) (List._∷_ (2, Rows'.sc-here (Row.sInt Syntax.w64)) (List._∷_ (3, TallyKit.row) (List._∷_ (4, Rows'.sc-here (Row.sInt Syntax.w64)) (List._∷_ (5, Rows'.any-gone (Syntax.tyInt Syntax.w64)) (List._∷_ (6, Rows'.any-gone (Syntax.tyInt Syntax.w32)) (List._∷_ (7, Rows'.any-gone (Syntax.tyInt Syntax.w64)) (List._∷_ (8, Rows'.any-gone (TallyKit.plain-ty)) (List._∷_ (9, Rows'.any-gone Syntax.tyBool) (List._∷_ (10, Rows'.any-gone (Syntax.tyStruct (List._∷_ 102 (List._∷_ 111 (List._∷_ 114 (List._∷_ 109 (List._∷_ 117 (List._∷_ 108 (List._∷_ 97 (List._∷_ 58 (List._∷_ 58 (List._∷_ 101 (List._∷_ 110 (List._∷_ 116 (List._∷_ 114 (List._∷_ 121 (List._∷_ 58 (List._∷_ 58 (List._∷_ 69 (List._∷_ 110 (List._∷_ 116 (List._∷_ 114 (List._∷_ 121 List.[]))))))))))))))))))))) (Syntax.tcons (Syntax.tyEnum (List._∷_ 114 (List._∷_ 117 (List._∷_ 108 (List._∷_ 101 (List._∷_ 115 (List._∷_ 58 (List._∷_ 58 (List._∷_ 75 (List._∷_ 105 (List._∷_ 110 (List._∷_ 100 List.[]))))))))))) (Syntax.ttcons Syntax.tnil (Syntax.ttcons Syntax.tnil (Syntax.ttcons Syntax.tnil (Syntax.ttcons Syntax.tnil (Syntax.ttcons Syntax.tnil (Syntax.ttcons Syntax.tnil Syntax.ttnil))))))) (Syntax.tcons (Syntax.tyInt Syntax.w64) (Syntax.tcons (Syntax.tyInt Syntax.w64) (Syntax.tcons (Syntax.tyInt Syntax.w64) (Syntax.tcons (Syntax.tyInt Syntax.w64) (Syntax.tcons (Syntax.tyInt Syntax.w64) (Syntax.tcons (Syntax.tyInt Syntax.w64) (Syntax.tcons (Syntax.tyInt Syntax.w64) (Syntax.tcons (Syntax.tyInt Syntax.w64) Syntax.tnil))))))))))) (List._∷_ (11, Rows'.any-gone Syntax.tyUnit) (List._∷_ (12, Rows'.any-gone (Syntax.tyRef Syntax.erased Syntax.mut TallyKit.behind)) List.[]))))))))))))
 
 abbrev pub t19 : List.List Row.Entry
-t19 = List._∷_ (0, TallyKit.row) (List._∷_ (1, Rows'.sslice (Referent.rtF (Referent.fInt Syntax.w8)) (Syntax.tyRef (Syntax.named 0) Syntax.imm (Syntax.tyInt Syntax.w8)) 0) (List._∷_ (2, Rows'.any-gone (Syntax.tyInt Syntax.w64)) (List._∷_ (3, TallyKit.row) (List._∷_ (4, Rows'.sc-here (Row.sInt Syntax.w64)) (List._∷_ (5, Rows'.any-gone (Syntax.tyInt Syntax.w64)) (List._∷_ (6, Rows'.any-gone (Syntax.tyInt Syntax.w64)) (List._∷_ (7, Rows'.any-gone (Syntax.tyInt Syntax.w64)) (List._∷_ (8, Rows'.any-gone (TallyKit.plain-ty)) (List._∷_ (9, Rows'.any-gone Syntax.tyBool) (List._∷_ (10, Rows'.any-gone (Syntax.tyStruct (List._∷_ 102 (List._∷_ 111 (List._∷_ 114 (List._∷_ 109 (List._∷_ 117 (List._∷_ 108 (List._∷_ 97 (List._∷_ 58 (List._∷_ 58 (List._∷_ 101 (List._∷_ 110 (List._∷_ 116 (List._∷_ 114 (List._∷_ 121 (List._∷_ 58 (List._∷_ 58 (List._∷_ 69 (List._∷_ 110 (List._∷_ 116 (List._∷_ 114 (List._∷_ 121 List.[]))))))))))))))))))))) (Syntax.tcons (Syntax.tyEnum (List._∷_ 114 (List._∷_ 117 (List._∷_ 108 (List._∷_ 101 (List._∷_ 115 (List._∷_ 58 (List._∷_ 58 (List._∷_ 75 (List._∷_ 105 (List._∷_ 110 (List._∷_ 100 List.[]))))))))))) (Syntax.ttcons Syntax.tnil (Syntax.ttcons Syntax.tnil (Syntax.ttcons Syntax.tnil (Syntax.ttcons Syntax.tnil (Syntax.ttcons Syntax.tnil (Syntax.ttcons Syntax.tnil Syntax.ttnil))))))) (Syntax.tcons (Syntax.tyInt Syntax.w64) (Syntax.tcons (Syntax.tyInt Syntax.w64) (Syntax.tcons (Syntax.tyInt Syntax.w64) (Syntax.tcons (Syntax.tyInt Syntax.w64) (Syntax.tcons (Syntax.tyInt Syntax.w64) (Syntax.tcons (Syntax.tyInt Syntax.w64) (Syntax.tcons (Syntax.tyInt Syntax.w64) (Syntax.tcons (Syntax.tyInt Syntax.w64) Syntax.tnil))))))))))) (List._∷_ (11, Rows'.any-gone Syntax.tyUnit) (List._∷_ (12, Rows'.any-gone (Syntax.tyRef Syntax.erased Syntax.mut TallyKit.behind)) List.[]))))))))))))
+t19 = List._∷_ (0, TallyKit.row) (List._∷_ (1, Rows'.sslice (Referent.rtF (Referent.fInt Syntax.w8)) (Syntax.tyRef (Syntax.named 0) Syntax.imm (Syntax.tyInt Syntax.w8)) 0) (List._∷_ (2, Rows'.any-gone (Syntax.tyInt Syntax.w64)) (List._∷_ (3, TallyKit.row) (List._∷_ (4, Rows'.sc-here (Row.sInt Syntax.w64)) (List._∷_ (5, Rows'.any-gone (Syntax.tyInt Syntax.w64)) (List._∷_ (6, Rows'.any-gone (Syntax.tyInt Syntax.w32)) (List._∷_ (7, Rows'.any-gone (Syntax.tyInt Syntax.w64)) (List._∷_ (8, Rows'.any-gone (TallyKit.plain-ty)) (List._∷_ (9, Rows'.any-gone Syntax.tyBool) (List._∷_ (10, Rows'.any-gone (Syntax.tyStruct (List._∷_ 102 (List._∷_ 111 (List._∷_ 114 (List._∷_ 109 (List._∷_ 117 (List._∷_ 108 (List._∷_ 97 (List._∷_ 58 (List._∷_ 58 (List._∷_ 101 (List._∷_ 110 (List._∷_ 116 (List._∷_ 114 (List._∷_ 121 (List._∷_ 58 (List._∷_ 58 (List._∷_ 69 (List._∷_ 110 (List._∷_ 116 (List._∷_ 114 (List._∷_ 121 List.[]))))))))))))))))))))) (Syntax.tcons (Syntax.tyEnum (List._∷_ 114 (List._∷_ 117 (List._∷_ 108 (List._∷_ 101 (List._∷_ 115 (List._∷_ 58 (List._∷_ 58 (List._∷_ 75 (List._∷_ 105 (List._∷_ 110 (List._∷_ 100 List.[]))))))))))) (Syntax.ttcons Syntax.tnil (Syntax.ttcons Syntax.tnil (Syntax.ttcons Syntax.tnil (Syntax.ttcons Syntax.tnil (Syntax.ttcons Syntax.tnil (Syntax.ttcons Syntax.tnil Syntax.ttnil))))))) (Syntax.tcons (Syntax.tyInt Syntax.w64) (Syntax.tcons (Syntax.tyInt Syntax.w64) (Syntax.tcons (Syntax.tyInt Syntax.w64) (Syntax.tcons (Syntax.tyInt Syntax.w64) (Syntax.tcons (Syntax.tyInt Syntax.w64) (Syntax.tcons (Syntax.tyInt Syntax.w64) (Syntax.tcons (Syntax.tyInt Syntax.w64) (Syntax.tcons (Syntax.tyInt Syntax.w64) Syntax.tnil))))))))))) (List._∷_ (11, Rows'.any-gone Syntax.tyUnit) (List._∷_ (12, Rows'.any-gone (Syntax.tyRef Syntax.erased Syntax.mut TallyKit.behind)) List.[]))))))))))))
 
 abbrev pub t20 : List.List Row.Entry
-t20 = List._∷_ (0, TallyKit.row) (List._∷_ (1, Rows'.sslice (Referent.rtF (Referent.fInt Syntax.w8)) (Syntax.tyRef (Syntax.named 0) Syntax.imm (Syntax.tyInt Syntax.w8)) 0) (List._∷_ (2, Rows'.any-gone (Syntax.tyInt Syntax.w64)) (List._∷_ (3, Rows'.any-gone (TallyKit.plain-ty)) (List._∷_ (4, Rows'.sc-here (Row.sInt Syntax.w64)) (List._∷_ (5, Rows'.any-gone (Syntax.tyInt Syntax.w64)) (List._∷_ (6, Rows'.any-gone (Syntax.tyInt Syntax.w64)) (List._∷_ (7, Rows'.any-gone (Syntax.tyInt Syntax.w64)) (List._∷_ (8, Rows'.any-gone (TallyKit.plain-ty)) (List._∷_ (9, Rows'.any-gone Syntax.tyBool) (List._∷_ (10, Rows'.any-gone (Syntax.tyStruct (List._∷_ 102 (List._∷_ 111 (List._∷_ 114 (List._∷_ 109 (List._∷_ 117 (List._∷_ 108 (List._∷_ 97 (List._∷_ 58 (List._∷_ 58 (List._∷_ 101 (List._∷_ 110 (List._∷_ 116 (List._∷_ 114 (List._∷_ 121 (List._∷_ 58 (List._∷_ 58 (List._∷_ 69 (List._∷_ 110 (List._∷_ 116 (List._∷_ 114 (List._∷_ 121 List.[]))))))))))))))))))))) (Syntax.tcons (Syntax.tyEnum (List._∷_ 114 (List._∷_ 117 (List._∷_ 108 (List._∷_ 101 (List._∷_ 115 (List._∷_ 58 (List._∷_ 58 (List._∷_ 75 (List._∷_ 105 (List._∷_ 110 (List._∷_ 100 List.[]))))))))))) (Syntax.ttcons Syntax.tnil (Syntax.ttcons Syntax.tnil (Syntax.ttcons Syntax.tnil (Syntax.ttcons Syntax.tnil (Syntax.ttcons Syntax.tnil (Syntax.ttcons Syntax.tnil Syntax.ttnil))))))) (Syntax.tcons (Syntax.tyInt Syntax.w64) (Syntax.tcons (Syntax.tyInt Syntax.w64) (Syntax.tcons (Syntax.tyInt Syntax.w64) (Syntax.tcons (Syntax.tyInt Syntax.w64) (Syntax.tcons (Syntax.tyInt Syntax.w64) (Syntax.tcons (Syntax.tyInt Syntax.w64) (Syntax.tcons (Syntax.tyInt Syntax.w64) (Syntax.tcons (Syntax.tyInt Syntax.w64) Syntax.tnil))))))))))) (List._∷_ (11, Rows'.any-gone Syntax.tyUnit) (List._∷_ (12, Rows'.any-gone (Syntax.tyRef Syntax.erased Syntax.mut TallyKit.behind)) List.[]))))))))))))
+t20 = List._∷_ (0, TallyKit.row) (List._∷_ (1, Rows'.sslice (Referent.rtF (Referent.fInt Syntax.w8)) (Syntax.tyRef (Syntax.named 0) Syntax.imm (Syntax.tyInt Syntax.w8)) 0) (List._∷_ (2, Rows'.any-gone (Syntax.tyInt Syntax.w64)) (List._∷_ (3, Rows'.any-gone (TallyKit.plain-ty)) (List._∷_ (4, Rows'.sc-here (Row.sInt Syntax.w64)) (List._∷_ (5, Rows'.any-gone (Syntax.tyInt Syntax.w64)) (List._∷_ (6, Rows'.any-gone (Syntax.tyInt Syntax.w32)) (List._∷_ (7, Rows'.any-gone (Syntax.tyInt Syntax.w64)) (List._∷_ (8, Rows'.any-gone (TallyKit.plain-ty)) (List._∷_ (9, Rows'.any-gone Syntax.tyBool) (List._∷_ (10, Rows'.any-gone (Syntax.tyStruct (List._∷_ 102 (List._∷_ 111 (List._∷_ 114 (List._∷_ 109 (List._∷_ 117 (List._∷_ 108 (List._∷_ 97 (List._∷_ 58 (List._∷_ 58 (List._∷_ 101 (List._∷_ 110 (List._∷_ 116 (List._∷_ 114 (List._∷_ 121 (List._∷_ 58 (List._∷_ 58 (List._∷_ 69 (List._∷_ 110 (List._∷_ 116 (List._∷_ 114 (List._∷_ 121 List.[]))))))))))))))))))))) (Syntax.tcons (Syntax.tyEnum (List._∷_ 114 (List._∷_ 117 (List._∷_ 108 (List._∷_ 101 (List._∷_ 115 (List._∷_ 58 (List._∷_ 58 (List._∷_ 75 (List._∷_ 105 (List._∷_ 110 (List._∷_ 100 List.[]))))))))))) (Syntax.ttcons Syntax.tnil (Syntax.ttcons Syntax.tnil (Syntax.ttcons Syntax.tnil (Syntax.ttcons Syntax.tnil (Syntax.ttcons Syntax.tnil (Syntax.ttcons Syntax.tnil Syntax.ttnil))))))) (Syntax.tcons (Syntax.tyInt Syntax.w64) (Syntax.tcons (Syntax.tyInt Syntax.w64) (Syntax.tcons (Syntax.tyInt Syntax.w64) (Syntax.tcons (Syntax.tyInt Syntax.w64) (Syntax.tcons (Syntax.tyInt Syntax.w64) (Syntax.tcons (Syntax.tyInt Syntax.w64) (Syntax.tcons (Syntax.tyInt Syntax.w64) (Syntax.tcons (Syntax.tyInt Syntax.w64) Syntax.tnil))))))))))) (List._∷_ (11, Rows'.any-gone Syntax.tyUnit) (List._∷_ (12, Rows'.any-gone (Syntax.tyRef Syntax.erased Syntax.mut TallyKit.behind)) List.[]))))))))))))
 
 abbrev pub T0 : Row.Cx
 T0 = record { locals = t0; slots = List.[] }
@@ -414,7 +414,7 @@ module _ (claims· : Claims) where
   s9 = Call.callB ps·2 r·2 (claims· .4) (claims· .5) T10 (record { pos = 1; ty = Syntax.tyRef (Syntax.named 0) Syntax.imm (Syntax.tyInt Syntax.w8); ref = λ x. x }, (Num.vAt 4 λ x. x, tt)) 5 (List._∷_ 0 List.[]) (Syntax.tyInt Syntax.w64)
 
   abbrev s10 : Typed.Both T13 T14
-  s10 = Call.callB ps·3 r·3 (claims· .6) (claims· .7) T13 (record { pos = 1; ty = Syntax.tyRef (Syntax.named 0) Syntax.imm (Syntax.tyInt Syntax.w8); ref = λ x. x }, (Num.vAt 4 λ x. x, tt)) 6 (List._∷_ 0 List.[]) (Syntax.tyInt Syntax.w64)
+  s10 = Call.callB ps·3 r·3 (claims· .6) (claims· .7) T13 (record { pos = 1; ty = Syntax.tyRef (Syntax.named 0) Syntax.imm (Syntax.tyInt Syntax.w8); ref = λ x. x }, (Num.vAt 4 λ x. x, tt)) 6 (List._∷_ 0 List.[]) (Syntax.tyInt Syntax.w32)
 
   abbrev s11 : Typed.Both T14 T15
   s11 = Call.callB ps·4 r·4 (claims· .8) (claims· .9) T14 (record { pos = 1; ty = Syntax.tyRef (Syntax.named 0) Syntax.imm (Syntax.tyInt Syntax.w8); ref = λ x. x }, (Num.vAt 4 λ x. x, tt)) 10 (List._∷_ 0 List.[]) (Syntax.tyStruct (List._∷_ 102 (List._∷_ 111 (List._∷_ 114 (List._∷_ 109 (List._∷_ 117 (List._∷_ 108 (List._∷_ 97 (List._∷_ 58 (List._∷_ 58 (List._∷_ 101 (List._∷_ 110 (List._∷_ 116 (List._∷_ 114 (List._∷_ 121 (List._∷_ 58 (List._∷_ 58 (List._∷_ 69 (List._∷_ 110 (List._∷_ 116 (List._∷_ 114 (List._∷_ 121 List.[]))))))))))))))))))))) (Syntax.tcons (Syntax.tyEnum (List._∷_ 114 (List._∷_ 117 (List._∷_ 108 (List._∷_ 101 (List._∷_ 115 (List._∷_ 58 (List._∷_ 58 (List._∷_ 75 (List._∷_ 105 (List._∷_ 110 (List._∷_ 100 List.[]))))))))))) (Syntax.ttcons Syntax.tnil (Syntax.ttcons Syntax.tnil (Syntax.ttcons Syntax.tnil (Syntax.ttcons Syntax.tnil (Syntax.ttcons Syntax.tnil (Syntax.ttcons Syntax.tnil Syntax.ttnil))))))) (Syntax.tcons (Syntax.tyInt Syntax.w64) (Syntax.tcons (Syntax.tyInt Syntax.w64) (Syntax.tcons (Syntax.tyInt Syntax.w64) (Syntax.tcons (Syntax.tyInt Syntax.w64) (Syntax.tcons (Syntax.tyInt Syntax.w64) (Syntax.tcons (Syntax.tyInt Syntax.w64) (Syntax.tcons (Syntax.tyInt Syntax.w64) (Syntax.tcons (Syntax.tyInt Syntax.w64) Syntax.tnil))))))))))
@@ -444,7 +444,7 @@ module _ (claims· : Claims) where
   s22 = Scalar.n-room T25 5 (Syntax.tyInt Syntax.w64)
 
   abbrev s23 : Typed.Mo T26 → Typed.Mo T27
-  s23 = Scalar.n-room T26 6 (Syntax.tyInt Syntax.w64)
+  s23 = Scalar.n-room T26 6 (Syntax.tyInt Syntax.w32)
 
   abbrev s24 : Typed.Mo T27 → Typed.Mo T28
   s24 = Scalar.n-room T27 7 (Syntax.tyInt Syntax.w64)
@@ -714,7 +714,7 @@ module _ (claims· : Claims) where
           d4 = Scalar.t-cond 𝓤 H A W E 𝓣 G9 9 (λ x. x) b5 b6 Δ4 at1 at3 (Scalar.reads-sc 𝓤 H A W Row.sBool) Path'.refl d1 d3
 
           d5 : Typed.Typed 𝓤 H A 𝓣 E G24 b14 Δ3 at5
-          d5 = Typed.s-typed 𝓤 H A W 𝓣 E G24 b14 Δ3 (λ Ψ. Typed.ask s21 (Typed.pass T25 T26 s22 (Typed.pass T26 T27 s23 (Typed.pass T27 T28 s24 Ψ)))) tt (Typed.g-post 𝓤 H A W 𝓣 E G24 G27 G28 b14 (λ Ψ. Typed.ask s21 (Typed.pass T25 T26 s22 (Typed.pass T26 T27 s23 Ψ))) (Typed.pass T27 T28 s24) (Typed.g-post 𝓤 H A W 𝓣 E G24 G26 G27 b14 (λ Ψ. Typed.ask s21 (Typed.pass T25 T26 s22 Ψ)) (Typed.pass T26 T27 s23) (Typed.g-post 𝓤 H A W 𝓣 E G24 G25 G26 b14 (Typed.ask s21) (Typed.pass T25 T26 s22) (Scalar.t-op2 𝓤 H A W E 𝓣 G24 (Syntax.add Syntax.unsigned) (Scalar.oAt 4 (Syntax.tyInt Syntax.w64) (Row.valS (Row.sInt Syntax.w64))) (Scalar.oInt Syntax.w64 1) 4 (Rows'.sc-here (Row.sInt Syntax.w64)) (Syntax.tyInt Syntax.w64) (Row.valS (Row.sInt Syntax.w64)) (Row.sInt Syntax.w64 .of) (Scalar.reads-sc 𝓤 H A W (Row.sInt Syntax.w64), Path'.refl) tt (Scalar.room-sc 𝓤 H A W (Row.sInt Syntax.w64)) (Scalar.holds-sc 𝓤 H A W (Row.sInt Syntax.w64)) Path'.refl (λ u. Path'.refl) λ u. tt) (Scalar.g-room 𝓤 H A W E G25 5 (Syntax.tyInt Syntax.w64) (Scalar.room-sc 𝓤 H A W (Row.sInt Syntax.w64)))) (Scalar.g-room 𝓤 H A W E G26 6 (Syntax.tyInt Syntax.w64) (Scalar.room-sc 𝓤 H A W (Row.sInt Syntax.w64)))) (Scalar.g-room 𝓤 H A W E G27 7 (Syntax.tyInt Syntax.w64) (Scalar.room-sc 𝓤 H A W (Row.sInt Syntax.w64))))
+          d5 = Typed.s-typed 𝓤 H A W 𝓣 E G24 b14 Δ3 (λ Ψ. Typed.ask s21 (Typed.pass T25 T26 s22 (Typed.pass T26 T27 s23 (Typed.pass T27 T28 s24 Ψ)))) tt (Typed.g-post 𝓤 H A W 𝓣 E G24 G27 G28 b14 (λ Ψ. Typed.ask s21 (Typed.pass T25 T26 s22 (Typed.pass T26 T27 s23 Ψ))) (Typed.pass T27 T28 s24) (Typed.g-post 𝓤 H A W 𝓣 E G24 G26 G27 b14 (λ Ψ. Typed.ask s21 (Typed.pass T25 T26 s22 Ψ)) (Typed.pass T26 T27 s23) (Typed.g-post 𝓤 H A W 𝓣 E G24 G25 G26 b14 (Typed.ask s21) (Typed.pass T25 T26 s22) (Scalar.t-op2 𝓤 H A W E 𝓣 G24 (Syntax.add Syntax.unsigned) (Scalar.oAt 4 (Syntax.tyInt Syntax.w64) (Row.valS (Row.sInt Syntax.w64))) (Scalar.oInt Syntax.w64 1) 4 (Rows'.sc-here (Row.sInt Syntax.w64)) (Syntax.tyInt Syntax.w64) (Row.valS (Row.sInt Syntax.w64)) (Row.sInt Syntax.w64 .of) (Scalar.reads-sc 𝓤 H A W (Row.sInt Syntax.w64), Path'.refl) tt (Scalar.room-sc 𝓤 H A W (Row.sInt Syntax.w64)) (Scalar.holds-sc 𝓤 H A W (Row.sInt Syntax.w64)) Path'.refl (λ u. Path'.refl) λ u. tt) (Scalar.g-room 𝓤 H A W E G25 5 (Syntax.tyInt Syntax.w64) (Scalar.room-sc 𝓤 H A W (Row.sInt Syntax.w64)))) (Scalar.g-room 𝓤 H A W E G26 6 (Syntax.tyInt Syntax.w32) (Scalar.room-sc 𝓤 H A W (Row.sInt Syntax.w32)))) (Scalar.g-room 𝓤 H A W E G27 7 (Syntax.tyInt Syntax.w64) (Scalar.room-sc 𝓤 H A W (Row.sInt Syntax.w64))))
 
           d6 : Typed.Typed 𝓤 H A 𝓣 E G23 b14 Δ3 at6
           d6 = Typed.g-pre 𝓤 H A W 𝓣 E G23 G24 b14 Δ3 (λ Ψ. Ψ) at5 (Lifetime.g-forget 𝓤 H A W E G23 1 Row.dead Path'.refl) d5
@@ -729,7 +729,7 @@ module _ (claims· : Claims) where
           d9 = Typed.g-pre 𝓤 H A W 𝓣 E G20 G21 b14 Δ3 (Typed.pass T20 T21 s17) at8 (Scalar.g-room 𝓤 H A W E G20 11 Syntax.tyUnit (Scalar.room-sc 𝓤 H A W Row.sUnit)) d8
 
           d10 : Typed.Typed 𝓤 H A 𝓣 E G19 b15 Δ3 at10
-          d10 = Typed.s-seq 𝓤 H A W 𝓣 E G19 G20 b13 b14 Δ3 (Typed.both s16) at9 (Plain.t-call-plain 𝓤 H A W 𝓣 1 ps·6 r·6 (claims· .12) (claims· .13) "tally::post" (known .6) E (λ pos β. β) G19 (record { pos = 12; ty = Syntax.tyRef Syntax.erased Syntax.mut TallyKit.behind; ref = λ x. x }, (Num.vAt 5 λ x. x, (Num.vAt 6 λ x. x, (Num.vAt 7 λ x. x, tt)))) 11 (List._∷_ 1 List.[]) (Call.sub-id 𝓤 H A W (G19 .slots)) (Reads.as-is 𝓤 H A (Rows'.mref (TallyKit.R) (Syntax.tyRef Syntax.erased Syntax.mut TallyKit.behind) 1), Reads.reads-mref 𝓤 H A W (TallyKit.R) (Syntax.tyRef Syntax.erased Syntax.mut TallyKit.behind) 1, Path'.refl, ((Scalar.reads-sc 𝓤 H A W (Row.sInt Syntax.w64), Path'.refl), ((Scalar.reads-sc 𝓤 H A W (Row.sInt Syntax.w64), Path'.refl), ((Scalar.reads-sc 𝓤 H A W (Row.sInt Syntax.w64), Path'.refl), tt)))) (Reads.room-gone 𝓤 H A Syntax.tyUnit) (tt, tt) Path'.refl) d9
+          d10 = Typed.s-seq 𝓤 H A W 𝓣 E G19 G20 b13 b14 Δ3 (Typed.both s16) at9 (Plain.t-call-plain 𝓤 H A W 𝓣 1 ps·6 r·6 (claims· .12) (claims· .13) "tally::post" (known .6) E (λ pos β. β) G19 (record { pos = 12; ty = Syntax.tyRef Syntax.erased Syntax.mut TallyKit.behind; ref = λ x. x }, (Num.vAt 5 λ x. x, (Num.vAt 6 λ x. x, (Num.vAt 7 λ x. x, tt)))) 11 (List._∷_ 1 List.[]) (Call.sub-id 𝓤 H A W (G19 .slots)) (Reads.as-is 𝓤 H A (Rows'.mref (TallyKit.R) (Syntax.tyRef Syntax.erased Syntax.mut TallyKit.behind) 1), Reads.reads-mref 𝓤 H A W (TallyKit.R) (Syntax.tyRef Syntax.erased Syntax.mut TallyKit.behind) 1, Path'.refl, ((Scalar.reads-sc 𝓤 H A W (Row.sInt Syntax.w64), Path'.refl), ((Scalar.reads-sc 𝓤 H A W (Row.sInt Syntax.w32), Path'.refl), ((Scalar.reads-sc 𝓤 H A W (Row.sInt Syntax.w64), Path'.refl), tt)))) (Reads.room-gone 𝓤 H A Syntax.tyUnit) (tt, tt) Path'.refl) d9
 
           d11 : Typed.Typed 𝓤 H A 𝓣 E G18 b16 Δ3 at11
           d11 = Typed.s-seq 𝓤 H A W 𝓣 E G18 G19 b12 b15 Δ3 (Typed.give s15) at10 (Local.t-sc-borrow 𝓤 H A W E 𝓣 G18 3 12 1 (TallyKit.R) (Syntax.tyRef Syntax.erased Syntax.mut TallyKit.behind) (λ x. x) (TallyKit.mem 𝓤 H A W) (Reads.room-gone 𝓤 H A (Syntax.tyRef Syntax.erased Syntax.mut TallyKit.behind)) Path'.refl λ b o. tt) d10
@@ -747,7 +747,7 @@ module _ (claims· : Claims) where
           d15 = Typed.s-seq 𝓤 H A W 𝓣 E G14 G15 b10 b17 Δ3 (Typed.both s11) at14 (Plain.t-call-plain 𝓤 H A W 𝓣 1 ps·4 r·4 (claims· .8) (claims· .9) "hour::entry_of" (known .4) E (λ pos β. β) G14 (record { pos = 1; ty = Syntax.tyRef (Syntax.named 0) Syntax.imm (Syntax.tyInt Syntax.w8); ref = λ x. x }, (Num.vAt 4 λ x. x, tt)) 10 (List._∷_ 0 List.[]) (Call.sub-id 𝓤 H A W (G14 .slots)) (ShrSlice.spares-sslice 𝓤 H A W (Referent.rtF (Referent.fInt Syntax.w8)) (Syntax.tyRef (Syntax.named 0) Syntax.imm (Syntax.tyInt Syntax.w8)) 0, Shared.reads-sslice 𝓤 H A W (Referent.rtF (Referent.fInt Syntax.w8)) (Syntax.tyRef (Syntax.named 0) Syntax.imm (Syntax.tyInt Syntax.w8)) 0, Path'.refl, ((Scalar.reads-sc 𝓤 H A W (Row.sInt Syntax.w64), Path'.refl), tt)) (Reads.room-gone 𝓤 H A (Syntax.tyStruct (List._∷_ 102 (List._∷_ 111 (List._∷_ 114 (List._∷_ 109 (List._∷_ 117 (List._∷_ 108 (List._∷_ 97 (List._∷_ 58 (List._∷_ 58 (List._∷_ 101 (List._∷_ 110 (List._∷_ 116 (List._∷_ 114 (List._∷_ 121 (List._∷_ 58 (List._∷_ 58 (List._∷_ 69 (List._∷_ 110 (List._∷_ 116 (List._∷_ 114 (List._∷_ 121 List.[]))))))))))))))))))))) (Syntax.tcons (Syntax.tyEnum (List._∷_ 114 (List._∷_ 117 (List._∷_ 108 (List._∷_ 101 (List._∷_ 115 (List._∷_ 58 (List._∷_ 58 (List._∷_ 75 (List._∷_ 105 (List._∷_ 110 (List._∷_ 100 List.[]))))))))))) (Syntax.ttcons Syntax.tnil (Syntax.ttcons Syntax.tnil (Syntax.ttcons Syntax.tnil (Syntax.ttcons Syntax.tnil (Syntax.ttcons Syntax.tnil (Syntax.ttcons Syntax.tnil Syntax.ttnil))))))) (Syntax.tcons (Syntax.tyInt Syntax.w64) (Syntax.tcons (Syntax.tyInt Syntax.w64) (Syntax.tcons (Syntax.tyInt Syntax.w64) (Syntax.tcons (Syntax.tyInt Syntax.w64) (Syntax.tcons (Syntax.tyInt Syntax.w64) (Syntax.tcons (Syntax.tyInt Syntax.w64) (Syntax.tcons (Syntax.tyInt Syntax.w64) (Syntax.tcons (Syntax.tyInt Syntax.w64) Syntax.tnil))))))))))) (tt, tt) Path'.refl) d14
 
           d16 : Typed.Typed 𝓤 H A 𝓣 E G13 b19 Δ3 at16
-          d16 = Typed.s-seq 𝓤 H A W 𝓣 E G13 G14 b9 b18 Δ3 (Typed.both s10) at15 (Plain.t-call-plain 𝓤 H A W 𝓣 1 ps·3 r·3 (claims· .6) (claims· .7) "hour::demand_of" (known .3) E (λ pos β. β) G13 (record { pos = 1; ty = Syntax.tyRef (Syntax.named 0) Syntax.imm (Syntax.tyInt Syntax.w8); ref = λ x. x }, (Num.vAt 4 λ x. x, tt)) 6 (List._∷_ 0 List.[]) (Call.sub-id 𝓤 H A W (G13 .slots)) (ShrSlice.spares-sslice 𝓤 H A W (Referent.rtF (Referent.fInt Syntax.w8)) (Syntax.tyRef (Syntax.named 0) Syntax.imm (Syntax.tyInt Syntax.w8)) 0, Shared.reads-sslice 𝓤 H A W (Referent.rtF (Referent.fInt Syntax.w8)) (Syntax.tyRef (Syntax.named 0) Syntax.imm (Syntax.tyInt Syntax.w8)) 0, Path'.refl, ((Scalar.reads-sc 𝓤 H A W (Row.sInt Syntax.w64), Path'.refl), tt)) (Reads.room-gone 𝓤 H A (Syntax.tyInt Syntax.w64)) (tt, tt) Path'.refl) d15
+          d16 = Typed.s-seq 𝓤 H A W 𝓣 E G13 G14 b9 b18 Δ3 (Typed.both s10) at15 (Plain.t-call-plain 𝓤 H A W 𝓣 1 ps·3 r·3 (claims· .6) (claims· .7) "hour::demand_of" (known .3) E (λ pos β. β) G13 (record { pos = 1; ty = Syntax.tyRef (Syntax.named 0) Syntax.imm (Syntax.tyInt Syntax.w8); ref = λ x. x }, (Num.vAt 4 λ x. x, tt)) 6 (List._∷_ 0 List.[]) (Call.sub-id 𝓤 H A W (G13 .slots)) (ShrSlice.spares-sslice 𝓤 H A W (Referent.rtF (Referent.fInt Syntax.w8)) (Syntax.tyRef (Syntax.named 0) Syntax.imm (Syntax.tyInt Syntax.w8)) 0, Shared.reads-sslice 𝓤 H A W (Referent.rtF (Referent.fInt Syntax.w8)) (Syntax.tyRef (Syntax.named 0) Syntax.imm (Syntax.tyInt Syntax.w8)) 0, Path'.refl, ((Scalar.reads-sc 𝓤 H A W (Row.sInt Syntax.w64), Path'.refl), tt)) (Reads.room-gone 𝓤 H A (Syntax.tyInt Syntax.w32)) (tt, tt) Path'.refl) d15
 
           d17 : Typed.Typed 𝓤 H A 𝓣 E G10 b20 Δ3 at17
           d17 = Typed.s-seq 𝓤 H A W 𝓣 E G10 G13 b8 b19 Δ3 (Typed.both s9) at16 (Plain.t-call-plain 𝓤 H A W 𝓣 1 ps·2 r·2 (claims· .4) (claims· .5) "hour::area_of" (known .2) E (λ pos β. β) G10 (record { pos = 1; ty = Syntax.tyRef (Syntax.named 0) Syntax.imm (Syntax.tyInt Syntax.w8); ref = λ x. x }, (Num.vAt 4 λ x. x, tt)) 5 (List._∷_ 0 List.[]) (Call.sub-id 𝓤 H A W (G10 .slots)) (ShrSlice.spares-sslice 𝓤 H A W (Referent.rtF (Referent.fInt Syntax.w8)) (Syntax.tyRef (Syntax.named 0) Syntax.imm (Syntax.tyInt Syntax.w8)) 0, Shared.reads-sslice 𝓤 H A W (Referent.rtF (Referent.fInt Syntax.w8)) (Syntax.tyRef (Syntax.named 0) Syntax.imm (Syntax.tyInt Syntax.w8)) 0, Path'.refl, ((Scalar.reads-sc 𝓤 H A W (Row.sInt Syntax.w64), Path'.refl), tt)) (Reads.room-gone 𝓤 H A (Syntax.tyInt Syntax.w64)) (tt, tt) Path'.refl) d16
