@@ -7,7 +7,8 @@ ghost use Rattle.whole.specs.Below.{replacingFirst};
 ghost use Rattle.rules.specs.Record.{entryOf};
 ghost use Rattle.rules.specs.Deviation.{deviation};
 ghost use Rattle.rules.specs.Inner.Kept.{FileKept};
-ghost use Rattle.hour.specs.Hour.{hourIn};
+ghost use Rattle.hour.specs.Hour.{hourIn, Headed};
+use hour::Head;
 
 // Record `i`'s.
 fn deviation_of(file: &[u8], i: usize) -> i64
@@ -18,13 +19,13 @@ fn deviation_of(file: &[u8], i: usize) -> i64
 }
 
 // One a record, into the first places; the places past them are unchanged.
-pub fn put_deviations(file: &[u8], out: &mut [i64])
-    requires { ⌜ FileKept (now file) × (hourIn (now file) .count ≤ length (now out)) ⌝ }
+pub fn put_deviations(file: &[u8], head: Head, out: &mut [i64])
+    requires { ⌜ Headed (now file) head × (hourIn (now file) .count ≤ length (now out)) ⌝ }
     ensures { λ _. ⌜ now (out .exit)
         ≡ replacingFirst (λ i. deviation (entryOf (hourIn (now (file .entry))) i)) (hourIn (now (file .entry)) .count)
         (now (out .entry)) ⌝ }
 {
-    let n = hour::records(file);
+    let n = head.records;
     let mut i = 0;
     while i < n {
         out[i] = deviation_of(file, i);

@@ -12,8 +12,9 @@ ghost use Rattle.whole.specs.Signed.{withSignOf};
 ghost use Rattle.rules.specs.Record.{areaOf};
 ghost use Rattle.rules.specs.Charge.{shareOf};
 ghost use Rattle.rules.specs.Inner.Kept.{FileKept};
-ghost use Rattle.hour.specs.Hour.{hourIn};
+ghost use Rattle.hour.specs.Hour.{hourIn, Headed};
 ghost use Rattle.byrecord.specs.Shared.{demandIn, sharesBelow, withSizes, Sharing, SharedUpTo, Sized};
+use hour::Head;
 
 // What a record demands of an area's UFE: 0 unless it is a load there.
 fn demand_there(file: &[u8], a: usize, i: usize) -> u64
@@ -22,7 +23,7 @@ fn demand_there(file: &[u8], a: usize, i: usize) -> u64
 {
     let words = hour::record(file, i);
     if hour::area_in(words) == a {
-        return hour::demand_in(words);
+        return hour::demand_in(words) as u64;
     }
     0
 }
@@ -112,13 +113,13 @@ fn clear(out: &mut [i64], n: usize)
 }
 
 // One a record, into the first places; the places past them are unchanged.
-pub fn put_shares(file: &[u8], figures: [i64; 8], out: &mut [i64])
-    requires { ⌜ Sharing (now file) figures (now out) ⌝ }
+pub fn put_shares(file: &[u8], head: Head, figures: [i64; 8], out: &mut [i64])
+    requires { ⌜ Headed (now file) head × Sharing (now file) figures (now out) ⌝ }
     ensures { λ _. ⌜ now (out .exit)
         ≡ replacingFirst (shareOf (hourIn (now (file .entry)))) (hourIn (now (file .entry)) .count) (now (out .entry)) ⌝ }
 {
-    clear(out, hour::records(file));
-    let areas = hour::areas(file);
+    clear(out, head.records);
+    let areas = head.areas;
     let mut a = 0;
     while a < areas {
         share_area(file, figures, a, out);

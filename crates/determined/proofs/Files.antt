@@ -1,4 +1,4 @@
--- Functions of an hour file or a record of it: words, parts, the tally and its figures, the answers of searches.
+-- Functions of an hour file or a record of it: words, parts, the head, the tally and its figures, the answers of searches.
 use contract.Lifetimes.{Lfts}
 use denote.Ref.{now}
 use Rattle.determined.specs.Determined.{OneResult, OnePart}
@@ -8,9 +8,7 @@ use Rattle.hour.proofs.records.Reads as records
 use Rattle.hour.proofs.body.Reads as body
 use Rattle.hour.proofs.record.Reads as record-of
 use Rattle.examine.proofs.examine.Reads as examine
-use Rattle.hour.proofs.members.Reads as members
-use Rattle.hour.proofs.areas.Reads as areas
-use Rattle.hour.proofs.price.Reads as price
+use Rattle.hour.proofs.head_of.Reads as head-of
 use Rattle.hour.proofs.kind_in.Reads as kind-in
 use Rattle.hour.proofs.area_in.Reads as area-in
 use Rattle.hour.proofs.demand_in.Reads as demand-in
@@ -38,14 +36,8 @@ one-record κs a x y s t = agree
 pub one-examine : (κs : Lfts 1) → OneResult (examine.Post κs)
 one-examine κs a x y s t = agree-answer
 
-pub one-members : (κs : Lfts 1) → OneResult (members.Post κs)
-one-members κs a x y s t = agree
-
-pub one-areas : (κs : Lfts 1) → OneResult (areas.Post κs)
-one-areas κs a x y s t = agree
-
-pub one-price : (κs : Lfts 1) → OneResult (price.Post κs)
-one-price κs a x y s t = agree
+pub one-head-of : (κs : Lfts 1) → OneResult (head-of.Post κs)
+one-head-of κs a x y s t = agree
 
 pub one-kind-in : (κs : Lfts 1) → OneResult (kind-in.Post κs)
 one-kind-in κs a x y s t = agree

@@ -42,13 +42,13 @@ one-put-digits κs a x y s t p q = (refl, agree p q)
 pub one-shares : (κs : Lfts 2) → OneOutcome (shares.Post κs) (λ s. now (s .1 .1 .0))
 one-shares κs a x y s t p q = (refl, agree p q)
 
-pub one-put-deviations : (κs : Lfts 2) → OneOutcome (put-deviations.Post κs) (λ s. now (s .1 .0))
+pub one-put-deviations : (κs : Lfts 2) → OneOutcome (put-deviations.Post κs) (λ s. now (s .1 .1 .0))
 one-put-deviations κs a x y s t p q = (refl, agree p q)
 
-pub one-put-shares : (κs : Lfts 2) → OneOutcome (put-shares.Post κs) (λ s. now (s .1 .1 .0))
+pub one-put-shares : (κs : Lfts 2) → OneOutcome (put-shares.Post κs) (λ s. now (s .1 .1 .1 .0))
 one-put-shares κs a x y s t p q = (refl, agree p q)
 
-pub one-put-lines : (κs : Lfts 4) → OneOutcome (put-lines.Post κs) (λ s. now (s .1 .1 .1 .0))
+pub one-put-lines : (κs : Lfts 4) → OneOutcome (put-lines.Post κs) (λ s. now (s .1 .1 .1 .1 .0))
 one-put-lines κs a x y s t p q = (refl, agree p q)
 
 pub one-put-charges : (κs : Lfts 2) → OneOutcome (put-charges.Post κs) (λ s. now (s .1 .1 .0))

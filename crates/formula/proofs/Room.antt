@@ -24,7 +24,7 @@ module _ {h : Hour} (kept : HourKept h) (n : ℕ) (there : n < h .count) where
   demand-most = cond-ind (isLoad (entryOf h n .kind)) (demand h n) 0 (λ d. d ≤ 100000) (λ t. kept .record-kept n there .demand-most)
       (λ t. omega arith)
 
-  demand-fits : getD (tallyAfter h n .demand) (areaOf h n) 0 + demandOf h n < 0x1_0000_0000_0000_0000
+  demand-fits : getD (tallyAfter h n .demand) (areaOf h n) 0 + demandOf h n < 0x1_0000_0000
   demand-fits = rw (tally-demand h (areaOf h n) area-there n) (omega (arith, demand-running kept (areaOf h n) n (omega arith), demand-most))
 
   -- The tally of the records before one has room for it.

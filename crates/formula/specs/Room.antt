@@ -10,7 +10,7 @@ use Rattle.rules.specs.declared.Tally.{Tally}
 pub record TallyRoom (t : Tally) (a demand : ℕ) (energy : ℤ) : Type 0 where
   pub area-there : a < 8
   pub records-fit : t .records + 1 < 0x1_0000_0000
-  pub demand-fits : getD (t .demand) a 0 + demand < 0x1_0000_0000_0000_0000
+  pub demand-fits : getD (t .demand) a 0 + demand < 0x1_0000_0000
   pub energy-fits : SFits w64 (getD (t .energy) a (pos 0) +ℤ energy)
 
 pub record LineRoom (l : Line) (grains : ℤ) : Type 0 where

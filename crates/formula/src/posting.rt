@@ -15,20 +15,21 @@ pub fn empty_tally() -> Tally
 {
     Tally {
         records: 0,
-        demand: [0u64; 8],
+        demand: [0u32; 8],
         energy: [0i64; 8],
     }
 }
 
-// A record of an area, with its demand and its energy, brings the tally up to date.
-pub fn tallied(t: Tally, area: usize, demand: u64, energy: i64) -> Tally
+// A record of an area, with its demand and its energy, brings the tally up to date. `t` is not read again once `next` is made: the compiler
+// then makes a copy less of the tally at each posting.
+pub fn tallied(t: Tally, area: usize, demand: u32, energy: i64) -> Tally
     requires { ⌜ TallyRoom t area demand energy ⌝ }
     ensures { λ u. ⌜ u ≡ Posting.tallied t area demand energy ⌝ }
 {
     let mut next = t;
-    next.records = t.records + 1;
-    next.demand[area] = t.demand[area] + demand;
-    next.energy[area] = t.energy[area] + energy;
+    next.records += 1;
+    next.demand[area] += demand;
+    next.energy[area] += energy;
     next
 }
 

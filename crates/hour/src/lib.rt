@@ -11,7 +11,7 @@ ghost use Rattle.rules.specs.Inner.Posting.{demandBy, demandOf};
 ghost use Rattle.rules.specs.Inner.Kept.{FileKept};
 ghost use Rattle.blocks.specs.Part.{recordPart, RecordThere};
 ghost use Rattle.formula.specs.Meant.{meant};
-ghost use Rattle.hour.specs.Hour.{hourIn};
+ghost use Rattle.hour.specs.Hour.{hourIn, pricesOf, headOf};
 use formula::entry::Entry;
 use rules::Kind;
 
@@ -46,27 +46,53 @@ pub fn record(file: &[u8], i: usize) -> &[u8]
     blocks::record(rules::hourly(), file, i)
 }
 
-// ---- the head
+// ---- the head, read once
 
-pub fn members(file: &[u8]) -> usize
-    ensures { λ r. ⌜ r ≡ Record.members (hourIn (now (file .entry))) ⌝ }
-{
-    head_word(file, 9) as usize
-}
-
-pub fn areas(file: &[u8]) -> usize
-    ensures { λ r. ⌜ r ≡ Record.areas (hourIn (now (file .entry))) ⌝ }
-{
-    head_word(file, 11) as usize
+// What the stages take from the head: how many members, areas and records there are, and the zone price of each area, 0 past the areas. It is
+// read once and handed on by value.
+pub struct Head {
+    pub members: usize,
+    pub areas: usize,
+    pub records: usize,
+    pub prices: [i64; 8],
 }
 
 // The zone price of an area, in cents per MWh.
-pub fn price(file: &[u8], a: usize) -> i64
+fn price(file: &[u8], a: usize) -> i64
     requires { ⌜ FileKept (now file) × (a < Record.areas (hourIn (now file))) ⌝ }
     ensures { λ r. ⌜ r ≡ Record.price (hourIn (now (file .entry))) a ⌝ }
 {
     let zone = blocks::whole_word(file, 16 + 4 * a) as usize;
     blocks::signed(blocks::whole_word(file, 12 + zone))
+}
+
+// Eight prices, 0 past the areas.
+fn prices(file: &[u8], areas: usize) -> [i64; 8]
+    requires { ⌜ FileKept (now file) × (areas ≡ Record.areas (hourIn (now file))) ⌝ }
+    ensures { λ r. ⌜ r ≡ pricesOf (hourIn (now (file .entry))) ⌝ }
+{
+    let mut prices = [0i64; 8];
+    let mut a = 0;
+    while a < areas {
+        prices[a] = price(file, a);
+        a += 1;
+    }
+    prices
+}
+
+// The head of a file that keeps its ranges.
+pub fn head_of(file: &[u8]) -> Head
+    requires { ⌜ FileKept (now file) ⌝ }
+    ensures { λ r. ⌜ r ≡ headOf (hourIn (now (file .entry))) ⌝ }
+{
+    let areas = blocks::whole_word(file, 11) as usize;
+    let prices = prices(file, areas);
+    Head {
+        members: blocks::whole_word(file, 9) as usize,
+        areas: areas,
+        records: records(file),
+        prices: prices,
+    }
 }
 
 // ---- a record by its part of the file
@@ -109,12 +135,12 @@ pub fn entry_in(words: &[u8]) -> Entry
     }
 }
 
-pub fn demand_in(words: &[u8]) -> u64
+pub fn demand_in(words: &[u8]) -> u32
     requires { ⌜ length (now words) ≡ 48 ⌝ }
     ensures { λ r. ⌜ r ≡ demandBy (word (now (words .entry))) ⌝ }
 {
     if formula::entry::is_load(kind_in(words)) {
-        return blocks::whole_word(words, 4) as u64;
+        return blocks::whole_word(words, 4);
     }
     0
 }
@@ -144,7 +170,7 @@ pub fn entry_of(file: &[u8], i: usize) -> Entry
 }
 
 // What a record demands of its area's UFE: only a load demands.
-pub fn demand_of(file: &[u8], i: usize) -> u64
+pub fn demand_of(file: &[u8], i: usize) -> u32
     requires { ⌜ FileKept (now file) × (i < hourIn (now file) .count) ⌝ }
     ensures { λ r. ⌜ r ≡ demandOf (hourIn (now (file .entry))) i ⌝ }
 {

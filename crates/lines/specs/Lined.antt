@@ -4,16 +4,18 @@ use mathlib.Core.Path.{_≡_}
 use mathlib.Core.List.{List}
 use lib.IntN.{ℤ, pos}
 use lib.ListN.{length, getD}
-use Rattle.rules.specs.Record.{entryOf}
+use Rattle.rules.specs.Record as Record
+use Rattle.rules.specs.Record.{areaOf, entryOf}
 use Rattle.rules.specs.Deviation as Deviation
 use Rattle.rules.specs.Charge.{shareOf}
 use Rattle.rules.specs.Inner.Kept.{FileKept}
 use Rattle.hour.specs.Hour.{hourIn}
 
--- record i is there, and its deviation and share are worked
-pub record Worked (s : List ℕ) (i : ℕ) (deviation share : ℤ) : Type 0 where
+-- record i is there, its price is its area's, and its deviation and share are worked
+pub record Worked (s : List ℕ) (i : ℕ) (price deviation share : ℤ) : Type 0 where
   pub kept : FileKept s
   pub there : i < hourIn s .count
+  pub price-is : price ≡ Record.price (hourIn s) (areaOf (hourIn s) i)
   pub deviation-is : deviation ≡ Deviation.deviation (entryOf (hourIn s) i)
   pub share-is : share ≡ shareOf (hourIn s) i
 

@@ -11,18 +11,18 @@ ghost use Rattle.rules.specs.Refusals.{mostGrains};
 ghost use Rattle.rules.specs.Settling as Settling;
 ghost use Rattle.rules.specs.Inner.Posting as Posting;
 ghost use Rattle.formula.specs.Room.{LineRoom};
-ghost use Rattle.hour.specs.Hour.{hourIn};
+ghost use Rattle.hour.specs.Hour.{hourIn, Headed};
 ghost use Rattle.lines.specs.Lined.{Worked, AllWorked};
+use hour::Head;
 use rules::Line;
 
-// A record in its member's amount: the zone price of its area times its deviation as it enters, plus its share.
-fn grains(file: &[u8], i: usize, deviation: i64, share: i64) -> i64
-    requires { ⌜ Worked (now file) i deviation share ⌝ }
+// A record in its member's amount: the zone price of its area times its deviation as it enters, plus its share. The price is handed over by
+// itself: eight of them would be copied for each record.
+fn grains(file: &[u8], i: usize, price: i64, deviation: i64, share: i64) -> i64
+    requires { ⌜ Worked (now file) i price deviation share ⌝ }
     ensures { λ r. ⌜ r ≡ Charge.grains (hourIn (now (file .entry))) i ⌝ }
 {
-    let words = hour::record(file, i);
-    let kind = hour::kind_in(words);
-    let price = hour::price(file, hour::area_in(words));
+    let kind = hour::kind_in(hour::record(file, i));
     price * (formula::deviation::entering(kind, deviation) + share)
 }
 
@@ -48,17 +48,19 @@ fn clear_lines(lines: &mut [Line], n: usize)
 }
 
 // Each record to its member's line, in file order. What a member's line held isn't read; the lines past the members' are unchanged.
-pub fn put_lines(file: &[u8], deviations: &[i64], shares: &[i64], lines: &mut [Line])
-    requires { ⌜ AllWorked (now file) (now deviations) (now shares) × (Record.members (hourIn (now file)) ≤ length (now lines)) ⌝ }
+pub fn put_lines(file: &[u8], head: Head, deviations: &[i64], shares: &[i64], lines: &mut [Line])
+    requires { ⌜ Headed (now file) head × AllWorked (now file) (now deviations) (now shares)
+        × (Record.members (hourIn (now file)) ≤ length (now lines)) ⌝ }
     ensures { λ _. ⌜ now (lines .exit)
         ≡ Posting.linesAfter (hourIn (now (file .entry))) (now (lines .entry)) (hourIn (now (file .entry)) .count) ⌝ }
 {
-    clear_lines(lines, hour::members(file));
-    let n = hour::records(file);
+    clear_lines(lines, head.members);
+    let n = head.records;
     let mut i = 0;
     while i < n {
         let member = hour::member_of(file, i);
-        let grains = grains(file, i, deviations[i], shares[i]);
+        let area = hour::area_of(file, i);
+        let grains = grains(file, i, head.prices[area], deviations[i], shares[i]);
         post_line(lines, member, grains);
         i += 1;
     }

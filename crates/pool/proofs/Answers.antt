@@ -31,7 +31,9 @@ use Rattle.rules.proofs.Kept.{passed-kept}
 use Rattle.rules.proofs.Bounds.{amount-under, row-7-never}
 use Rattle.rules.proofs.Demands.{Room, buffers-room}
 use Rattle.rules.proofs.Posting.{lines-are}
-use Rattle.hour.specs.Hour.{hourIn}
+use Rattle.hour.specs.declared.Head.{Head}
+use Rattle.hour.specs.Hour.{hourIn, Headed}
+use Rattle.hour.proofs.Figures.{head-members, head-records}
 use Rattle.byrecord.specs.Shared.{Sharing}
 use Rattle.lines.specs.Lined.{AllWorked}
 use Rattle.lines.proofs.Worked.{all-worked}
@@ -79,9 +81,13 @@ module _ (s : List ℕ) (b : Buffers) where
     area-refused {i} e = refused-with (BadArea i) (rest ∙ rw e) (λ z. let n : _≡_ {A = ℕ} 0 1 = cc z in omega arith)
 
     -- and row 6: what is left is whether a buffer is too short
-    module _ (areas-pass : badArea h ≡ none) {c l n d : ℕ} (lengths : Lengths b c l n d) where
+    module _ (areas-pass : badArea h ≡ none) {c l n d : ℕ} (lengths : Lengths b c l n d) {head : Head} (headed : Headed s head) where
+      -- by the head that was read
       abbrev short : Bool
-      short = ltb c (members h) || ltb l (members h) || ltb n (h .count) || ltb d (h .count)
+      short = ltb c (head .members) || ltb l (head .members) || ltb n (head .records) || ltb d (head .records)
+
+      as-told : {t : Bool} → short ≡ t → (ltb c (members h) || ltb l (members h) || ltb n (h .count) || ltb d (h .count)) ≡ t
+      as-told e = rw (head-members headed, head-records headed) at e
 
       last : verdict (settleRows s b) ≡ verdict (row 11 (tooShort h c l n d) ∷ [])
       unfolding verdict
@@ -89,12 +95,12 @@ module _ (s : List ℕ) (b : Buffers) where
 
       pub some-short : short ≡ true → Says s b (record { answer = TooShort; ufe = noFigures })
       unfolding verdict tooShort
-      some-short t = refused-with TooShort (last ∙ rw t) (λ z. let n : _≡_ {A = ℕ} 0 1 = cc z in omega arith)
+      some-short t = refused-with TooShort (last ∙ rw (as-told t)) (λ z. let n : _≡_ {A = ℕ} 0 1 = cc z in omega arith)
 
       pub all-pass : short ≡ false → {figures : List ℤ} → figures ≡ ufeFigures h → Says s b (record { answer = Accepted; ufe = figures })
       unfolding verdict tooShort
       all-pass f {figures} e =
-          let passes : verdict (settleRows s b) ≡ accepted = last ∙ rw f in
+          let passes : verdict (settleRows s b) ≡ accepted = last ∙ rw (as-told f) in
           says Accepted figures passes (e ∙ sym (settle-fills s b (settle-verdict s b ∙ passes) .1))
 
   -- ---- the buffers

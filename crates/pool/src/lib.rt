@@ -3,10 +3,8 @@
 ghost use mathlib.Core.Path.{_≡_};
 ghost use mathlib.Core.Bool.{_||_};
 ghost use lib.Dec.{ltb};
-ghost use Rattle.rules.specs.Record as Record;
 ghost use Rattle.rules.specs.Settling as Settling;
 ghost use Rattle.rules.specs.Promises.{Fits};
-ghost use Rattle.hour.specs.Hour.{hourIn};
 ghost use Rattle.pool.specs.Buffers.{buffers};
 ghost use Rattle.pool.specs.AsSettled.{AsSettled};
 ghost use Rattle.pool.specs.Unlined.{unlined, FitsUnlined};
@@ -14,20 +12,19 @@ ghost use Rattle.pool.specs.HandedOut.{settlement};
 
 pub mod boundary;
 
+use hour::Head;
 use rules::Answer;
 use rules::Found;
 use rules::Line;
 use rules::Settled;
 
 // Refusal 11: charges or lines shorter than the members, or shares or deviations shorter than the records.
-fn too_short(file: &[u8], charges: usize, lines: usize, shares: usize, deviations: usize) -> bool
-    ensures { λ r. ⌜ r ≡ (ltb charges (Record.members (hourIn (now (file .entry))))
-        || ltb lines (Record.members (hourIn (now (file .entry))))
-        || ltb shares (hourIn (now (file .entry)) .count)
-        || ltb deviations (hourIn (now (file .entry)) .count)) ⌝ }
+fn too_short(head: Head, charges: usize, lines: usize, shares: usize, deviations: usize) -> bool
+    ensures { λ r. ⌜ r ≡ (ltb charges (head .members) || ltb lines (head .members)
+        || ltb shares (head .records) || ltb deviations (head .records)) ⌝ }
 {
-    let members = hour::members(file);
-    let records = hour::records(file);
+    let members = head.members;
+    let records = head.records;
     if charges < members {
         return true;
     }
@@ -49,12 +46,13 @@ fn answered(file: &[u8], charges: usize, lines: usize, shares: usize, deviations
     let Answer::Accepted = answer else {
         return answer::refused(answer);
     };
-    let tally = tally::tally_of(file);
-    let figures = tally::ufe_figures(file, tally);
-    if let Found::At(a) = tally::area_without_demand(file, tally, figures) {
+    let head = hour::head_of(file);
+    let tally = tally::tally_of(file, head);
+    let figures = tally::ufe_figures(file, head, tally);
+    if let Found::At(a) = tally::area_without_demand(file, head, tally, figures) {
         return answer::refused(Answer::BadArea(a));
     }
-    if too_short(file, charges, lines, shares, deviations) {
+    if too_short(head, charges, lines, shares, deviations) {
         return answer::refused(Answer::TooShort);
     }
     Settled {
@@ -87,11 +85,12 @@ pub fn settle(
     let Answer::Accepted = answer else {
         return settled;
     };
-    byrecord::deviations::put_deviations(file, deviations);
+    let head = hour::head_of(file);
+    byrecord::deviations::put_deviations(file, head, deviations);
     let figures = settled.ufe;
-    byrecord::shares::put_shares(file, figures, shares);
-    lines::put_lines(file, deviations, shares, lines);
-    lines::put_charges(lines, hour::members(file), charges);
+    byrecord::shares::put_shares(file, head, figures, shares);
+    lines::put_lines(file, head, deviations, shares, lines);
+    lines::put_charges(lines, head.members, charges);
     settled
 }
 

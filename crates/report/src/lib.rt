@@ -6,21 +6,22 @@ ghost use lib.ListN.{length};
 ghost use Rattle.rules.specs.Record.{members};
 ghost use Rattle.rules.specs.Refusals.{verdictOf};
 ghost use Rattle.rules.specs.Statement as Statement;
-ghost use Rattle.hour.specs.Hour.{hourIn};
+ghost use Rattle.hour.specs.Hour.{hourIn, Headed};
 ghost use Rattle.printing.specs.Put.{Put};
 ghost use Rattle.report.specs.Stated.{Charged, Answered, stated};
+use hour::Head;
 use rules::Answer;
 
 // The most bytes that the statement of any byte string has: 39 for line 1, and 18 for each of 32 members (`statement-fits` of `rules`).
 pub const LONGEST: usize = 615;
 
-// A line a member, in order.
-fn put_members(file: &[u8], charges: &[i64], out: &mut [u8], at: usize) -> usize
-    requires { ⌜ Charged (now file) (now charges) × (at + 18 * members (hourIn (now file)) ≤ length (now out)) ⌝ }
+// A line a member, in order. The file is not read: it says whose head and charges these are.
+fn put_members(file: &[u8], head: Head, charges: &[i64], out: &mut [u8], at: usize) -> usize
+    requires { ⌜ Headed (now file) head × Charged (now file) (now charges) × (at + 18 * members (hourIn (now file)) ≤ length (now out)) ⌝ }
     ensures { λ r. let h = hourIn (now (file .entry)) in
         ⌜ Put (now (out .entry)) at (Statement.memberLines h (members h)) r (now (out .exit)) ⌝ }
 {
-    let members = hour::members(file);
+    let members = head.members;
     let mut place = at;
     let mut m = 0;
     while m < members {
@@ -36,10 +37,11 @@ fn put_accepted(file: &[u8], charges: &[i64], out: &mut [u8]) -> usize
     ensures { λ r. ⌜ Put (now (out .entry)) 0 (Statement.acceptedLines (hourIn (now (file .entry)))) r (now (out .exit)) ⌝ }
 {
     let hour = hour::head_word(file, 8) as u64;
-    let members = hour::members(file) as u64;
-    let records = hour::records(file) as u64;
+    let head = hour::head_of(file);
+    let members = head.members as u64;
+    let records = head.records as u64;
     let after_first = printing::put_first_line(out, hour, members, records);
-    put_members(file, charges, out, after_first)
+    put_members(file, head, charges, out, after_first)
 }
 
 // A refusal's number and place.

@@ -23,7 +23,7 @@ pub struct Line {
 // The hour's tally: the records seen, and each area's demand and energy.
 pub struct Tally {
     pub records: u32,
-    pub demand: [u64; 8],
+    pub demand: [u32; 8],
     pub energy: [i64; 8],
 }
 

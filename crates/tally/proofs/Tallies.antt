@@ -3,24 +3,20 @@
 use mathlib.Core.Path.{_≡_, sym, _∙_, ap}
 use mathlib.Core.Bool.{Bool, true, false, not, and-false, _&&_}
 use mathlib.Core.List.{List}
-use Prim.Native.Nat.{ℕ, _+_, _≤_, _<_}
+use Prim.Native.Nat.{ℕ, _+_, _<_}
 use native.Mathlib.Nat.{le-refl}
 use native.Mathlib.Numerals.{add-one}
 use native.Mathlib.Omega.{arith}
-use lib.Dec.{ltb, eqb}
+use lib.Dec.{eqb}
 use lib.IntN.{ℤ, pos, natAbs, _+ℤ_, _-ℤ_, _*ℤ_}
-use lib.ListN.{getD, replicate, getD-replicate}
-use lib.Seq.{ext-getD}
+use lib.ListN.{getD}
 use mir.Syntax.{w64}
 use mir.Val.{ofZ}
-use borrow.Author.Tests.{ltb-true, ltb-false, eq-eqb, ne-eqb}
-use Rattle.whole.specs.Below.{replacingFirst}
+use borrow.Author.Tests.{eq-eqb, ne-eqb}
 use Rattle.whole.specs.Signed.{Under}
-use Rattle.whole.proofs.Tests.{split}
 use Rattle.whole.proofs.Linear.{abs-zero}
 use Rattle.whole.proofs.Machine.{zero-bits}
 use Rattle.whole.proofs.Ranges.{u-fits}
-use Rattle.whole.proofs.Buffers.{length-values, getD-values, length-replacing, getD-replacing, getD-kept}
 use Rattle.rules.specs.declared.Tally.{Tally}
 use Rattle.rules.specs.Record.{Hour, areas, tieIn, tieOut, areaOf, entryOf}
 use Rattle.rules.specs.Deviation.{unitsPerKWh}
@@ -61,24 +57,6 @@ module _ {s : List ℕ} {t : Tally} (p : Tallied s t) (a : ℕ) (there : a < are
 
   pub ufe-is : unitsPerKWh *ℤ (tieIn hour a -ℤ tieOut hour a) +ℤ getD (t .energy) a (pos 0) ≡ ufe hour a
   ufe-is = rw (p .posted) (sym (tally-gives-ufe hour a place))
-
--- ---- the eight UFE figures
-
-module _ (h : Hour) (few : areas h ≤ 8) where
-  abbrev zeros : List ℤ
-  zeros = replicate 8 (pos 0)
-
-  -- eight zeros of which the areas' places are written
-  pub figures-are : replacingFirst (ufe h) (areas h) zeros ≡ ufeFigures h
-  unfolding ufeFigures
-  figures-are = ext-getD (pos 0) _ _ (length-replacing (ufe h) (areas h) zeros few ∙ sym (length-values _ 8)) (λ a l.
-      let m : a < 8 = omega (arith, length-replacing (ufe h) (areas h) zeros few) in
-      let figure = getD-values _ 8 a (pos 0) m in
-      split (ltb a (areas h))
-      (λ t. getD-replacing (ufe h) (areas h) zeros a (pos 0) (ltb-true a (areas h) t) ∙ sym (figure ∙ rw t))
-      (λ f. getD-kept (ufe h) (areas h) zeros a (pos 0) (ltb-false a (areas h) f)
-      ∙ getD-replicate 8 a (pos 0) (pos 0) m
-      ∙ sym (figure ∙ rw f)))
 
 -- ---- refusal 6, by the code's two tests: of a number, and of a number's bits
 

@@ -6,15 +6,15 @@ ghost use Rattle.rules.specs.Ufe.{ufe};
 ghost use Rattle.rules.specs.Inner.Posting as Posting;
 ghost use Rattle.rules.specs.Refusals.{foundAt, badArea};
 ghost use Rattle.rules.specs.Settling.{ufeFigures};
-ghost use Rattle.rules.specs.Inner.Kept.{FileKept};
 ghost use Rattle.formula.specs.Room.{TallyRoom};
-ghost use Rattle.hour.specs.Hour.{hourIn};
+ghost use Rattle.hour.specs.Hour.{hourIn, Headed};
 ghost use Rattle.tally.specs.Posted.{Tallied};
+use hour::Head;
 use rules::Found;
 use rules::Tally;
 
 // Brings the lent tally up to date.
-fn post(tally: &mut Tally, area: usize, demand: u64, energy: i64)
+fn post(tally: &mut Tally, area: usize, demand: u32, energy: i64)
     requires { ⌜ TallyRoom (now tally) area demand energy ⌝ }
     ensures { λ _. ⌜ now (tally .exit) ≡ Posting.tallied (now (tally .entry)) area demand energy ⌝ }
 {
@@ -23,11 +23,11 @@ fn post(tally: &mut Tally, area: usize, demand: u64, energy: i64)
 }
 
 // All records, in file order, to one tally that is lent to each posting.
-pub fn tally_of(file: &[u8]) -> Tally
-    requires { ⌜ FileKept (now file) ⌝ }
+pub fn tally_of(file: &[u8], head: Head) -> Tally
+    requires { ⌜ Headed (now file) head ⌝ }
     ensures { λ r. ⌜ r ≡ Posting.tallyAfter (hourIn (now (file .entry))) (hourIn (now (file .entry)) .count) ⌝ }
 {
-    let n = hour::records(file);
+    let n = head.records;
     let mut tally = formula::posting::empty_tally();
     let mut i = 0;
     while i < n {
@@ -51,11 +51,11 @@ fn ufe_of(file: &[u8], t: Tally, a: usize) -> i64
 }
 
 // Eight figures, 0 past the areas.
-pub fn ufe_figures(file: &[u8], t: Tally) -> [i64; 8]
-    requires { ⌜ Tallied (now file) t ⌝ }
+pub fn ufe_figures(file: &[u8], head: Head, t: Tally) -> [i64; 8]
+    requires { ⌜ Headed (now file) head × Tallied (now file) t ⌝ }
     ensures { λ r. ⌜ r ≡ ufeFigures (hourIn (now (file .entry))) ⌝ }
 {
-    let areas = hour::areas(file);
+    let areas = head.areas;
     let mut ufe = [0i64; 8];
     let mut a = 0;
     while a < areas {
@@ -65,12 +65,13 @@ pub fn ufe_figures(file: &[u8], t: Tally) -> [i64; 8]
     ufe
 }
 
-// Refusal 6: the first area where nobody demands anything and there is something to share.
-pub fn area_without_demand(file: &[u8], t: Tally, ufe: [i64; 8]) -> Found
-    requires { ⌜ Tallied (now file) t × (ufe ≡ ufeFigures (hourIn (now file))) ⌝ }
+// Refusal 6: the first area where nobody demands anything and there is something to share. The file is not read: it says whose head, tally
+// and figures these are.
+pub fn area_without_demand(file: &[u8], head: Head, t: Tally, ufe: [i64; 8]) -> Found
+    requires { ⌜ Headed (now file) head × Tallied (now file) t × (ufe ≡ ufeFigures (hourIn (now file))) ⌝ }
     ensures { λ r. ⌜ foundAt r ≡ badArea (hourIn (now (file .entry))) ⌝ }
 {
-    let areas = hour::areas(file);
+    let areas = head.areas;
     let mut a = 0;
     while a < areas {
         if t.demand[a] == 0 {

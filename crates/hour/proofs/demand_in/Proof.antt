@@ -16,9 +16,6 @@ is-load-requires c κs = tt
 whole-word-requires : tie.Need-whole-word-requires
 whole-word-requires c κs = omega arith
 
-cast-result : tie.Need-cast-result
-cast-result c = omega arith
-
 -- what the test answered of the kind is what the definition asks
 is-load : (c : tie.After-is-load) → isLoad (kindOf (word (c .before .before .before .args .words .now) 0)) ≡ c .is-load .result
 is-load c = sym (ap isLoad (c .before .kind-in .ensures)) ∙ sym (c .is-load .ensures)
@@ -34,4 +31,4 @@ returns-2 c = rw (is-load (c .before) ∙ c .if1 .left)
 pub demand-in-spec : {M : Type 1} → statement M
 demand-in-spec =
     tie.close
-    (tie.spec kind-in-requires is-load-requires whole-word-requires cast-result returns returns-2)
+    (tie.spec kind-in-requires is-load-requires whole-word-requires returns returns-2)

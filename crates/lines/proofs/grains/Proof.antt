@@ -1,15 +1,15 @@
 -- `lines::grains` meets its contract: price, deviation and share each keep their range, so that the product fits.
-use mathlib.Core.Path.{_≡_, _∙_, ap, ap₂}
+use mathlib.Core.Path.{_≡_, _∙_, ap₂}
 use Prim.Native.Nat.{ℕ}
 use Rattle.whole.proofs.Machine.{Num, result, _:+_, _:*_, fits, stored, back, read-back}
-use Rattle.rules.specs.Record.{Hour, price, entryOf, areaOf}
+use Rattle.rules.specs.Record.{Hour, entryOf, areaOf}
 use Rattle.rules.specs.Deviation.{deviation}
 use Rattle.rules.specs.Charge.{enteringAs, entering, grains}
 use Rattle.rules.specs.Inner.Kept.{RecordKept}
 use Rattle.rules.proofs.Bounds.{deviation-under, entering-under, share-under, price-under}
 use Rattle.hour.proofs.Inside.{record-inside}
 use Rattle.hour.specs.Hour.{hourIn}
-use Rattle.hour.proofs.Rows.{PartOf, part-length, part-kind, part-area}
+use Rattle.hour.proofs.Rows.{PartOf, part-length, part-kind}
 use Rattle.lines.proofs.grains.Statement.{statement}
 use Rattle.lines.proofs.grains.Tie as tie
 
@@ -39,35 +39,20 @@ module _ (c : tie.After-record) where
 kind-in-requires : tie.Need-kind-in-requires
 kind-in-requires c κs = part-length (own c)
 
-area-in-requires : tie.Need-area-in-requires
-area-in-requires c κs = part-length (own (c .before))
-
-area-is : (c : tie.After-area-in) → c .area-in .result ≡ areaOf (h (c .before .before)) (i (c .before .before))
-area-is c = c .area-in .ensures ∙ part-area (own (c .before .before))
-
-price-requires : tie.Need-price-requires
-price-requires c κs = let read = c .before .before in (start read .pre .kept, rw (area-is c) (kept read .area-there))
-
 entering-requires : tie.Need-entering-requires
-entering-requires c κs = let read = c .before .before .before in rw (deviation-is read) (deviation-under (kept read .entry-kept))
+entering-requires c κs = let read = c .before in rw (deviation-is read) (deviation-under (kept read .entry-kept))
 
 -- price, deviation and share, each as a number with its range
 module _ (c : tie.After-entering) where
-  abbrev areaed : tie.After-area-in
-  areaed = c .before .before
-
   abbrev read : tie.After-record
-  read = areaed .before .before
-
-  price-is : c .before .price .result ≡ price (h read) (areaOf (h read) (i read))
-  price-is = c .before .price .ensures ∙ ap (price (h read)) (area-is areaed)
+  read = c .before .before
 
   entering-is : c .entering .result ≡ entering (entryOf (h read) (i read))
   unfolding entering
-  entering-is = c .entering .ensures ∙ ap₂ enteringAs (areaed .before .kind-in .ensures ∙ part-kind (own read)) (deviation-is read)
+  entering-is = c .entering .ensures ∙ ap₂ enteringAs (c .before .kind-in .ensures ∙ part-kind (own read)) (deviation-is read)
 
   abbrev priced : Num
-  priced = result price-is (price-under (start read .pre .kept .hour-kept) (areaOf (h read) (i read)) (kept read .area-there))
+  priced = result (start read .pre .price-is) (price-under (start read .pre .kept .hour-kept) (areaOf (h read) (i read)) (kept read .area-there))
 
   abbrev entered : Num
   entered = result entering-is (entering-under (kept read .entry-kept))
@@ -91,8 +76,6 @@ grains-spec =
     (tie.spec
     record-requires
     kind-in-requires
-    area-in-requires
-    price-requires
     entering-requires
     add-result
     mul-result

@@ -6,7 +6,7 @@ use Prim.Native.Nat.{ℕ}
 use borrow.Author.Needs.{needs}
 use Rattle.rules.specs.Inner.Kept.{FileKept}
 use Rattle.rules.specs.Refusals.{accepted, foundAt, verdictOf, verdict, badArea, fileRows}
-use Rattle.hour.specs.Hour.{hourIn}
+use Rattle.hour.specs.Hour.{hourIn, Headed}
 use Rattle.tally.specs.Posted.{Tallied}
 use Rattle.examine.proofs.Examined.{accepted-kept}
 use Rattle.answer.proofs.Refusing.{no-other}
@@ -50,19 +50,25 @@ module _ (c : tie.After-enum-told) where
   kept : FileKept file
   kept = accepted-kept file (examined .examine .result) (examined .examine .ensures) (c .enum-told .given .1)
 
-tally-of-requires : tie.Need-tally-of-requires
-tally-of-requires c κs = kept c
+head-of-requires : tie.Need-head-of-requires
+head-of-requires c κs = kept c
+
+headed : (c : tie.After-head-of) → Headed (file (c .before)) (c .head-of .result)
+headed c = record { kept = kept (c .before); head-is = c .head-of .ensures }
 
 -- ---- row 6
 
-tallied : (c : tie.After-tally-of) → Tallied (file (c .before)) (c .tally-of .result)
-tallied c = record { kept = kept (c .before); posted = c .tally-of .ensures }
+tally-of-requires : tie.Need-tally-of-requires
+tally-of-requires c κs = headed c
+
+tallied : (c : tie.After-tally-of) → Tallied (file (c .before .before)) (c .tally-of .result)
+tallied c = record { kept = kept (c .before .before); posted = c .tally-of .ensures }
 
 ufe-figures-requires : tie.Need-ufe-figures-requires
-ufe-figures-requires c κs = tallied c
+ufe-figures-requires c κs = (headed (c .before), tallied c)
 
 area-without-demand-requires : tie.Need-area-without-demand-requires
-area-without-demand-requires c κs = (tallied (c .before), c .ufe-figures .ensures)
+area-without-demand-requires c κs = (headed (c .before .before), tallied (c .before), c .ufe-figures .ensures)
 
 enum-known-a : tie.Need-enum-known-a
 enum-known-a c = search needs
@@ -73,7 +79,7 @@ refused-requires-2 c κs = tt
 returns-2 : tie.Need-returns-2
 returns-2 c =
     let searched = c .before .before .before .before in
-    let t = searched .before .before .before in
+    let t = searched .before .before .before .before in
     let broken = sym (searched .area-without-demand .ensures) ∙ ap foundAt (c .before .before .a .given .1) in
     rw (c .refused2 .ensures) (record { says = λ b l. area-refused (file t) b (passed t) (kept t) broken })
 
@@ -96,8 +102,11 @@ module _ (c : tie.After-too-short) where
   abbrev figured : tie.After-ufe-figures
   figured = searched .before
 
+  abbrev begun : tie.After-head-of
+  begun = figured .before .before
+
   abbrev opened : tie.After-enum-told
-  opened = figured .before .before
+  opened = begun .before
 
   areas-pass : badArea (hourIn (file opened)) ≡ none
   areas-pass = sym (searched .area-without-demand .ensures) ∙ ap foundAt (c .before .enum-told2 .given .1)
@@ -107,7 +116,8 @@ returns-3 c =
     let t = c .before .before in
     let o = opened t in
     rw (c .refused3 .ensures) (record {
-      says = λ b l. some-short (file o) b (passed o) (kept o) (areas-pass t) l (sym (t .too-short .ensures) ∙ c .before .if1 .taken);
+      says = λ b l. some-short (file o) b (passed o) (kept o) (areas-pass t) l (headed (begun t))
+          (sym (t .too-short .ensures) ∙ c .before .if1 .taken);
     })
 
 returns-4 : tie.Need-returns-4
@@ -115,7 +125,7 @@ returns-4 c =
     let t = c .before in
     let o = opened t in
     record {
-      says = λ b l. all-pass (file o) b (passed o) (kept o) (areas-pass t) l (sym (t .too-short .ensures) ∙ c .if1 .left)
+      says = λ b l. all-pass (file o) b (passed o) (kept o) (areas-pass t) l (headed (begun t)) (sym (t .too-short .ensures) ∙ c .if1 .left)
           (figured t .ufe-figures .ensures);
     }
 
@@ -127,6 +137,7 @@ answered-spec =
     enum-told
     refused-requires
     returns
+    head-of-requires
     tally-of-requires
     ufe-figures-requires
     area-without-demand-requires

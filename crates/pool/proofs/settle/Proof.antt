@@ -7,6 +7,9 @@ use Prim.Native.Nat.{ℕ}
 use borrow.Author.Needs.{needs}
 use Rattle.rules.specs.declared.Answer.the-variants.{Accepted}
 use Rattle.rules.specs.Settling.{Buffers}
+use Rattle.rules.specs.Inner.Kept.{FileKept}
+use Rattle.hour.specs.Hour.{Headed}
+use Rattle.hour.proofs.Figures.{head-members}
 use Rattle.answer.proofs.Refusing.{no-other}
 use Rattle.pool.specs.AsSettled.{Says}
 use Rattle.pool.specs.Buffers.{buffers}
@@ -45,11 +48,25 @@ module _ (c : tie.After-enum-told) where
   accepts : answer .answered .result .answer ≡ Accepted
   accepts = c .enum-told .given .1
 
+  keeps : FileKept (file answer)
+  keeps = kept (file answer) (lent answer) (said answer) accepts
+
+head-of-requires : tie.Need-head-of-requires
+head-of-requires c κs = keeps c
+
+-- the head is read
+module _ (c : tie.After-head-of) where
+  abbrev given : tie.After-answered
+  given = answer (c .before)
+
+  headed : Headed (file given) (c .head-of .result)
+  headed = record { kept = keeps (c .before); head-is = c .head-of .ensures }
+
 put-deviations-requires : tie.Need-put-deviations-requires
 put-deviations-requires c κs =
     let t = c .before in
-    let a = answer t in
-    (kept (file a) (lent a) (said a) (accepts t), room (file a) (lent a) (said a) (accepts t) .deviations-room)
+    let a = given t in
+    (headed t, room (file a) (lent a) (said a) (accepts (t .before)) .deviations-room)
 
 -- the moments at which deviations, shares, lines and charges are put
 abbrev deviated : tie.After-put-shares-arg → tie.After-put-deviations
@@ -59,23 +76,21 @@ abbrev shared : tie.After-put-lines-arg3 → tie.After-put-shares
 shared c = c .before .before .before .before
 
 abbrev lined : tie.After-put-charges-arg2 → tie.After-put-lines
-lined c = c .before .before .before .before
+lined c = c .before .before .before
 
 put-shares-requires : tie.Need-put-shares-requires
 put-shares-requires c κs =
     let t = deviated c .before .before in
-    let a = answer t in can-share (file a) (lent a) (said a) (accepts t)
+    let a = given t in (headed t, can-share (file a) (lent a) (said a) (accepts (t .before)))
 
 put-lines-requires : tie.Need-put-lines-requires
 put-lines-requires c κs =
     let p = shared c in
     let d = deviated (p .before) in
     let t = d .before .before in
-    let a = answer t in
-    can-put-lines (file a) (lent a) (said a) (accepts t) (d .put-deviations .ensures) (p .put-shares .ensures)
-
-members-requires : tie.Need-members-requires
-members-requires c κs = tt
+    let a = given t in
+    let can = can-put-lines (file a) (lent a) (said a) (accepts (t .before)) (d .put-deviations .ensures) (p .put-shares .ensures) in
+    (headed t, can .0, can .1)
 
 put-charges-requires : tie.Need-put-charges-requires
 put-charges-requires c κs =
@@ -83,9 +98,9 @@ put-charges-requires c κs =
     let p = shared (l .before) in
     let d = deviated (p .before) in
     let t = d .before .before in
-    let a = answer t in
-    can-put-charges (file a) (lent a) (said a) (accepts t) (d .put-deviations .ensures) (p .put-shares .ensures) (l .put-lines .ensures)
-    (c .before .members .ensures)
+    let a = given t in
+    can-put-charges (file a) (lent a) (said a) (accepts (t .before)) (d .put-deviations .ensures) (p .put-shares .ensures)
+    (l .put-lines .ensures) (head-members (headed t))
 
 -- when all is put
 abbrev charged : tie.After-charges → tie.After-put-charges
@@ -110,9 +125,9 @@ returns-2 c =
     let p = shared (l .before) in
     let d = deviated (p .before) in
     let t = d .before .before in
-    let a = answer t in
-    all-filled (file a) (lent a) (said a) (accepts t) (d .put-deviations .ensures) (p .put-shares .ensures) (l .put-lines .ensures)
-    (q .before .before .members .ensures) (q .put-charges .ensures)
+    let a = given t in
+    all-filled (file a) (lent a) (said a) (accepts (t .before)) (d .put-deviations .ensures) (p .put-shares .ensures)
+    (l .put-lines .ensures) (head-members (headed t)) (q .put-charges .ensures)
 
 pub settle-spec : {M : Type 1} → statement M
 settle-spec =
@@ -121,10 +136,10 @@ settle-spec =
     answered-requires
     enum-told
     returns
+    head-of-requires
     put-deviations-requires
     put-shares-requires
     put-lines-requires
-    members-requires
     put-charges-requires
     same-length
     same-length-2

@@ -16,6 +16,7 @@ use Rattle.rules.specs.Charge.{charge}
 use Rattle.rules.specs.Statement.{memberLine, memberLines}
 use Rattle.rules.proofs.Bounds.{charge-under}
 use Rattle.hour.specs.Hour.{hourIn}
+use Rattle.hour.proofs.Figures.{head-members}
 use Rattle.rules.proofs.Stated.{member-lines-length}
 use Rattle.printing.specs.Put.{Put}
 use Rattle.printing.proofs.Putting.{put-nothing, put-length, put-on, put-as}
@@ -43,32 +44,30 @@ Inv-loop file charges out₀ at members place₀ m₀ out place m =
 abbrev μ-loop : tie.MeasureT-loop
 μ-loop file charges out₀ at members place₀ m₀ out place m = members - m
 
-members-requires : tie.Need-members-requires Inv-loop μ-loop
-members-requires c κs = tt
-
 loop-holds : tie.Need-loop-holds Inv-loop μ-loop
 loop-holds c =
-    let s = c .before .before .before .args in (omega arith, c .members .ensures, put-none (hourIn (s .file .now)) (s .out .now) (s .at))
+    let s = c .before .before in
+    (omega arith, head-members (s .pre .0), put-none (hourIn (s .args .file .now)) (s .args .out .now) (s .args .at))
 
 mul-put-member : tie.Need-mul-put-member Inv-loop μ-loop
 mul-put-member c =
-    let s = c .before .before .before .before .before .before in
+    let s = c .before .before .before .before .before in
     omega (arith, s .pre .0 .kept .hour-kept .members-most, c .before .before .loop .inv .1)
 
 shared-slice-copy-out-put-member : tie.Need-shared-slice-copy-out-put-member Inv-loop μ-loop
 shared-slice-copy-out-put-member c =
-    let s = c .before .before .before .before .before .before in
-    omega (arith, s .pre .0 .room, c .before .before .loop .inv .1)
+    let s = c .before .before .before .before .before in
+    omega (arith, s .pre .1 .room, c .before .before .loop .inv .1)
 
 put-member-requires : tie.Need-put-member-requires Inv-loop μ-loop
 put-member-requires c κs =
     let l = c .before .before .before .loop in
-    let s = c .before .before .before .before .before .before .before in
+    let s = c .before .before .before .before .before .before in
     let h = hourIn (s .args .file .now) in
     let there : l .m < Record.members h = omega (arith, l .inv .1) in (
-      omega (arith, l .inv .2 .next-is, put-length (l .inv .2), member-lines-length h (l .m), s .pre .1),
+      omega (arith, l .inv .2 .next-is, put-length (l .inv .2), member-lines-length h (l .m), s .pre .2),
       omega (arith, s .pre .0 .kept .hour-kept .members-most),
-      rw (held (s .pre .0) (l .m) there) (omega (arith, charge-under (s .pre .0 .kept .hour-kept) (l .m) .under)),
+      rw (held (s .pre .1) (l .m) there) (omega (arith, charge-under (s .pre .0 .kept .hour-kept) (l .m) .under)),
     )
 
 add-m : tie.Need-add-m Inv-loop μ-loop
@@ -80,12 +79,12 @@ loop-less c = omega arith
 loop-again : tie.Need-loop-again Inv-loop μ-loop
 loop-again c =
     let l = c .before .before .before .before .before .before .loop in
-    let s = c .before .before .before .before .before .before .before .before .before .before in
+    let s = c .before .before .before .before .before .before .before .before .before in
     let h = hourIn (s .args .file .now) in
     let there : l .m < Record.members h = omega (arith, l .inv .1) in (
       omega arith,
       l .inv .1,
-      put-as (next-line h (l .m)) (put-on (l .inv .2) (rw (held (s .pre .0) (l .m) there) at (c .before .before .put-member .ensures))),
+      put-as (next-line h (l .m)) (put-on (l .inv .2) (rw (held (s .pre .1) (l .m) there) at (c .before .before .put-member .ensures))),
     )
 
 same-length : tie.Need-same-length Inv-loop μ-loop
@@ -94,7 +93,7 @@ same-length c = put-length (c .before .loop .inv .2)
 returns : tie.Need-returns Inv-loop μ-loop
 returns c =
     let l = c .before .loop in
-    let all : l .m ≡ Record.members (hourIn (c .before .before .before .before .before .args .file .now)) =
+    let all : l .m ≡ Record.members (hourIn (c .before .before .before .before .args .file .now)) =
     omega (arith, l .inv .0, l .inv .1) in
     rw all at (l .inv .2)
 
@@ -104,7 +103,6 @@ put-members-spec =
     (tie.spec
     Inv-loop
     μ-loop
-    members-requires
     loop-holds
     mul-put-member
     shared-slice-copy-out-put-member

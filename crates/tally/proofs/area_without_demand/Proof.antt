@@ -9,6 +9,7 @@ use Rattle.whole.proofs.Search.{first-next, first-hit}
 use Rattle.rules.specs.Refusals.{badArea}
 use Rattle.rules.specs.Record as Record
 use Rattle.hour.specs.Hour.{hourIn}
+use Rattle.hour.proofs.Figures.{head-areas}
 use Rattle.tally.proofs.Tallies.{nobody-demands, somebody-demands, nothing-to-share, noDemand}
 use Rattle.tally.proofs.area_without_demand.Statement.{statement}
 use Rattle.tally.proofs.area_without_demand.Tie as tie
@@ -21,17 +22,18 @@ abbrev μ-loop : tie.MeasureT-loop
 
 -- the start, as it is seen at the head of a turn; and the head of the turn, as it is seen where the tests of that turn have met
 abbrev start : tie.At-loop Inv-loop μ-loop → tie.Start Inv-loop μ-loop
-start c = c .before .before .before
+start c = c .before
 
 abbrev turn : tie.Joined1 Inv-loop μ-loop → tie.At-loop Inv-loop μ-loop
 turn c = c .before .before .before
 
+-- the loop runs over the hour's areas
+counted : (c : tie.Start Inv-loop μ-loop) → c .args .head .areas ≡ Record.areas (hourIn (c .args .file .now))
+counted c = head-areas (c .pre .0)
+
 -- the area of a turn has its place among eight
 few : (c : tie.In-loop Inv-loop μ-loop) → c .before .loop .a < 8
-few c = omega (arith, start (c .before) .pre .0 .kept .hour-kept .areas-most)
-
-areas-requires : tie.Need-areas-requires Inv-loop μ-loop
-areas-requires c κs = tt
+few c = let s = start (c .before) in omega (arith, counted s, s .pre .0 .kept .hour-kept .areas-most)
 
 loop-holds : tie.Need-loop-holds Inv-loop μ-loop
 unfolding firstBelow
@@ -55,8 +57,8 @@ returns c =
     let demanded = c .before .before in
     let at = demanded .before .before .before in
     let h = hourIn (start at .args .file .now) in
-    let there : at .loop .a < Record.areas h = omega arith in
-    let broken = nobody-demands (start at .pre .0) (start at .pre .1) (at .loop .a) there (demanded .if1 .taken) (c .if2 .taken) in
+    let there : at .loop .a < Record.areas h = omega (arith, counted (start at)) in
+    let broken = nobody-demands (start at .pre .1) (start at .pre .2) (at .loop .a) there (demanded .if1 .taken) (c .if2 .taken) in
     sym (first-hit (noDemand h) (at .loop .a) (Record.areas h) (at .loop .inv .1) broken there)
 
 add-a : tie.Need-add-a Inv-loop μ-loop
@@ -71,15 +73,15 @@ loop-again c =
     let p = start at .pre in
     let whole =
     ⊎-elim
-    (λ w. nothing-to-share (p .0) (p .1) (at .loop .a) (omega arith) (w .2 .left))
-    (λ w. somebody-demands (p .0) (p .1) (at .loop .a) (omega arith) (w .left))
+    (λ w. nothing-to-share (p .1) (p .2) (at .loop .a) (omega (arith, counted (start at))) (w .2 .left))
+    (λ w. somebody-demands (p .1) (p .2) (at .loop .a) (omega (arith, counted (start at))) (w .left))
     (c .if1 .came) in
     (omega arith, first-next (noDemand (hourIn (start at .args .file .now))) (at .loop .a) (at .loop .inv .1) whole)
 
 returns-2 : tie.Need-returns-2 Inv-loop μ-loop
 unfolding badArea
 returns-2 c =
-    let all : Record.areas (hourIn (start (c .before) .args .file .now)) ≡ c .before .loop .a = omega arith in
+    let all : Record.areas (hourIn (start (c .before) .args .file .now)) ≡ c .before .loop .a = omega (arith, counted (start (c .before))) in
     rw all (sym (c .before .loop .inv .1))
 
 pub area-without-demand-spec : {M : Type 1} → statement M
@@ -88,7 +90,6 @@ area-without-demand-spec =
     (tie.spec
     Inv-loop
     μ-loop
-    areas-requires
     loop-holds
     mul-if1
     element-copy-out-if1

@@ -12,6 +12,7 @@ use borrow.Author.Needs.{sfits-of}
 use Rattle.rules.specs.Record.{entryOf, areaOf}
 use Rattle.rules.specs.Inner.Posting.{accounted, demandOf, tallyAfter}
 use Rattle.hour.specs.Hour.{hourIn}
+use Rattle.hour.proofs.Figures.{head-records}
 use Rattle.tally.specs.Posted.{TalliedUpTo}
 use Rattle.tally.proofs.Tallies.{has-room, next-tally}
 use Rattle.tally.proofs.tally_of.Statement.{statement}
@@ -23,9 +24,6 @@ Inv-loop file n tally₀ i₀ tally i = (i ≤ n) × (tally ≡ tallyAfter (hour
 abbrev μ-loop : tie.MeasureT-loop
 μ-loop file n tally₀ i₀ tally i = n - i
 
-records-requires : tie.Need-records-requires Inv-loop μ-loop
-records-requires c κs = tt
-
 empty-tally-requires : tie.Need-empty-tally-requires Inv-loop μ-loop
 empty-tally-requires c κs = tt
 
@@ -36,7 +34,7 @@ loop-holds c = (omega arith, c .empty-tally .ensures)
 -- a turn: record i, of which the tally has those before it
 module _ (turn : tie.In-loop Inv-loop μ-loop) where
   abbrev start : tie.Start Inv-loop μ-loop
-  start = turn .before .before .before .before .before
+  start = turn .before .before .before .before
 
   abbrev file : List ℕ
   file = start .args .file .now
@@ -45,16 +43,16 @@ module _ (turn : tie.In-loop Inv-loop μ-loop) where
   i = turn .before .loop .i
 
   up-to : TalliedUpTo file (turn .before .loop .tally) i
-  up-to = record { kept = start .pre; there = omega arith; posted = turn .before .loop .inv .1 }
+  up-to = record { kept = start .pre .kept; there = omega (arith, head-records (start .pre)); posted = turn .before .loop .inv .1 }
 
 area-of-requires : tie.Need-area-of-requires Inv-loop μ-loop
-area-of-requires c κs = (start c .pre, up-to c .there)
+area-of-requires c κs = (up-to c .kept, up-to c .there)
 
 demand-of-requires : tie.Need-demand-of-requires Inv-loop μ-loop
-demand-of-requires c κs = let t = c .before in (start t .pre, up-to t .there)
+demand-of-requires c κs = let t = c .before in (up-to t .kept, up-to t .there)
 
 entry-of-requires : tie.Need-entry-of-requires Inv-loop μ-loop
-entry-of-requires c κs = let t = c .before .before in (start t .pre, up-to t .there)
+entry-of-requires c κs = let t = c .before .before in (up-to t .kept, up-to t .there)
 
 accounted-requires : tie.Need-accounted-requires Inv-loop μ-loop
 accounted-requires c κs =
@@ -92,8 +90,9 @@ loop-again c =
 returns : tie.Need-returns Inv-loop μ-loop
 returns c =
     let at = c .before in
-    let h = hourIn (at .before .before .before .before .args .file .now) in
-    let all : at .loop .i ≡ h .count = omega arith in
+    let s = at .before .before .before in
+    let h = hourIn (s .args .file .now) in
+    let all : at .loop .i ≡ h .count = omega (arith, head-records (s .pre)) in
     at .loop .inv .1 ∙ ap (tallyAfter h) all
 
 pub tally-of-spec : {M : Type 1} → statement M
@@ -102,7 +101,6 @@ tally-of-spec =
     (tie.spec
     Inv-loop
     μ-loop
-    records-requires
     empty-tally-requires
     loop-holds
     area-of-requires

@@ -1,5 +1,5 @@
 -- `tally::ufe_figures` meets its contract. The loop's invariant: of eight zeros the places passed are replaced by their area's UFE.
-use mathlib.Core.Path.{_∙_}
+use mathlib.Core.Path.{_≡_, _∙_}
 use Prim.Native.Nat.{_-_, _≤_}
 use native.Mathlib.Omega.{arith}
 use lib.IntN.{pos}
@@ -10,7 +10,8 @@ use Rattle.whole.proofs.Filling.{Filled, none-filled, next-filled, first-filled
 use Rattle.rules.specs.Record as Record
 use Rattle.rules.specs.Ufe as Ufe
 use Rattle.hour.specs.Hour.{hourIn}
-use Rattle.tally.proofs.Tallies.{figures-are}
+use Rattle.rules.specs.Settling.{ufeFigures}
+use Rattle.hour.proofs.Figures.{eight-filled, head-areas}
 use Rattle.tally.proofs.ufe_figures.Statement.{statement}
 use Rattle.tally.proofs.ufe_figures.Tie as tie
 
@@ -22,25 +23,26 @@ abbrev μ-loop : tie.MeasureT-loop
 
 module _ (c : tie.At-loop Inv-loop μ-loop) where
   abbrev start : tie.Start Inv-loop μ-loop
-  start = c .before .before .before
+  start = c .before .before
 
   few : Record.areas (hourIn (start .args .file .now)) ≤ 8
-  few = start .pre .kept .hour-kept .areas-most
+  few = start .pre .0 .kept .hour-kept .areas-most
 
-areas-requires : tie.Need-areas-requires Inv-loop μ-loop
-areas-requires c κs = tt
+  -- the loop runs over the hour's areas
+  counted : start .args .head .areas ≡ Record.areas (hourIn (start .args .file .now))
+  counted = head-areas (start .pre .0)
 
 loop-holds : tie.Need-loop-holds Inv-loop μ-loop
-loop-holds c = none-filled (c .before .before .pre .kept .hour-kept .areas-most)
+loop-holds c = none-filled (c .before .pre .0 .kept .hour-kept .areas-most)
 
 ufe-of-requires : tie.Need-ufe-of-requires Inv-loop μ-loop
-ufe-of-requires c κs = (start (c .before) .pre, omega arith)
+ufe-of-requires c κs = (start (c .before) .pre .1, omega (arith, counted (c .before)))
 
 mul-ufe : tie.Need-mul-ufe Inv-loop μ-loop
-mul-ufe c = omega (arith, few (c .before .before))
+mul-ufe c = omega (arith, few (c .before .before), counted (c .before .before))
 
 array-set-from-ufe : tie.Need-array-set-from-ufe Inv-loop μ-loop
-array-set-from-ufe c = omega (arith, few (c .before .before))
+array-set-from-ufe c = omega (arith, few (c .before .before), counted (c .before .before))
 
 add-a : tie.Need-add-a Inv-loop μ-loop
 add-a c = omega arith
@@ -49,11 +51,16 @@ loop-less : tie.Need-loop-less Inv-loop μ-loop
 loop-less c = omega arith
 
 loop-again : tie.Need-loop-again Inv-loop μ-loop
-loop-again c = next-filled (c .before .before .loop .inv) (omega arith) (read-back (sfits-of (c .ufe-of .ok)) ∙ c .ufe-of .ensures)
+loop-again c =
+    let at = c .before .before in
+    next-filled (at .loop .inv) (omega (arith, counted at)) (read-back (sfits-of (c .ufe-of .ok)) ∙ c .ufe-of .ensures)
 
 returns : tie.Need-returns Inv-loop μ-loop
+unfolding ufeFigures
 returns c =
-    first-filled (c .before .loop .inv) (omega arith) ∙ figures-are (hourIn (start (c .before) .args .file .now)) (few (c .before))
+    let at = c .before in
+    let h = hourIn (start at .args .file .now) in
+    first-filled (at .loop .inv) (omega (arith, counted at)) ∙ eight-filled (Ufe.ufe h) (Record.areas h) (few at)
 
 pub ufe-figures-spec : {M : Type 1} → statement M
 ufe-figures-spec =
@@ -61,7 +68,6 @@ ufe-figures-spec =
     (tie.spec
     Inv-loop
     μ-loop
-    areas-requires
     loop-holds
     ufe-of-requires
     mul-ufe

@@ -1,5 +1,6 @@
 -- `byrecord::shares::demand_there` meets its contract: a record's demand where its area is the one asked for, and 0 elsewhere.
 use mathlib.Core.Path.{_∙_}
+use native.Mathlib.Omega.{arith}
 use Rattle.rules.specs.Record.{entry, entryOf}
 use Rattle.rules.specs.Inner.Posting.{demandBy}
 use Rattle.rules.specs.Ufe.{inArea}
@@ -26,6 +27,9 @@ area-in-requires c κs = part-length (own c)
 demand-in-requires : tie.Need-demand-in-requires
 demand-in-requires c κs = part-length (own (c .before .before))
 
+cast-result : tie.Need-cast-result
+cast-result c = omega arith
+
 returns : tie.Need-returns
 unfolding demandIn demandBy inArea entryOf entry
 returns c =
@@ -39,4 +43,4 @@ returns-2 c = rw (elsewhere (own (c .before .before)) (c .before .area-in .ensur
 
 pub demand-there-spec : {M : Type 1} → statement M
 demand-there-spec =
-    tie.close (tie.spec record-requires area-in-requires demand-in-requires returns returns-2)
+    tie.close (tie.spec record-requires area-in-requires demand-in-requires cast-result returns returns-2)

@@ -38,14 +38,14 @@ module _ (κs : Lifetimes.Lfts 4) where
   abbrev pub ensures : (a : World.ArgsD put_lines.signature κs) → (g : Ghost) → (r : World.ResD put_lines.signature κs) → (s : Clauses.AtExit (Kinds'.endedOf 4 Kinds.ps Kinds.r) κs) → (w : World.World) → World.Pr w
   ensures = λ a g r s w. put_lines.clauses (w .𝓤) (w .H) (w .𝓖 .A) (w .𝓜 .mem) (w .𝓡 .run) κs a .ensures g r s
 
-  abbrev pub requires-1·read : (a : World.ArgsD put_lines.signature κs) → (g : Ghost) → Read.Read (World.In put_lines.signature κs a) Read.no-know λ w. put_lines.requires-1 (w .𝓤) (w .H) κs (w .𝓖 .A) (w .𝓜 .mem) (w .𝓡 .run) (a .0) (a .1 .0) (a .1 .1 .0) (a .1 .1 .1 .0)
-  requires-1·read = λ a g. Read.all-models (λ w. put_lines.requires-1 (w .𝓤) (w .H) κs (w .𝓖 .A) (w .𝓜 .mem) (w .𝓡 .run) (a .0) (a .1 .0) (a .1 .1 .0) (a .1 .1 .1 .0)) (λ w. Read.r-last _) (λ w. Path'.refl) (λ w. Path'.refl) λ w. Path'.refl
+  abbrev pub requires-1·read : (a : World.ArgsD put_lines.signature κs) → (g : Ghost) → Read.Read (World.In put_lines.signature κs a) Read.no-know λ w. put_lines.requires-1 (w .𝓤) (w .H) κs (w .𝓖 .A) (w .𝓜 .mem) (w .𝓡 .run) (a .0) (a .1 .0) (a .1 .1 .0) (a .1 .1 .1 .0) (a .1 .1 .1 .1 .0)
+  requires-1·read = λ a g. Read.all-models (λ w. put_lines.requires-1 (w .𝓤) (w .H) κs (w .𝓖 .A) (w .𝓜 .mem) (w .𝓡 .run) (a .0) (a .1 .0) (a .1 .1 .0) (a .1 .1 .1 .0) (a .1 .1 .1 .1 .0)) (λ w. Read.r-last _) (λ w. Path'.refl) (λ w. Path'.refl) λ w. Path'.refl
 
   abbrev pub pre-read : (a : World.ArgsD put_lines.signature κs) → (g : Ghost) → Read.Read (World.In put_lines.signature κs a) Read.no-know (requires a g)
   pre-read = λ a g. requires-1·read a g
 
-  abbrev pub ensures-1·read : (a : World.ArgsD put_lines.signature κs) → (g : Ghost) → (r : World.ResD put_lines.signature κs) → (s : Clauses.AtExit (Kinds'.endedOf 4 Kinds.ps Kinds.r) κs) → Read.Read (Base a) (Owned r s) λ w. put_lines.ensures-1 (w .𝓤) (w .H) κs (w .𝓖 .A) (w .𝓜 .mem) (w .𝓡 .run) (a .0) (a .1 .0) (a .1 .1 .0) (a .1 .1 .1 .0) record { entry = a .0; exit = s .0 } record { entry = a .1 .0; exit = s .1 .0 } record { entry = a .1 .1 .0; exit = s .1 .1 .0 } record { entry = a .1 .1 .1 .0; exit = s .1 .1 .1 .0 } r
-  ensures-1·read = λ a g r s. Read.all-models (λ w. put_lines.ensures-1 (w .𝓤) (w .H) κs (w .𝓖 .A) (w .𝓜 .mem) (w .𝓡 .run) (a .0) (a .1 .0) (a .1 .1 .0) (a .1 .1 .1 .0) record { entry = a .0; exit = s .0 } record { entry = a .1 .0; exit = s .1 .0 } record { entry = a .1 .1 .0; exit = s .1 .1 .0 } record { entry = a .1 .1 .1 .0; exit = s .1 .1 .1 .0 } r) (λ w. Read.r-last _) (λ w. Path'.refl) (λ w. Path'.refl) λ w. Path'.refl
+  abbrev pub ensures-1·read : (a : World.ArgsD put_lines.signature κs) → (g : Ghost) → (r : World.ResD put_lines.signature κs) → (s : Clauses.AtExit (Kinds'.endedOf 4 Kinds.ps Kinds.r) κs) → Read.Read (Base a) (Owned r s) λ w. put_lines.ensures-1 (w .𝓤) (w .H) κs (w .𝓖 .A) (w .𝓜 .mem) (w .𝓡 .run) (a .0) (a .1 .0) (a .1 .1 .0) (a .1 .1 .1 .0) (a .1 .1 .1 .1 .0) record { entry = a .0; exit = s .0 } record { entry = a .1 .0; exit = s .1 .0 } record { entry = a .1 .1 .0; exit = s .1 .1 .0 } record { entry = a .1 .1 .1 .0; exit = s .1 .1 .1 .0 } record { entry = a .1 .1 .1 .1 .0; exit = s .1 .1 .1 .1 .0 } r
+  ensures-1·read = λ a g r s. Read.all-models (λ w. put_lines.ensures-1 (w .𝓤) (w .H) κs (w .𝓖 .A) (w .𝓜 .mem) (w .𝓡 .run) (a .0) (a .1 .0) (a .1 .1 .0) (a .1 .1 .1 .0) (a .1 .1 .1 .1 .0) record { entry = a .0; exit = s .0 } record { entry = a .1 .0; exit = s .1 .0 } record { entry = a .1 .1 .0; exit = s .1 .1 .0 } record { entry = a .1 .1 .1 .0; exit = s .1 .1 .1 .0 } record { entry = a .1 .1 .1 .1 .0; exit = s .1 .1 .1 .1 .0 } r) (λ w. Read.r-last _) (λ w. Path'.refl) (λ w. Path'.refl) λ w. Path'.refl
 
   abbrev pub post-read : (a : World.ArgsD put_lines.signature κs) → (g : Ghost) → (r : World.ResD put_lines.signature κs) → (s : Clauses.AtExit (Kinds'.endedOf 4 Kinds.ps Kinds.r) κs) → Read.Read (Base a) (Owned r s) (ensures a g r s)
   post-read = λ a g r s. ensures-1·read a g r s

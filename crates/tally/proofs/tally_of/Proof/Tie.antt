@@ -14,17 +14,14 @@ use Rattle.hour.proofs.demand_of.Symbol as Symbol'3
 use Rattle.hour.proofs.entry_of.Met as Met'4
 use Rattle.hour.proofs.entry_of.Reads as Reads'4
 use Rattle.hour.proofs.entry_of.Symbol as Symbol'4
-use Rattle.hour.proofs.records.Met as Met'5
-use Rattle.hour.proofs.records.Reads as Reads'5
-use Rattle.hour.proofs.records.Symbol as Symbol'5
-use Rattle.tally.proofs.post.Met as Met'6
-use Rattle.tally.proofs.Port.post.Reads as Reads'6
-use Rattle.tally.proofs.post.Symbol as Symbol'6
+use Rattle.tally.proofs.post.Met as Met'5
+use Rattle.tally.proofs.Port.post.Reads as Reads'5
+use Rattle.tally.proofs.post.Symbol as Symbol'5
 use Rattle.tally.proofs.tally_of.Code
 use Rattle.tally.proofs.tally_of.Key
 use Rattle.tally.proofs.tally_of.Kinds
 use Rattle.tally.proofs.tally_of.Proof.Lts
-use Rattle.tally.proofs.tally_of.Reads as Reads'7
+use Rattle.tally.proofs.tally_of.Reads as Reads'6
 use Rattle.tally.proofs.tally_of.Statement
 use borrow.Fn.Run
 use borrow.Fn.Written
@@ -37,84 +34,78 @@ abbrev pub MeasureT-loop : Type 0
 MeasureT-loop = Lts.MeasureT-loop
 
 abbrev pub Start : (Inv : InvT-loop) → (μ : MeasureT-loop) → Type 0
-Start = λ Inv μ. Lts.Start (Reads'5.Asked, Reads'5.Learnt, Reads'.Asked, Reads'.Learnt, Reads''.Asked, Reads''.Learnt, Reads'3.Asked, Reads'3.Learnt, Reads'4.Asked, Reads'4.Learnt, Reads.Asked, Reads.Learnt, Reads'6.Asked, Reads'6.Learnt) Reads'7.Pre Reads'7.Post Inv μ
+Start = λ Inv μ. Lts.Start (Reads'.Asked, Reads'.Learnt, Reads''.Asked, Reads''.Learnt, Reads'3.Asked, Reads'3.Learnt, Reads'4.Asked, Reads'4.Learnt, Reads.Asked, Reads.Learnt, Reads'5.Asked, Reads'5.Learnt) Reads'6.Pre Reads'6.Post Inv μ
 
 abbrev pub After-shared-slice-known : (Inv : InvT-loop) → (μ : MeasureT-loop) → Type 0
-After-shared-slice-known = λ Inv μ. Lts.After-shared-slice-known (Reads'5.Asked, Reads'5.Learnt, Reads'.Asked, Reads'.Learnt, Reads''.Asked, Reads''.Learnt, Reads'3.Asked, Reads'3.Learnt, Reads'4.Asked, Reads'4.Learnt, Reads.Asked, Reads.Learnt, Reads'6.Asked, Reads'6.Learnt) Reads'7.Pre Reads'7.Post Inv μ
-
-abbrev pub After-records : (Inv : InvT-loop) → (μ : MeasureT-loop) → Type 0
-After-records = λ Inv μ. Lts.After-records (Reads'5.Asked, Reads'5.Learnt, Reads'.Asked, Reads'.Learnt, Reads''.Asked, Reads''.Learnt, Reads'3.Asked, Reads'3.Learnt, Reads'4.Asked, Reads'4.Learnt, Reads.Asked, Reads.Learnt, Reads'6.Asked, Reads'6.Learnt) Reads'7.Pre Reads'7.Post Inv μ
+After-shared-slice-known = λ Inv μ. Lts.After-shared-slice-known (Reads'.Asked, Reads'.Learnt, Reads''.Asked, Reads''.Learnt, Reads'3.Asked, Reads'3.Learnt, Reads'4.Asked, Reads'4.Learnt, Reads.Asked, Reads.Learnt, Reads'5.Asked, Reads'5.Learnt) Reads'6.Pre Reads'6.Post Inv μ
 
 abbrev pub After-empty-tally : (Inv : InvT-loop) → (μ : MeasureT-loop) → Type 0
-After-empty-tally = λ Inv μ. Lts.After-empty-tally (Reads'5.Asked, Reads'5.Learnt, Reads'.Asked, Reads'.Learnt, Reads''.Asked, Reads''.Learnt, Reads'3.Asked, Reads'3.Learnt, Reads'4.Asked, Reads'4.Learnt, Reads.Asked, Reads.Learnt, Reads'6.Asked, Reads'6.Learnt) Reads'7.Pre Reads'7.Post Inv μ
+After-empty-tally = λ Inv μ. Lts.After-empty-tally (Reads'.Asked, Reads'.Learnt, Reads''.Asked, Reads''.Learnt, Reads'3.Asked, Reads'3.Learnt, Reads'4.Asked, Reads'4.Learnt, Reads.Asked, Reads.Learnt, Reads'5.Asked, Reads'5.Learnt) Reads'6.Pre Reads'6.Post Inv μ
 
 abbrev pub At-loop : (Inv : InvT-loop) → (μ : MeasureT-loop) → Type 0
-At-loop = λ Inv μ. Lts.At-loop (Reads'5.Asked, Reads'5.Learnt, Reads'.Asked, Reads'.Learnt, Reads''.Asked, Reads''.Learnt, Reads'3.Asked, Reads'3.Learnt, Reads'4.Asked, Reads'4.Learnt, Reads.Asked, Reads.Learnt, Reads'6.Asked, Reads'6.Learnt) Reads'7.Pre Reads'7.Post Inv μ
+At-loop = λ Inv μ. Lts.At-loop (Reads'.Asked, Reads'.Learnt, Reads''.Asked, Reads''.Learnt, Reads'3.Asked, Reads'3.Learnt, Reads'4.Asked, Reads'4.Learnt, Reads.Asked, Reads.Learnt, Reads'5.Asked, Reads'5.Learnt) Reads'6.Pre Reads'6.Post Inv μ
 
 abbrev pub In-loop : (Inv : InvT-loop) → (μ : MeasureT-loop) → Type 0
-In-loop = λ Inv μ. Lts.In-loop (Reads'5.Asked, Reads'5.Learnt, Reads'.Asked, Reads'.Learnt, Reads''.Asked, Reads''.Learnt, Reads'3.Asked, Reads'3.Learnt, Reads'4.Asked, Reads'4.Learnt, Reads.Asked, Reads.Learnt, Reads'6.Asked, Reads'6.Learnt) Reads'7.Pre Reads'7.Post Inv μ
+In-loop = λ Inv μ. Lts.In-loop (Reads'.Asked, Reads'.Learnt, Reads''.Asked, Reads''.Learnt, Reads'3.Asked, Reads'3.Learnt, Reads'4.Asked, Reads'4.Learnt, Reads.Asked, Reads.Learnt, Reads'5.Asked, Reads'5.Learnt) Reads'6.Pre Reads'6.Post Inv μ
 
 abbrev pub After-loop : (Inv : InvT-loop) → (μ : MeasureT-loop) → Type 0
-After-loop = λ Inv μ. Lts.After-loop (Reads'5.Asked, Reads'5.Learnt, Reads'.Asked, Reads'.Learnt, Reads''.Asked, Reads''.Learnt, Reads'3.Asked, Reads'3.Learnt, Reads'4.Asked, Reads'4.Learnt, Reads.Asked, Reads.Learnt, Reads'6.Asked, Reads'6.Learnt) Reads'7.Pre Reads'7.Post Inv μ
+After-loop = λ Inv μ. Lts.After-loop (Reads'.Asked, Reads'.Learnt, Reads''.Asked, Reads''.Learnt, Reads'3.Asked, Reads'3.Learnt, Reads'4.Asked, Reads'4.Learnt, Reads.Asked, Reads.Learnt, Reads'5.Asked, Reads'5.Learnt) Reads'6.Pre Reads'6.Post Inv μ
 
 abbrev pub After-area-of : (Inv : InvT-loop) → (μ : MeasureT-loop) → Type 0
-After-area-of = λ Inv μ. Lts.After-area-of (Reads'5.Asked, Reads'5.Learnt, Reads'.Asked, Reads'.Learnt, Reads''.Asked, Reads''.Learnt, Reads'3.Asked, Reads'3.Learnt, Reads'4.Asked, Reads'4.Learnt, Reads.Asked, Reads.Learnt, Reads'6.Asked, Reads'6.Learnt) Reads'7.Pre Reads'7.Post Inv μ
+After-area-of = λ Inv μ. Lts.After-area-of (Reads'.Asked, Reads'.Learnt, Reads''.Asked, Reads''.Learnt, Reads'3.Asked, Reads'3.Learnt, Reads'4.Asked, Reads'4.Learnt, Reads.Asked, Reads.Learnt, Reads'5.Asked, Reads'5.Learnt) Reads'6.Pre Reads'6.Post Inv μ
 
 abbrev pub After-demand-of : (Inv : InvT-loop) → (μ : MeasureT-loop) → Type 0
-After-demand-of = λ Inv μ. Lts.After-demand-of (Reads'5.Asked, Reads'5.Learnt, Reads'.Asked, Reads'.Learnt, Reads''.Asked, Reads''.Learnt, Reads'3.Asked, Reads'3.Learnt, Reads'4.Asked, Reads'4.Learnt, Reads.Asked, Reads.Learnt, Reads'6.Asked, Reads'6.Learnt) Reads'7.Pre Reads'7.Post Inv μ
+After-demand-of = λ Inv μ. Lts.After-demand-of (Reads'.Asked, Reads'.Learnt, Reads''.Asked, Reads''.Learnt, Reads'3.Asked, Reads'3.Learnt, Reads'4.Asked, Reads'4.Learnt, Reads.Asked, Reads.Learnt, Reads'5.Asked, Reads'5.Learnt) Reads'6.Pre Reads'6.Post Inv μ
 
 abbrev pub After-entry-of : (Inv : InvT-loop) → (μ : MeasureT-loop) → Type 0
-After-entry-of = λ Inv μ. Lts.After-entry-of (Reads'5.Asked, Reads'5.Learnt, Reads'.Asked, Reads'.Learnt, Reads''.Asked, Reads''.Learnt, Reads'3.Asked, Reads'3.Learnt, Reads'4.Asked, Reads'4.Learnt, Reads.Asked, Reads.Learnt, Reads'6.Asked, Reads'6.Learnt) Reads'7.Pre Reads'7.Post Inv μ
+After-entry-of = λ Inv μ. Lts.After-entry-of (Reads'.Asked, Reads'.Learnt, Reads''.Asked, Reads''.Learnt, Reads'3.Asked, Reads'3.Learnt, Reads'4.Asked, Reads'4.Learnt, Reads.Asked, Reads.Learnt, Reads'5.Asked, Reads'5.Learnt) Reads'6.Pre Reads'6.Post Inv μ
 
 abbrev pub After-accounted : (Inv : InvT-loop) → (μ : MeasureT-loop) → Type 0
-After-accounted = λ Inv μ. Lts.After-accounted (Reads'5.Asked, Reads'5.Learnt, Reads'.Asked, Reads'.Learnt, Reads''.Asked, Reads''.Learnt, Reads'3.Asked, Reads'3.Learnt, Reads'4.Asked, Reads'4.Learnt, Reads.Asked, Reads.Learnt, Reads'6.Asked, Reads'6.Learnt) Reads'7.Pre Reads'7.Post Inv μ
+After-accounted = λ Inv μ. Lts.After-accounted (Reads'.Asked, Reads'.Learnt, Reads''.Asked, Reads''.Learnt, Reads'3.Asked, Reads'3.Learnt, Reads'4.Asked, Reads'4.Learnt, Reads.Asked, Reads.Learnt, Reads'5.Asked, Reads'5.Learnt) Reads'6.Pre Reads'6.Post Inv μ
 
 abbrev pub After-tally : (Inv : InvT-loop) → (μ : MeasureT-loop) → Type 0
-After-tally = λ Inv μ. Lts.After-tally (Reads'5.Asked, Reads'5.Learnt, Reads'.Asked, Reads'.Learnt, Reads''.Asked, Reads''.Learnt, Reads'3.Asked, Reads'3.Learnt, Reads'4.Asked, Reads'4.Learnt, Reads.Asked, Reads.Learnt, Reads'6.Asked, Reads'6.Learnt) Reads'7.Pre Reads'7.Post Inv μ
+After-tally = λ Inv μ. Lts.After-tally (Reads'.Asked, Reads'.Learnt, Reads''.Asked, Reads''.Learnt, Reads'3.Asked, Reads'3.Learnt, Reads'4.Asked, Reads'4.Learnt, Reads.Asked, Reads.Learnt, Reads'5.Asked, Reads'5.Learnt) Reads'6.Pre Reads'6.Post Inv μ
 
 abbrev pub After-post : (Inv : InvT-loop) → (μ : MeasureT-loop) → Type 0
-After-post = λ Inv μ. Lts.After-post (Reads'5.Asked, Reads'5.Learnt, Reads'.Asked, Reads'.Learnt, Reads''.Asked, Reads''.Learnt, Reads'3.Asked, Reads'3.Learnt, Reads'4.Asked, Reads'4.Learnt, Reads.Asked, Reads.Learnt, Reads'6.Asked, Reads'6.Learnt) Reads'7.Pre Reads'7.Post Inv μ
-
-abbrev pub Need-records-requires : (Inv : InvT-loop) → (μ : MeasureT-loop) → Type 0
-Need-records-requires = λ Inv μ. Lts.Need-records-requires (Reads'5.Asked, Reads'5.Learnt, Reads'.Asked, Reads'.Learnt, Reads''.Asked, Reads''.Learnt, Reads'3.Asked, Reads'3.Learnt, Reads'4.Asked, Reads'4.Learnt, Reads.Asked, Reads.Learnt, Reads'6.Asked, Reads'6.Learnt) Reads'7.Pre Reads'7.Post Inv μ
+After-post = λ Inv μ. Lts.After-post (Reads'.Asked, Reads'.Learnt, Reads''.Asked, Reads''.Learnt, Reads'3.Asked, Reads'3.Learnt, Reads'4.Asked, Reads'4.Learnt, Reads.Asked, Reads.Learnt, Reads'5.Asked, Reads'5.Learnt) Reads'6.Pre Reads'6.Post Inv μ
 
 abbrev pub Need-empty-tally-requires : (Inv : InvT-loop) → (μ : MeasureT-loop) → Type 0
-Need-empty-tally-requires = λ Inv μ. Lts.Need-empty-tally-requires (Reads'5.Asked, Reads'5.Learnt, Reads'.Asked, Reads'.Learnt, Reads''.Asked, Reads''.Learnt, Reads'3.Asked, Reads'3.Learnt, Reads'4.Asked, Reads'4.Learnt, Reads.Asked, Reads.Learnt, Reads'6.Asked, Reads'6.Learnt) Reads'7.Pre Reads'7.Post Inv μ
+Need-empty-tally-requires = λ Inv μ. Lts.Need-empty-tally-requires (Reads'.Asked, Reads'.Learnt, Reads''.Asked, Reads''.Learnt, Reads'3.Asked, Reads'3.Learnt, Reads'4.Asked, Reads'4.Learnt, Reads.Asked, Reads.Learnt, Reads'5.Asked, Reads'5.Learnt) Reads'6.Pre Reads'6.Post Inv μ
 
 abbrev pub Need-loop-holds : (Inv : InvT-loop) → (μ : MeasureT-loop) → Type 0
-Need-loop-holds = λ Inv μ. Lts.Need-loop-holds (Reads'5.Asked, Reads'5.Learnt, Reads'.Asked, Reads'.Learnt, Reads''.Asked, Reads''.Learnt, Reads'3.Asked, Reads'3.Learnt, Reads'4.Asked, Reads'4.Learnt, Reads.Asked, Reads.Learnt, Reads'6.Asked, Reads'6.Learnt) Reads'7.Pre Reads'7.Post Inv μ
+Need-loop-holds = λ Inv μ. Lts.Need-loop-holds (Reads'.Asked, Reads'.Learnt, Reads''.Asked, Reads''.Learnt, Reads'3.Asked, Reads'3.Learnt, Reads'4.Asked, Reads'4.Learnt, Reads.Asked, Reads.Learnt, Reads'5.Asked, Reads'5.Learnt) Reads'6.Pre Reads'6.Post Inv μ
 
 abbrev pub Need-area-of-requires : (Inv : InvT-loop) → (μ : MeasureT-loop) → Type 0
-Need-area-of-requires = λ Inv μ. Lts.Need-area-of-requires (Reads'5.Asked, Reads'5.Learnt, Reads'.Asked, Reads'.Learnt, Reads''.Asked, Reads''.Learnt, Reads'3.Asked, Reads'3.Learnt, Reads'4.Asked, Reads'4.Learnt, Reads.Asked, Reads.Learnt, Reads'6.Asked, Reads'6.Learnt) Reads'7.Pre Reads'7.Post Inv μ
+Need-area-of-requires = λ Inv μ. Lts.Need-area-of-requires (Reads'.Asked, Reads'.Learnt, Reads''.Asked, Reads''.Learnt, Reads'3.Asked, Reads'3.Learnt, Reads'4.Asked, Reads'4.Learnt, Reads.Asked, Reads.Learnt, Reads'5.Asked, Reads'5.Learnt) Reads'6.Pre Reads'6.Post Inv μ
 
 abbrev pub Need-demand-of-requires : (Inv : InvT-loop) → (μ : MeasureT-loop) → Type 0
-Need-demand-of-requires = λ Inv μ. Lts.Need-demand-of-requires (Reads'5.Asked, Reads'5.Learnt, Reads'.Asked, Reads'.Learnt, Reads''.Asked, Reads''.Learnt, Reads'3.Asked, Reads'3.Learnt, Reads'4.Asked, Reads'4.Learnt, Reads.Asked, Reads.Learnt, Reads'6.Asked, Reads'6.Learnt) Reads'7.Pre Reads'7.Post Inv μ
+Need-demand-of-requires = λ Inv μ. Lts.Need-demand-of-requires (Reads'.Asked, Reads'.Learnt, Reads''.Asked, Reads''.Learnt, Reads'3.Asked, Reads'3.Learnt, Reads'4.Asked, Reads'4.Learnt, Reads.Asked, Reads.Learnt, Reads'5.Asked, Reads'5.Learnt) Reads'6.Pre Reads'6.Post Inv μ
 
 abbrev pub Need-entry-of-requires : (Inv : InvT-loop) → (μ : MeasureT-loop) → Type 0
-Need-entry-of-requires = λ Inv μ. Lts.Need-entry-of-requires (Reads'5.Asked, Reads'5.Learnt, Reads'.Asked, Reads'.Learnt, Reads''.Asked, Reads''.Learnt, Reads'3.Asked, Reads'3.Learnt, Reads'4.Asked, Reads'4.Learnt, Reads.Asked, Reads.Learnt, Reads'6.Asked, Reads'6.Learnt) Reads'7.Pre Reads'7.Post Inv μ
+Need-entry-of-requires = λ Inv μ. Lts.Need-entry-of-requires (Reads'.Asked, Reads'.Learnt, Reads''.Asked, Reads''.Learnt, Reads'3.Asked, Reads'3.Learnt, Reads'4.Asked, Reads'4.Learnt, Reads.Asked, Reads.Learnt, Reads'5.Asked, Reads'5.Learnt) Reads'6.Pre Reads'6.Post Inv μ
 
 abbrev pub Need-accounted-requires : (Inv : InvT-loop) → (μ : MeasureT-loop) → Type 0
-Need-accounted-requires = λ Inv μ. Lts.Need-accounted-requires (Reads'5.Asked, Reads'5.Learnt, Reads'.Asked, Reads'.Learnt, Reads''.Asked, Reads''.Learnt, Reads'3.Asked, Reads'3.Learnt, Reads'4.Asked, Reads'4.Learnt, Reads.Asked, Reads.Learnt, Reads'6.Asked, Reads'6.Learnt) Reads'7.Pre Reads'7.Post Inv μ
+Need-accounted-requires = λ Inv μ. Lts.Need-accounted-requires (Reads'.Asked, Reads'.Learnt, Reads''.Asked, Reads''.Learnt, Reads'3.Asked, Reads'3.Learnt, Reads'4.Asked, Reads'4.Learnt, Reads.Asked, Reads.Learnt, Reads'5.Asked, Reads'5.Learnt) Reads'6.Pre Reads'6.Post Inv μ
 
 abbrev pub Need-post-requires : (Inv : InvT-loop) → (μ : MeasureT-loop) → Type 0
-Need-post-requires = λ Inv μ. Lts.Need-post-requires (Reads'5.Asked, Reads'5.Learnt, Reads'.Asked, Reads'.Learnt, Reads''.Asked, Reads''.Learnt, Reads'3.Asked, Reads'3.Learnt, Reads'4.Asked, Reads'4.Learnt, Reads.Asked, Reads.Learnt, Reads'6.Asked, Reads'6.Learnt) Reads'7.Pre Reads'7.Post Inv μ
+Need-post-requires = λ Inv μ. Lts.Need-post-requires (Reads'.Asked, Reads'.Learnt, Reads''.Asked, Reads''.Learnt, Reads'3.Asked, Reads'3.Learnt, Reads'4.Asked, Reads'4.Learnt, Reads.Asked, Reads.Learnt, Reads'5.Asked, Reads'5.Learnt) Reads'6.Pre Reads'6.Post Inv μ
 
 abbrev pub Need-add-i : (Inv : InvT-loop) → (μ : MeasureT-loop) → Type 0
-Need-add-i = λ Inv μ. Lts.Need-add-i (Reads'5.Asked, Reads'5.Learnt, Reads'.Asked, Reads'.Learnt, Reads''.Asked, Reads''.Learnt, Reads'3.Asked, Reads'3.Learnt, Reads'4.Asked, Reads'4.Learnt, Reads.Asked, Reads.Learnt, Reads'6.Asked, Reads'6.Learnt) Reads'7.Pre Reads'7.Post Inv μ
+Need-add-i = λ Inv μ. Lts.Need-add-i (Reads'.Asked, Reads'.Learnt, Reads''.Asked, Reads''.Learnt, Reads'3.Asked, Reads'3.Learnt, Reads'4.Asked, Reads'4.Learnt, Reads.Asked, Reads.Learnt, Reads'5.Asked, Reads'5.Learnt) Reads'6.Pre Reads'6.Post Inv μ
 
 abbrev pub Need-loop-less : (Inv : InvT-loop) → (μ : MeasureT-loop) → Type 0
-Need-loop-less = λ Inv μ. Lts.Need-loop-less (Reads'5.Asked, Reads'5.Learnt, Reads'.Asked, Reads'.Learnt, Reads''.Asked, Reads''.Learnt, Reads'3.Asked, Reads'3.Learnt, Reads'4.Asked, Reads'4.Learnt, Reads.Asked, Reads.Learnt, Reads'6.Asked, Reads'6.Learnt) Reads'7.Pre Reads'7.Post Inv μ
+Need-loop-less = λ Inv μ. Lts.Need-loop-less (Reads'.Asked, Reads'.Learnt, Reads''.Asked, Reads''.Learnt, Reads'3.Asked, Reads'3.Learnt, Reads'4.Asked, Reads'4.Learnt, Reads.Asked, Reads.Learnt, Reads'5.Asked, Reads'5.Learnt) Reads'6.Pre Reads'6.Post Inv μ
 
 abbrev pub Need-loop-again : (Inv : InvT-loop) → (μ : MeasureT-loop) → Type 0
-Need-loop-again = λ Inv μ. Lts.Need-loop-again (Reads'5.Asked, Reads'5.Learnt, Reads'.Asked, Reads'.Learnt, Reads''.Asked, Reads''.Learnt, Reads'3.Asked, Reads'3.Learnt, Reads'4.Asked, Reads'4.Learnt, Reads.Asked, Reads.Learnt, Reads'6.Asked, Reads'6.Learnt) Reads'7.Pre Reads'7.Post Inv μ
+Need-loop-again = λ Inv μ. Lts.Need-loop-again (Reads'.Asked, Reads'.Learnt, Reads''.Asked, Reads''.Learnt, Reads'3.Asked, Reads'3.Learnt, Reads'4.Asked, Reads'4.Learnt, Reads.Asked, Reads.Learnt, Reads'5.Asked, Reads'5.Learnt) Reads'6.Pre Reads'6.Post Inv μ
 
 abbrev pub Need-returns : (Inv : InvT-loop) → (μ : MeasureT-loop) → Type 0
-Need-returns = λ Inv μ. Lts.Need-returns (Reads'5.Asked, Reads'5.Learnt, Reads'.Asked, Reads'.Learnt, Reads''.Asked, Reads''.Learnt, Reads'3.Asked, Reads'3.Learnt, Reads'4.Asked, Reads'4.Learnt, Reads.Asked, Reads.Learnt, Reads'6.Asked, Reads'6.Learnt) Reads'7.Pre Reads'7.Post Inv μ
+Need-returns = λ Inv μ. Lts.Need-returns (Reads'.Asked, Reads'.Learnt, Reads''.Asked, Reads''.Learnt, Reads'3.Asked, Reads'3.Learnt, Reads'4.Asked, Reads'4.Learnt, Reads.Asked, Reads.Learnt, Reads'5.Asked, Reads'5.Learnt) Reads'6.Pre Reads'6.Post Inv μ
 
 module _ {M : Type 1} where
-  pub spec : (Inv : InvT-loop) → (μ : MeasureT-loop) → (answer : Need-records-requires Inv μ) → (answer : Need-empty-tally-requires Inv μ) → (answer : Need-loop-holds Inv μ) → (answer : Need-area-of-requires Inv μ) → (answer : Need-demand-of-requires Inv μ) → (answer : Need-entry-of-requires Inv μ) → (answer : Need-accounted-requires Inv μ) → (answer : Need-post-requires Inv μ) → (answer : Need-add-i Inv μ) → (answer : Need-loop-less Inv μ) → (answer : Need-loop-again Inv μ) → (answer : Need-returns Inv μ) → Lts.Closed (Reads'5.Asked, Reads'5.Learnt, Reads'.Asked, Reads'.Learnt, Reads''.Asked, Reads''.Learnt, Reads'3.Asked, Reads'3.Learnt, Reads'4.Asked, Reads'4.Learnt, Reads.Asked, Reads.Learnt, Reads'6.Asked, Reads'6.Learnt) Reads'7.Pre Reads'7.Post M
-  spec = λ Inv μ answer answer' answer'' answer'3 answer'4 answer'5 answer'6 answer'7 answer'8 answer'9 answer'10 answer'11. Lts.spec (Reads'5.Asked, Reads'5.Learnt, Reads'.Asked, Reads'.Learnt, Reads''.Asked, Reads''.Learnt, Reads'3.Asked, Reads'3.Learnt, Reads'4.Asked, Reads'4.Learnt, Reads.Asked, Reads.Learnt, Reads'6.Asked, Reads'6.Learnt) Reads'7.Pre Reads'7.Post Inv μ answer answer' answer'' answer'3 answer'4 answer'5 answer'6 answer'7 answer'8 answer'9 answer'10 answer'11
+  pub spec : (Inv : InvT-loop) → (μ : MeasureT-loop) → (answer : Need-empty-tally-requires Inv μ) → (answer : Need-loop-holds Inv μ) → (answer : Need-area-of-requires Inv μ) → (answer : Need-demand-of-requires Inv μ) → (answer : Need-entry-of-requires Inv μ) → (answer : Need-accounted-requires Inv μ) → (answer : Need-post-requires Inv μ) → (answer : Need-add-i Inv μ) → (answer : Need-loop-less Inv μ) → (answer : Need-loop-again Inv μ) → (answer : Need-returns Inv μ) → Lts.Closed (Reads'.Asked, Reads'.Learnt, Reads''.Asked, Reads''.Learnt, Reads'3.Asked, Reads'3.Learnt, Reads'4.Asked, Reads'4.Learnt, Reads.Asked, Reads.Learnt, Reads'5.Asked, Reads'5.Learnt) Reads'6.Pre Reads'6.Post M
+  spec = λ Inv μ answer answer' answer'' answer'3 answer'4 answer'5 answer'6 answer'7 answer'8 answer'9 answer'10. Lts.spec (Reads'.Asked, Reads'.Learnt, Reads''.Asked, Reads''.Learnt, Reads'3.Asked, Reads'3.Learnt, Reads'4.Asked, Reads'4.Learnt, Reads.Asked, Reads.Learnt, Reads'5.Asked, Reads'5.Learnt) Reads'6.Pre Reads'6.Post Inv μ answer answer' answer'' answer'3 answer'4 answer'5 answer'6 answer'7 answer'8 answer'9 answer'10
 
-  pub close : Lts.Closed (Reads'5.Asked, Reads'5.Learnt, Reads'.Asked, Reads'.Learnt, Reads''.Asked, Reads''.Learnt, Reads'3.Asked, Reads'3.Learnt, Reads'4.Asked, Reads'4.Learnt, Reads.Asked, Reads.Learnt, Reads'6.Asked, Reads'6.Learnt) Reads'7.Pre Reads'7.Post M → Statement.statement M
+  pub close : Lts.Closed (Reads'.Asked, Reads'.Learnt, Reads''.Asked, Reads''.Learnt, Reads'3.Asked, Reads'3.Learnt, Reads'4.Asked, Reads'4.Learnt, Reads.Asked, Reads.Learnt, Reads'5.Asked, Reads'5.Learnt) Reads'6.Pre Reads'6.Post M → Statement.statement M
   unfolding Code.routine Running.tablesOf
-  close = λ closed 𝓤 H 𝓜 𝓖 𝓡. Written.close 1 Kinds.ps Kinds.r Reads'7.Ghost Reads'7.requires Reads'7.ensures Reads'7.pre-read Reads'7.Pinned Reads'7.Owned Reads'7.post-read record { M = M; 𝓤 = 𝓤; H = H; 𝓜 = 𝓜; 𝓖 = 𝓖; 𝓡 = 𝓡 } Code.env Key.name Code.function (Code.unfolded 𝓤 H 𝓜 𝓡) (λ κs a g. tt) (λ κs. Reads'7.owns κs record { M = M; 𝓤 = 𝓤; H = H; 𝓜 = 𝓜; 𝓖 = 𝓖; 𝓡 = 𝓡 }) (Reads'7.passes record { M = M; 𝓤 = 𝓤; H = H; 𝓜 = 𝓜; 𝓖 = 𝓖; 𝓡 = 𝓡 }) λ g. closed 𝓤 H (𝓖 .A) (Running.givenOf 𝓤 H 𝓜 𝓖) (Run.Over 𝓤 H 𝓜 𝓖 𝓡 Code.env) (Reads'5.known record { M = M; 𝓤 = 𝓤; H = H; 𝓜 = 𝓜; 𝓖 = 𝓖; 𝓡 = 𝓡 } Code.env Symbol'5.name Symbol'5.routine Code.calls-hour·records (Met'5.met 𝓤 H 𝓜 𝓖 𝓡)) (Reads'.known record { M = M; 𝓤 = 𝓤; H = H; 𝓜 = 𝓜; 𝓖 = 𝓖; 𝓡 = 𝓡 } Code.env Symbol'.name Symbol'.routine Code.calls-formula·posting·empty-tally (Met'.met 𝓤 H 𝓜 𝓖 𝓡)) (Reads''.known record { M = M; 𝓤 = 𝓤; H = H; 𝓜 = 𝓜; 𝓖 = 𝓖; 𝓡 = 𝓡 } Code.env Symbol''.name Symbol''.routine Code.calls-hour·area-of (Met''.met 𝓤 H 𝓜 𝓖 𝓡)) (Reads'3.known record { M = M; 𝓤 = 𝓤; H = H; 𝓜 = 𝓜; 𝓖 = 𝓖; 𝓡 = 𝓡 } Code.env Symbol'3.name Symbol'3.routine Code.calls-hour·demand-of (Met'3.met 𝓤 H 𝓜 𝓖 𝓡)) (Reads'4.known record { M = M; 𝓤 = 𝓤; H = H; 𝓜 = 𝓜; 𝓖 = 𝓖; 𝓡 = 𝓡 } Code.env Symbol'4.name Symbol'4.routine Code.calls-hour·entry-of (Met'4.met 𝓤 H 𝓜 𝓖 𝓡)) (Reads.known record { M = M; 𝓤 = 𝓤; H = H; 𝓜 = 𝓜; 𝓖 = 𝓖; 𝓡 = 𝓡 } Code.env Symbol.name Symbol.routine Code.calls-formula·deviation·accounted (Met.met 𝓤 H 𝓜 𝓖 𝓡)) (Reads'6.known record { M = M; 𝓤 = 𝓤; H = H; 𝓜 = 𝓜; 𝓖 = 𝓖; 𝓡 = 𝓡 } Code.env Symbol'6.name Symbol'6.routine Code.calls-tally·post (Met'6.met 𝓤 H 𝓜 𝓖 𝓡))
+  close = λ closed 𝓤 H 𝓜 𝓖 𝓡. Written.close 1 Kinds.ps Kinds.r Reads'6.Ghost Reads'6.requires Reads'6.ensures Reads'6.pre-read Reads'6.Pinned Reads'6.Owned Reads'6.post-read record { M = M; 𝓤 = 𝓤; H = H; 𝓜 = 𝓜; 𝓖 = 𝓖; 𝓡 = 𝓡 } Code.env Key.name Code.function (Code.unfolded 𝓤 H 𝓜 𝓡) (λ κs a g. tt) (λ κs. Reads'6.owns κs record { M = M; 𝓤 = 𝓤; H = H; 𝓜 = 𝓜; 𝓖 = 𝓖; 𝓡 = 𝓡 }) (Reads'6.passes record { M = M; 𝓤 = 𝓤; H = H; 𝓜 = 𝓜; 𝓖 = 𝓖; 𝓡 = 𝓡 }) λ g. closed 𝓤 H (𝓖 .A) (Running.givenOf 𝓤 H 𝓜 𝓖) (Run.Over 𝓤 H 𝓜 𝓖 𝓡 Code.env) (Reads'.known record { M = M; 𝓤 = 𝓤; H = H; 𝓜 = 𝓜; 𝓖 = 𝓖; 𝓡 = 𝓡 } Code.env Symbol'.name Symbol'.routine Code.calls-formula·posting·empty-tally (Met'.met 𝓤 H 𝓜 𝓖 𝓡)) (Reads''.known record { M = M; 𝓤 = 𝓤; H = H; 𝓜 = 𝓜; 𝓖 = 𝓖; 𝓡 = 𝓡 } Code.env Symbol''.name Symbol''.routine Code.calls-hour·area-of (Met''.met 𝓤 H 𝓜 𝓖 𝓡)) (Reads'3.known record { M = M; 𝓤 = 𝓤; H = H; 𝓜 = 𝓜; 𝓖 = 𝓖; 𝓡 = 𝓡 } Code.env Symbol'3.name Symbol'3.routine Code.calls-hour·demand-of (Met'3.met 𝓤 H 𝓜 𝓖 𝓡)) (Reads'4.known record { M = M; 𝓤 = 𝓤; H = H; 𝓜 = 𝓜; 𝓖 = 𝓖; 𝓡 = 𝓡 } Code.env Symbol'4.name Symbol'4.routine Code.calls-hour·entry-of (Met'4.met 𝓤 H 𝓜 𝓖 𝓡)) (Reads.known record { M = M; 𝓤 = 𝓤; H = H; 𝓜 = 𝓜; 𝓖 = 𝓖; 𝓡 = 𝓡 } Code.env Symbol.name Symbol.routine Code.calls-formula·deviation·accounted (Met.met 𝓤 H 𝓜 𝓖 𝓡)) (Reads'5.known record { M = M; 𝓤 = 𝓤; H = H; 𝓜 = 𝓜; 𝓖 = 𝓖; 𝓡 = 𝓡 } Code.env Symbol'5.name Symbol'5.routine Code.calls-tally·post (Met'5.met 𝓤 H 𝓜 𝓖 𝓡))
