@@ -1,10 +1,12 @@
 -- A loop that fills the first n places of a buffer with f's values, one place a turn: its invariant, and what a turn and the end make of
 -- it.
-use mathlib.Core.Path.{_≡_, sym, _∙_, ap}
+use mathlib.Core.Path.{_≡_, sym, _∙_, ap, subst}
 use mathlib.Core.List.{List}
 use Prim.Native.Nat.{ℕ, _+_, _≤_, _<_, zero-le}
+use native.Mathlib.Nat.{le-refl}
 use native.Mathlib.Omega.{arith}
 use lib.ListN.{length, getD, set}
+use lib.Seq.{set-getD}
 use Rattle.whole.specs.Below.{valuesBelow, replacingFirst}
 use Rattle.whole.proofs.Buffers.{replacing-none, written-length, written-next, unwritten, all-written}
 
@@ -35,6 +37,11 @@ module _ {ℓ} {A : Type ℓ} {f : ℕ → A} {n : ℕ} {old : List A} where
     -- what the coming turns will fill is as it was
     pub not-yet-filled : (k : ℕ) (d : A) → i ≤ k → getD out k d ≡ getD old k d
     not-yet-filled = unwritten f i old out (filled .holds)
+
+    -- a place that is to hold what it held is passed over
+    pub passed-over : (d : A) → i < n → f i ≡ getD old i d → Filled f n (i + 1) old out
+    passed-over d l kept =
+        subst (Filled f n (i + 1) old) (set-getD out i d) (next-filled l (not-yet-filled i d (le-refl i) ∙ sym kept))
 
     -- the loop has ended
     module _ (ended : n ≤ i) where
