@@ -1,84 +1,68 @@
--- `byrecord::shares::put_shares` meets its contract. The loop's invariant: the areas passed are shared, and every other record has 0.
-use mathlib.Core.Path.{_∙_, ap}
-use Prim.Native.Nat.{_-_}
+-- `byrecord::shares::put_shares` meets its contract: there is room for 250 demands and sizes, and the records' places are cleared first.
+use mathlib.Core.Path.{sym}
+use Prim.Native.Nat.{_≤_}
 use native.Mathlib.Omega.{arith}
-use lib.IntN.{pos}
-use Rattle.whole.specs.Below.{replacingFirst}
-use Rattle.byrecord.proofs.Hour.{Cleared, AreasShared, none-shared, same-room, shared-so-far, next-area, all-shared}
+use lib.Seq.{length-take-le}
+use borrow.Author.Needs.{needs}
+use Rattle.byrecord.proofs.Hour.{ready, shared-over}
 use Rattle.byrecord.proofs.shares.put_shares.Statement.{statement}
 use Rattle.byrecord.proofs.shares.put_shares.Tie as tie
 
-abbrev Inv-loop : tie.InvT-loop
-Inv-loop file figures out₀ areas a₀ out a = AreasShared file a out₀ out
-
-abbrev μ-loop : tie.MeasureT-loop
-μ-loop file figures out₀ areas a₀ out a = areas - a
-
-records-requires : tie.Need-records-requires Inv-loop μ-loop
+records-requires : tie.Need-records-requires
 records-requires c κs = tt
 
-clear-requires : tie.Need-clear-requires Inv-loop μ-loop
-clear-requires c κs = omega (arith, c .before .before .before .pre .room, c .records .ensures)
+-- once the records are counted
+module _ (c : tie.After-records) where
+  abbrev start : tie.Start
+  start = c .before .before
 
-areas-requires : tie.Need-areas-requires Inv-loop μ-loop
-areas-requires c κs = tt
+  few : c .records .result ≤ 250
+  few = omega (arith, start .pre .kept .hour-kept .count-most)
 
--- every place of a record is 0 once the buffer has come back from `clear`
-module _ (c : tie.After-out Inv-loop μ-loop) where
-  abbrev start : tie.Start Inv-loop μ-loop
-  start = c .before .before .before .before .before
+clear-requires : tie.Need-clear-requires
+clear-requires c κs = omega (arith, start (c .before) .pre .room, c .before .records .ensures)
 
-  cleared : Cleared (start .args .file .now) (start .args .figures) (start .args .out .now) (c .before .clear .last .0)
-  cleared = record {
-    sharing = start .pre;
-    zeros =
-        c .before .clear .ensures
-        ∙ ap (λ n. replacingFirst (λ i. pos 0) n (start .args .out .now)) (c .before .before .records .ensures);
-  }
+array-borrow-prefix-demands : tie.Need-array-borrow-prefix-demands
+array-borrow-prefix-demands c = few (c .before .before .before)
 
--- that moment, as it is seen at the head of a turn; the head of a turn, as it is seen where its area is to be shared
-abbrev begun : tie.At-loop Inv-loop μ-loop → tie.After-out Inv-loop μ-loop
-begun c = c .before .before
+slice-aggregate-share-areas : tie.Need-slice-aggregate-share-areas
+slice-aggregate-share-areas c =
+    let counted = c .before .before .before .before in sym (length-take-le (counted .records .result) _ (few counted))
 
-abbrev turn : tie.After-share-area-arg Inv-loop μ-loop → tie.At-loop Inv-loop μ-loop
-turn c = c .before .before
+array-borrow-prefix-sizes : tie.Need-array-borrow-prefix-sizes
+array-borrow-prefix-sizes c = few (c .before .before .before .before)
 
-loop-holds : tie.Need-loop-holds Inv-loop μ-loop
-loop-holds c = none-shared (cleared (c .before))
+slice-aggregate-share-areas-2 : tie.Need-slice-aggregate-share-areas-2
+slice-aggregate-share-areas-2 c =
+    let counted = c .before .before .before .before .before in sym (length-take-le (counted .records .result) _ (few counted))
 
-share-area-requires : tie.Need-share-area-requires Inv-loop μ-loop
-share-area-requires c κs = shared-so-far (cleared (begun (turn c))) (turn c .loop .inv) (omega arith)
+share-areas-requires : tie.Need-share-areas-requires
+share-areas-requires c κs =
+    let clearing = c .before .before .before .before in
+    let counted = clearing .before .before in
+    ready (start counted .pre) (counted .records .ensures) (clearing .clear .ensures)
+    (length-take-le _ _ (few counted)) (length-take-le _ _ (few counted))
 
-add-a : tie.Need-add-a Inv-loop μ-loop
-add-a c = omega arith
+same-length : tie.Need-same-length
+same-length c = search needs
 
-loop-less : tie.Need-loop-less Inv-loop μ-loop
-loop-less c = omega arith
-
-loop-again : tie.Need-loop-again Inv-loop μ-loop
-loop-again c =
-    let at = turn (c .before .before) in
-    next-area (cleared (begun at)) (at .loop .inv) (omega arith) (c .before .share-area .ensures)
-
-same-length : tie.Need-same-length Inv-loop μ-loop
-same-length c = same-room (cleared (begun (c .before))) (c .before .loop .inv)
-
-returns : tie.Need-returns Inv-loop μ-loop
-returns c = all-shared (cleared (begun (c .before))) (c .before .loop .inv) (omega arith)
+returns : tie.Need-returns
+returns c =
+    let shared = c .before .before .before in
+    let clearing = shared .before .before .before .before .before in
+    let counted = clearing .before .before in
+    shared-over (start counted .pre) (counted .records .ensures) (clearing .clear .ensures) (shared .share-areas .ensures)
 
 pub put-shares-spec : {M : Type 1} → statement M
 put-shares-spec =
     tie.close
     (tie.spec
-    Inv-loop
-    μ-loop
     records-requires
     clear-requires
-    areas-requires
-    loop-holds
-    share-area-requires
-    add-a
-    loop-less
-    loop-again
+    array-borrow-prefix-demands
+    slice-aggregate-share-areas
+    array-borrow-prefix-sizes
+    slice-aggregate-share-areas-2
+    share-areas-requires
     same-length
     returns)
