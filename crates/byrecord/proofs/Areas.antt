@@ -136,7 +136,7 @@ module _ {s : List ℕ} {a : ℕ} {figure : ℤ} {lent sizes : List ℕ} {out : 
   abbrev demands : List ℕ
   demands = take loads room
 
-  pub room-kept : length room ≡ length lent
+  room-kept : length room ≡ length lent
   room-kept = ap length (q .holds) ∙ gathered-length load (demand h) lent n
 
   pub loads-fit : loads ≤ length room
@@ -170,7 +170,7 @@ module _ {s : List ℕ} {a : ℕ} {figure : ℤ} {lent sizes : List ℕ} {out : 
 
   -- what the engine answered
   module _ {got : List ℕ} (shared : got ≡ sharesIn demands U sizes) where
-    pub sizes-kept : length got ≡ length sizes
+    sizes-kept : length got ≡ length sizes
     sizes-kept = ap length shared ∙ length-replacing _ (length demands) sizes (omega (arith, few, q .up-to .sizes-room))
 
     got-at : (j : ℕ) → j < n → load j ≡ true → getD got (place j) 0 ≡ sizeOf h a j

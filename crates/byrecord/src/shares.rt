@@ -106,10 +106,8 @@ fn share_area(
     out: &mut [i64],
 )
     requires { ⌜ SharedUpTo (now file) a figure (now demands) (now sizes) (now out) ⌝ }
-    ensures { λ _. ⌜ (now (out .exit)
-        ≡ replacingFirst (sharesBelow (hourIn (now (file .entry))) (a + 1)) (hourIn (now (file .entry)) .count) (now (out .entry)))
-        × (length (now (demands .exit)) ≡ length (now (demands .entry)))
-        × (length (now (sizes .exit)) ≡ length (now (sizes .entry))) ⌝ }
+    ensures { λ _. ⌜ now (out .exit)
+        ≡ replacingFirst (sharesBelow (hourIn (now (file .entry))) (a + 1)) (hourIn (now (file .entry)) .count) (now (out .entry)) ⌝ }
 {
     if figure == 0 {
         return;

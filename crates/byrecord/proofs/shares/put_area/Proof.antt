@@ -1,7 +1,8 @@
 -- `byrecord::shares::put_area` meets its contract. The loop's invariant: the loads passed are counted, and have their shares.
 use mathlib.Core.Path.{_∙_, ap}
-use Prim.Native.Nat.{_-_, _<_}
+use Prim.Native.Nat.{ℕ, _-_, _<_}
 use native.Mathlib.Omega.{arith}
+use lib.IntN.{ℤ}
 use lib.ListN.{length}
 use mir.Syntax.{w64}
 use mir.Val.{toZ}
@@ -68,8 +69,9 @@ returns c =
     let begun = start (c .before) in
     let h = hourIn (begun .args .file .now) in
     let out = begun .args .out .now in
+    let signed : ℤ → ℕ → ℤ = λ u. withSizes h (begun .args .a) u (begun .args .sizes .now) out in
     first-filled (c .before .loop .inv .filled) (omega (arith, begun .pre .as-many))
-    ∙ ap (λ u. replacingFirst (withSizes h (begun .args .a) u (begun .args .sizes .now) out) (h .count) out) (read-back (begun .fits .figure))
+    ∙ ap (λ u. replacingFirst (signed u) (h .count) out) (read-back (begun .fits .figure))
 
 pub put-area-spec : {M : Type 1} → statement M
 put-area-spec =

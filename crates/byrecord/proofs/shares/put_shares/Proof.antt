@@ -1,9 +1,8 @@
 -- `byrecord::shares::put_shares` meets its contract: there is room for 250 demands and sizes, and the records' places are cleared first.
-use mathlib.Core.Path.{sym}
+use mathlib.Core.Path.{sym, _∙_}
 use Prim.Native.Nat.{_≤_}
 use native.Mathlib.Omega.{arith}
 use lib.Seq.{length-take-le}
-use borrow.Author.Needs.{needs}
 use Rattle.byrecord.proofs.Hour.{ready, shared-over}
 use Rattle.byrecord.proofs.shares.put_shares.Statement.{statement}
 use Rattle.byrecord.proofs.shares.put_shares.Tie as tie
@@ -43,15 +42,18 @@ share-areas-requires c κs =
     ready (start counted .pre) (counted .records .ensures) (clearing .clear .ensures)
     (length-take-le _ _ (few counted)) (length-take-le _ _ (few counted))
 
+-- the shares cleared, as it is seen where they are all put
+abbrev cleared : tie.After-share-areas → tie.After-clear
+cleared c = c .before .before .before .before .before
+
 same-length : tie.Need-same-length
-same-length c = search needs
+same-length c = let shared = c .before .before .before in shared .share-areas .kept .1 .1 .1 .1 .0 ∙ cleared shared .clear .kept .0
 
 returns : tie.Need-returns
 returns c =
     let shared = c .before .before .before in
-    let clearing = shared .before .before .before .before .before in
-    let counted = clearing .before .before in
-    shared-over (start counted .pre) (counted .records .ensures) (clearing .clear .ensures) (shared .share-areas .ensures)
+    let counted = cleared shared .before .before in
+    shared-over (start counted .pre) (counted .records .ensures) (cleared shared .clear .ensures) (shared .share-areas .ensures)
 
 pub put-shares-spec : {M : Type 1} → statement M
 put-shares-spec =

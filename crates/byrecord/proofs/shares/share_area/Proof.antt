@@ -1,12 +1,11 @@
--- `byrecord::shares::share_area` meets its contract: an area without UFE changes nothing; for any other the demands as they were put, the sizes
--- as the engine shares them, and their signs.
-use mathlib.Core.Path.{_≡_, refl, sym, _∙_, ap}
+-- `byrecord::shares::share_area` meets its contract: an area without UFE changes nothing; for any other the demands as they were put, the
+-- sizes as the engine shares them, and their signs.
+use mathlib.Core.Path.{_≡_, sym, _∙_, ap}
 use mathlib.Core.List.{List}
 use Prim.Native.Nat.{ℕ}
 use lib.IntN.{natAbs}
 use lib.ListN.{take}
 use lib.Seq.{length-take-le}
-use borrow.Author.Needs.{needs}
 use Rattle.whole.specs.Below.{replacingFirst}
 use Rattle.whole.proofs.Machine.{read-back}
 use Rattle.rules.specs.Record.{Hour}
@@ -14,12 +13,12 @@ use Rattle.rules.specs.Ufe.{ufe}
 use Rattle.share.specs.Shareable.{sharesIn}
 use Rattle.hour.specs.Hour.{hourIn}
 use Rattle.byrecord.specs.Shared.{withSizes}
-use Rattle.byrecord.proofs.Areas.{nothing-to-write, Asked, room-kept, loads-fit, shareable, sizes-kept, sized, area-shared}
+use Rattle.byrecord.proofs.Areas.{nothing-to-write, Asked, loads-fit, shareable, sized, area-shared}
 use Rattle.byrecord.proofs.shares.share_area.Statement.{statement}
 use Rattle.byrecord.proofs.shares.share_area.Tie as tie
 
 returns : tie.Need-returns
-returns c = (nothing-to-write (c .before .before .before .before .pre) (c .if1 .taken), refl, refl)
+returns c = nothing-to-write (c .before .before .before .before .pre) (c .if1 .taken)
 
 put-demands-requires : tie.Need-put-demands-requires
 put-demands-requires c κs = let pre = c .before .before .before .before .before .pre in (pre .kept, pre .demands-room)
@@ -89,26 +88,27 @@ answered c = c .before .before .before .before
 put-area-requires : tie.Need-put-area-requires
 put-area-requires c κs = sized (asked (asked-at (answered c))) (shared (answered c))
 
+-- the engine's answer, as it is seen at the end
+abbrev engine : tie.After-out → tie.After-shares
+engine c = answered (c .before .before)
+
 same-length : tie.Need-same-length
-same-length c = search needs
+same-length c = asked-at (engine c) .put-demands .kept .1 .1 .0
 
 same-length-2 : tie.Need-same-length-2
-same-length-2 c = search needs
+same-length-2 c = engine c .shares .kept .1 .1 .0
 
 same-length-3 : tie.Need-same-length-3
-same-length-3 c = search needs
+same-length-3 c = c .before .put-area .kept .1 .1 .1 .1 .0
 
 returns-2 : tie.Need-returns-2
 returns-2 c =
-    let engine = answered (c .before .before) in
-    let at = asked-at engine in
-    let begun = start at in
-    let out = begun .args .out .now in (
-      area-shared (asked at) (shared engine) (c .before .put-area .ensures
-          ∙ ap (λ u. replacingFirst (withSizes (h at) (begun .args .a) u (got engine) out) (h at .count) out) (read-back (begun .fits .figure))),
-      room-kept (asked at),
-      sizes-kept (asked at) (shared engine),
-    )
+    let begun = start (asked-at (engine c)) in
+    let hour = hourIn (begun .args .file .now) in
+    let out = begun .args .out .now in
+    area-shared (asked (asked-at (engine c))) (shared (engine c)) (
+    c .before .put-area .ensures
+    ∙ ap (λ u. replacingFirst (withSizes hour (begun .args .a) u (got (engine c)) out) (hour .count) out) (read-back (begun .fits .figure)))
 
 pub share-area-spec : {M : Type 1} → statement M
 share-area-spec =

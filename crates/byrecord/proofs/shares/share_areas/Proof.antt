@@ -48,8 +48,8 @@ loop-again : tie.Need-loop-again Inv-loop μ-loop
 loop-again c =
     let shared = c .before .before .before .before .before in
     let at = turn (shared .before) in
-    let put = shared .share-area .ensures in
-    next-area (start at .pre) (at .loop .inv) (omega arith) (put .0) (put .1) (put .2)
+    let kept = shared .share-area .kept .1 .1 .1 in
+    next-area (start at .pre) (at .loop .inv) (omega arith) (shared .share-area .ensures) (kept .0) (kept .1 .0)
 
 same-length : tie.Need-same-length Inv-loop μ-loop
 same-length c = c .before .loop .inv .demands-room ∙ sym (start (c .before) .pre .demands-room)
