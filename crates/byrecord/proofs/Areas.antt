@@ -2,8 +2,7 @@
 use mathlib.Core.Path.{_≡_, sym, _∙_, ap, ap₂}
 use mathlib.Core.Bool.{Bool, true, false, cond}
 use mathlib.Core.List.{List}
-use Prim.Native.Nat.{ℕ, zero, suc, _+_, _≤_, _<_}
-use native.Mathlib.Nat.{not-suc-le-zero, add-zero}
+use Prim.Native.Nat.{ℕ, _+_, _≤_, _<_}
 use native.Mathlib.Omega.{arith}
 use lib.Dec.{ltb, eqb}
 use lib.IntN.{ℤ, pos, natAbs}
@@ -12,13 +11,13 @@ use lib.Seq.{length-take-le, getD-take}
 use mir.Syntax.{w64}
 use mir.Val.{ofZ}
 use borrow.Author.Tests.{lt-ltb, le-ltb, eq-eqb, eqb-true, eqb-false, ltb-true, ltb-false}
-use Rattle.whole.specs.Below.{countBelow, replacingFirst, gatheredBelow}
+use Rattle.whole.specs.Below.{replacingFirst, gatheredBelow}
 use Rattle.whole.specs.Signed.{withSignOf}
-use Rattle.whole.proofs.Tests.{split, both, last-or-below}
+use Rattle.whole.proofs.Tests.{split, both}
 use Rattle.whole.proofs.Ranges.{u-fits}
 use Rattle.whole.proofs.Machine.{zero-bits}
 use Rattle.whole.proofs.Sums.{count-most}
-use Rattle.whole.proofs.Gathering.{passer-before, gathered-length, gathered-at}
+use Rattle.whole.proofs.Gathering.{passer-before, passer-at, gathered-length, gathered-at}
 use Rattle.whole.proofs.Buffers.{getD-replacing, length-replacing, replacing-ext, replacing-same}
 use Rattle.rules.specs.Record.{Hour, areaOf, entryOf, isLoad}
 use Rattle.rules.specs.Ufe.{inArea, ufe, demand}
@@ -32,17 +31,6 @@ use Rattle.share.specs.Shareable.{at, everyone, Shareable, sharesIn}
 use Rattle.share.proofs.Uses.{ufe-shareable}
 use Rattle.hour.specs.Hour.{hourIn}
 use Rattle.byrecord.specs.Shared.{loadsBefore, sharesBelow, withSizes, SharedUpTo, Sized}
-
--- every place below the count of passers is a passer's
-at-passer {ℓ} : {X : Type ℓ} (p : ℕ → Bool) (n k : ℕ) → k < countBelow p n →
-    ((j : ℕ) → j < n → p j ≡ true → countBelow p j ≡ k → X) → X
-unfolding countBelow
-at-passer p zero k l f = absurd (not-suc-le-zero l)
-at-passer p (suc n) k l f = split (p n)
-    (λ t. last-or-below k (countBelow p n) (let m : k < countBelow p n + 1 = rw t at l in omega arith)
-    (λ e. f n (omega arith) t (sym e))
-    (λ m. at-passer p n k m (λ j i. f j (omega arith))))
-    (λ e. at-passer p n k (simp (e, add-zero) at l) (λ j i. f j (omega arith)))
 
 -- ---- a record's share before and after its area's turn
 
@@ -154,7 +142,7 @@ module _ {s : List ℕ} {a : ℕ} {figure : ℤ} {lent sizes : List ℕ} {out : 
       ∙ rw (q .holds) (gathered-at load (demand h) lent n (omega (arith, q .up-to .demands-room)) j 0 l t)
 
   demand-small : (k : ℕ) → k < length demands → at demands k ≤ 100000
-  demand-small k m = at-passer load n k (omega (arith, as-many, q .counted)) (λ j l t e.
+  demand-small k m = passer-at load n k (omega (arith, as-many, q .counted)) (λ j l t e.
       rw (← e) (rw (demand-at j l t) (ranges (q .up-to) .record-kept j l .demand-most)))
 
   U-most : U ≤ 1000000000000

@@ -42,6 +42,16 @@ module _ (p : ℕ → Bool) where
       (λ s. lt-ltb (place j) (place i) (passer-before j i t (ltb-true j i s)) ∙ sym s)
       (λ s. le-ltb (place j) (place i) (count-prefix i j (ltb-false j i s)) ∙ sym s)
 
+  -- every place below the count is a passer's
+  pub passer-at {κ} : {X : Type κ} (n k : ℕ) → k < place n → ((j : ℕ) → j < n → p j ≡ true → place j ≡ k → X) → X
+  unfolding countBelow
+  passer-at zero k l found = absurd (not-suc-le-zero l)
+  passer-at (suc n) k l found =
+      let rest : k < place n → _ = λ m. passer-at n k m (λ j i. found j (omega arith)) in
+      split (p n)
+      (λ t. last-or-below k (place n) (let m : k < place n + 1 = rw t at l in omega arith) (λ e. found n (omega arith) t (sym e)) rest)
+      (λ e. rest (simp (e, add-zero) at l))
+
   -- g has at the passers' places what f has at the passers
   pub sum-gathered : (f g : ℕ → ℕ) (n : ℕ) → ((j : ℕ) → j < n → p j ≡ true → g (place j) ≡ f j) →
       sumBelow g (place n) ≡ sumBelow (λ j. cond (p j) (f j) 0) n
