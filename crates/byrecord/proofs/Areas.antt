@@ -2,40 +2,40 @@
 use mathlib.Core.Path.{_≡_, sym, _∙_, ap, ap₂}
 use mathlib.Core.Bool.{Bool, true, false, cond}
 use mathlib.Core.List.{List}
-use Prim.Native.Nat.{ℕ, _+_, _≤_, _<_, zero-le}
+use Prim.Native.Nat.{ℕ, _+_, _≤_, _<_}
 use native.Mathlib.Omega.{arith}
 use lib.Dec.{ltb, eqb}
 use lib.IntN.{ℤ, pos, natAbs}
-use lib.ListN.{length, getD}
+use lib.ListN.{length, getD, take}
+use lib.Seq.{length-take-le, getD-take}
 use mir.Syntax.{w64}
 use mir.Val.{ofZ}
-use borrow.Author.Tests.{lt-ltb, le-ltb, eq-eqb, ne-eqb, eqb-true, eqb-false, ltb-true, ltb-false}
-use Rattle.whole.specs.Below.{valuesBelow, replacingFirst}
+use borrow.Author.Tests.{lt-ltb, le-ltb, eq-eqb, eqb-true, eqb-false, ltb-true, ltb-false}
+use Rattle.whole.specs.Below.{replacingFirst, gatheredBelow}
 use Rattle.whole.specs.Signed.{withSignOf}
-use Rattle.whole.proofs.Tests.{split, cond-ind}
+use Rattle.whole.proofs.Tests.{split, both}
 use Rattle.whole.proofs.Ranges.{u-fits}
 use Rattle.whole.proofs.Machine.{zero-bits}
-use Rattle.whole.proofs.Buffers.{length-values, getD-values, getD-replacing, length-replacing, replacing-ext, replacing-same}
-use Rattle.rules.specs.Record.{Hour, areaOf, isLoad}
+use Rattle.whole.proofs.Sums.{count-most}
+use Rattle.whole.proofs.Gathering.{passer-before, passer-at, gathered-length, gathered-at}
+use Rattle.whole.proofs.Buffers.{getD-replacing, length-replacing, replacing-ext, replacing-same}
+use Rattle.rules.specs.Record.{Hour, areaOf, entryOf, isLoad}
 use Rattle.rules.specs.Ufe.{inArea, ufe, demand}
 use Rattle.rules.specs.Share.{shareSize}
 use Rattle.rules.specs.Charge.{shareOf}
-use Rattle.rules.specs.HourFile.{word}
 use Rattle.rules.specs.Inner.Kept.{HourKept}
-use Rattle.rules.proofs.Shares.{size-ext, size-at-most}
+use Rattle.rules.proofs.Shares.{gathered-shares, size-at-most}
 use Rattle.rules.proofs.Fair.{share-in}
 use Rattle.rules.proofs.Bounds.{ufe-under}
 use Rattle.share.specs.Shareable.{at, everyone, Shareable, sharesIn}
 use Rattle.share.proofs.Uses.{ufe-shareable}
 use Rattle.hour.specs.Hour.{hourIn}
-use Rattle.hour.proofs.Rows.{PartOf, part-area}
-use Rattle.hour.proofs.Figures.{figure-at}
-use Rattle.byrecord.specs.Shared.{demandIn, sharesBelow, withSizes, SharedUpTo, Sized}
+use Rattle.byrecord.specs.Shared.{loadsBefore, sharesBelow, withSizes, SharedUpTo, Sized}
 
 -- ---- a record's share before and after its area's turn
 
 module _ (h : Hour) (a i : ℕ) where
-  -- the size of area a's UFE, and of record i's part of it
+  -- the size of record i's part of area a's UFE
   abbrev sizeOf : ℕ
   sizeOf = shareSize (inArea h a isLoad) (demand h) (h .count) (natAbs (ufe h a)) i
 
@@ -56,33 +56,29 @@ module _ (h : Hour) (a i : ℕ) where
       (λ t. t ∙ sym (lt-ltb (areaOf h i) (a + 1) (omega (arith, ltb-true (areaOf h i) a t))))
       (λ f. f ∙ sym (le-ltb (areaOf h i) (a + 1) (omega (arith, ltb-false (areaOf h i) a f))))
 
-  other-after : (areaOf h i ≡ a → ⊥) → sharesBelow h a i ≡ sharesBelow h (a + 1) i
+  -- what has no share of area a's UFE is as it was
+  unshared : (areaOf h i ≡ a → shareOf h i ≡ pos 0) → sharesBelow h a i ≡ sharesBelow h (a + 1) i
   unfolding sharesBelow
-  other-after e = ap (λ (b : Bool). cond b (shareOf h i) (pos 0)) (passed e)
+  unshared none = split (eqb (areaOf h i) a)
+      (λ t. let e = eqb-true (areaOf h i) a t in own-before e ∙ sym (own-after e ∙ none e))
+      (λ f. ap (λ (b : Bool). cond b (shareOf h i) (pos 0)) (passed (eqb-false (areaOf h i) a f)))
 
--- ---- a record's area, as the code reads and tests it
+  load-there : inArea h a isLoad i ≡ true → areaOf h i ≡ a
+  unfolding inArea
+  load-there t = eqb-true (areaOf h i) a (both (eqb (areaOf h i) a) _ t .0)
 
-module _ {s words : List ℕ} {i r : ℕ} (own : PartOf s i words) (told : r ≡ word words 2) {a : ℕ} where
-  pub in-area : r ≡ a → eqb (areaOf (hourIn s) i) a ≡ true
-  in-area e = eq-eqb _ _ (sym (told ∙ part-area own) ∙ e)
-
-  pub elsewhere : (r ≡ a → ⊥) → eqb (areaOf (hourIn s) i) a ≡ false
-  elsewhere n = ne-eqb _ _ (λ e. n (told ∙ part-area own ∙ e))
+  no-load-no-share : inArea h a isLoad i ≡ false → areaOf h i ≡ a → shareOf h i ≡ pos 0
+  unfolding inArea shareOf
+  no-load-no-share f e = let g : isLoad (entryOf h i .kind) ≡ false = rw (eq-eqb (areaOf h i) a e) at f in rw g
 
 -- ---- the turn of area a
 
-module _ {s : List ℕ} {figures : List ℤ} {a : ℕ} {out : List ℤ} (p : SharedUpTo s figures a out) where
+module _ {s : List ℕ} {a : ℕ} {figure : ℤ} {demands sizes : List ℕ} {out : List ℤ} (p : SharedUpTo s a figure demands sizes out) where
   abbrev hour : Hour
   hour = hourIn s
 
   abbrev ranges : HourKept hour
-  ranges = p .sharing .kept .hour-kept
-
-  pub area-place : a < 8
-  area-place = omega (arith, ranges .areas-most, p .there)
-
-  pub figure-is : getD figures a (pos 0) ≡ ufe hour a
-  figure-is = rw (p .sharing .figures-of) (figure-at hour (ranges .areas-most) a (p .there))
+  ranges = p .kept .hour-kept
 
   -- an area without UFE shares nothing, so that nothing is to be written
   no-ufe-no-share : ufe hour a ≡ pos 0 → (i : ℕ) → i < hour .count → areaOf hour i ≡ a → shareOf hour i ≡ pos 0
@@ -93,27 +89,23 @@ module _ {s : List ℕ} {figures : List ℤ} {a : ℕ} {out : List ℤ} (p : Sha
           let none = ap natAbs z in
           omega (arith, size-at-most (inArea hour a isLoad) (demand hour) (hour .count) (natAbs (ufe hour a)) i l)
 
-  pub nothing-to-write : ofZ w64 (getD figures a (pos 0)) ≡ 0 → out ≡ replacingFirst (sharesBelow hour (a + 1)) (hour .count) out
-  nothing-to-write z = sym (replacing-same _ (hour .count) out (pos 0) (p .sharing .room) (λ i l. sym (p .shared i l ∙ same i l)))
+  pub nothing-to-write : ofZ w64 figure ≡ 0 → out ≡ replacingFirst (sharesBelow hour (a + 1)) (hour .count) out
+  nothing-to-write z = sym (replacing-same _ (hour .count) out (pos 0) (p .room) (λ i l.
+      sym (p .shared i l ∙ unshared hour a i (no-ufe-no-share none i l))))
     where
       none : ufe hour a ≡ pos 0
-      none = zero-bits (u-fits (ufe-under ranges a (p .there)) tt) (ap (ofZ w64) (sym figure-is) ∙ z)
-
-      same : (i : ℕ) → i < hour .count → sharesBelow hour a i ≡ sharesBelow hour (a + 1) i
-      same i l = split (eqb (areaOf hour i) a)
-          (λ t. let e = eqb-true (areaOf hour i) a t in
-          own-before hour a i e ∙ sym (own-after hour a i e ∙ no-ufe-no-share none i l e))
-          (λ f. other-after hour a i (eqb-false (areaOf hour i) a f))
+      none = zero-bits (u-fits (ufe-under ranges a (p .there)) tt) (ap (ofZ w64) (sym (p .figure-of)) ∙ z)
 
 -- ---- an area with UFE, over its loads
 
--- what the engine is asked: `demands` are those of the area's loads, 0 for every other record, and `sizes` has a place a record
-pub record Asked (s : List ℕ) (figures : List ℤ) (a : ℕ) (out : List ℤ) (demands sizes : List ℕ) : Type 0 where
-  pub up-to : SharedUpTo s figures a out
-  pub demands-are : demands ≡ valuesBelow (demandIn (hourIn s) a) (hourIn s .count)
-  pub places : length sizes ≡ hourIn s .count
+-- what the engine is asked: in the first places of `room` stand the demands of the area's loads, so many
+pub record Asked (s : List ℕ) (a : ℕ) (figure : ℤ) (lent sizes : List ℕ) (out : List ℤ) (loads : ℕ) (room : List ℕ) : Type 0 where
+  pub up-to : SharedUpTo s a figure lent sizes out
+  pub counted : loads ≡ loadsBefore (hourIn s) a (hourIn s .count)
+  pub holds : room ≡ gatheredBelow (inArea (hourIn s) a isLoad) (demand (hourIn s)) (hourIn s .count) lent
 
-module _ {s : List ℕ} {figures : List ℤ} {a : ℕ} {out : List ℤ} {demands sizes : List ℕ} (q : Asked s figures a out demands sizes) where
+module _ {s : List ℕ} {a : ℕ} {figure : ℤ} {lent sizes : List ℕ} {out : List ℤ} {loads : ℕ} {room : List ℕ}
+    (q : Asked s a figure lent sizes out loads room) where
   abbrev h : Hour
   h = hourIn s
 
@@ -123,61 +115,74 @@ module _ {s : List ℕ} {figures : List ℤ} {a : ℕ} {out : List ℤ} {demands
   abbrev U : ℕ
   U = natAbs (ufe h a)
 
-  abbrev kept : HourKept h
-  kept = ranges (q .up-to)
+  abbrev load : ℕ → Bool
+  load = inArea h a isLoad
 
-  as-many : length demands ≡ n
-  as-many = ap length (q .demands-are) ∙ length-values (demandIn h a) n
+  abbrev place : ℕ → ℕ
+  place = loadsBefore h a
 
-  demand-at : (i : ℕ) → i < n → at demands i ≡ demandIn h a i
-  demand-at i m = rw (q .demands-are) (getD-values (demandIn h a) n i 0 m)
+  abbrev demands : List ℕ
+  demands = take loads room
 
-  demand-small : (i : ℕ) → i < n → demandIn h a i ≤ 100000
-  unfolding demandIn
-  demand-small i m =
-      cond-ind (inArea h a isLoad i) (demand h i) 0 (λ d. d ≤ 100000) (λ t. kept .record-kept i m .demand-most) (λ f. zero-le)
+  room-kept : length room ≡ length lent
+  room-kept = ap length (q .holds) ∙ gathered-length load (demand h) lent n
+
+  pub loads-fit : loads ≤ length room
+  loads-fit = omega (arith, room-kept, q .up-to .demands-room, q .counted, count-most load n)
+
+  as-many : length demands ≡ loads
+  as-many = length-take-le loads room loads-fit
+
+  before-all : (j : ℕ) → j < n → load j ≡ true → place j < loads
+  before-all j l t = omega (arith, q .counted, passer-before load j n t l)
+
+  demand-at : (j : ℕ) → j < n → load j ≡ true → at demands (place j) ≡ demand h j
+  demand-at j l t =
+      getD-take loads room (place j) 0 (before-all j l t)
+      ∙ rw (q .holds) (gathered-at load (demand h) lent n (omega (arith, q .up-to .demands-room)) j 0 l t)
+
+  demand-small : (k : ℕ) → k < length demands → at demands k ≤ 100000
+  demand-small k m = passer-at load n k (omega (arith, as-many, q .counted)) (λ j l t e.
+      rw (← e) (rw (demand-at j l t) (ranges (q .up-to) .record-kept j l .demand-most)))
 
   U-most : U ≤ 1000000000000
-  U-most = ufe-under kept a (q .up-to .there) .under
+  U-most = ufe-under (ranges (q .up-to)) a (q .up-to .there) .under
+
+  few : length demands ≤ n
+  few = omega (arith, as-many, loads-fit, room-kept, q .up-to .demands-room)
 
   pub shareable : Shareable demands U sizes
   shareable =
-      ufe-shareable demands U sizes (omega (arith, as-many, q .places)) (omega (arith, as-many, kept .count-most)) (λ i m.
-      let k : i < n = omega (arith, as-many) in
-      rw (demand-at i k) (demand-small i k)) U-most
+      ufe-shareable demands U sizes (omega (arith, few, q .up-to .sizes-room)) (omega (arith, few, ranges (q .up-to) .count-most))
+      demand-small U-most
 
   -- what the engine answered
   module _ {got : List ℕ} (shared : got ≡ sharesIn demands U sizes) where
-    got-length : length got ≡ n
-    got-length = ap length shared ∙ length-replacing _ (length demands) sizes (omega (arith, as-many, q .places)) ∙ q .places
+    sizes-kept : length got ≡ length sizes
+    sizes-kept = ap length shared ∙ length-replacing _ (length demands) sizes (omega (arith, few, q .up-to .sizes-room))
 
-    got-at : (i : ℕ) → i < n → getD got i 0 ≡ sizeOf h a i
-    unfolding demandIn
-    got-at i m =
-        ap (λ (g : List ℕ). getD g i 0) shared
-        ∙ getD-replacing _ (length demands) sizes i 0 (omega (arith, as-many))
-        ∙ rw as-many (size-ext everyone (inArea h a isLoad) (at demands) (demand h) n demand-at U i m)
-
-    got-small : (i : ℕ) → i < n → getD got i 0 < 9223372036854775808
-    got-small i m = rw (got-at i m) (omega (arith, size-at-most (inArea h a isLoad) (demand h) n U i m, U-most))
+    got-at : (j : ℕ) → j < n → load j ≡ true → getD got (place j) 0 ≡ sizeOf h a j
+    got-at j l t =
+        ap (λ (g : List ℕ). getD g (place j) 0) shared
+        ∙ getD-replacing _ (length demands) sizes (place j) 0 (omega (arith, as-many, before-all j l t))
+        ∙ ap (λ (m : ℕ). shareSize everyone (at demands) m U (place j)) (as-many ∙ q .counted)
+        ∙ gathered-shares load (demand h) (at demands) n U demand-at j l t
 
     pub sized : Sized s a got out
     sized = record {
-      kept = q .up-to .sharing .kept;
-      area-place = area-place (q .up-to);
-      as-many = got-length;
-      room = omega (arith, got-length, q .up-to .sharing .room);
-      small = λ i m. got-small i (omega (arith, got-length));
+      kept = q .up-to .kept;
+      as-many = sizes-kept ∙ q .up-to .sizes-room;
+      room = omega (arith, sizes-kept, q .up-to .sizes-room, q .up-to .room);
+      small = λ j l t. rw (got-at j l t) (omega (arith, size-at-most load (demand h) n U j l, U-most));
     }
 
-    -- the area's records have their shares, and the others what they had
+    -- the area's loads have their shares, and all others what they had
     one-more : (i : ℕ) → i < n → withSizes h a (ufe h a) got out i ≡ sharesBelow h (a + 1) i
     unfolding withSizes
-    one-more i m = split (eqb (areaOf h i) a)
-        (λ t. let e = eqb-true (areaOf h i) a t in rw (t, got-at i m) (sym (own-after h a i e ∙ own-share h a i e)))
-        (λ f. rw f (q .up-to .shared i m ∙ other-after h a i (eqb-false (areaOf h i) a f)))
+    one-more i l = split (load i)
+        (λ t. let e = load-there h a i t in rw (t, got-at i l t) (sym (own-after h a i e ∙ own-share h a i e)))
+        (λ f. rw f (q .up-to .shared i l ∙ unshared h a i (no-load-no-share h a i f)))
 
-    pub area-shared : {next : List ℤ} →
-        next ≡ replacingFirst (withSizes h a (getD figures a (pos 0)) got out) (length got) out →
+    pub area-shared : {next : List ℤ} → next ≡ replacingFirst (withSizes h a figure got out) n out →
         next ≡ replacingFirst (sharesBelow h (a + 1)) n out
-    area-shared put = put ∙ rw (got-length, figure-is (q .up-to)) (replacing-ext _ _ n out one-more)
+    area-shared put = put ∙ rw (q .up-to .figure-of) (replacing-ext _ _ n out one-more)

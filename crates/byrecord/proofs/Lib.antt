@@ -1,3 +1,4 @@
--- The laws behind the shares: one area's shares, and the way from no area to all.
+-- The laws behind the shares: an area's loads, one area's shares, and the way from no area to all.
+mod Loads
 mod Areas
 mod Hour

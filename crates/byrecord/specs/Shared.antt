@@ -1,31 +1,32 @@
--- How far the UFE of an hour is shared, area by area, and what a load demands of an area.
+-- How far the UFE of an hour is shared, area by area, and where an area's loads have their demands and sizes.
 use Prim.Native.Nat.{ℕ, _≤_, _<_}
 use mathlib.Core.Path.{_≡_}
-use mathlib.Core.Bool.{cond}
+use mathlib.Core.Bool.{true, cond}
 use mathlib.Core.List.{List}
 use lib.IntN.{ℤ, pos}
 use lib.ListN.{length, getD}
-use lib.Dec.{ltb, eqb}
+use lib.Dec.{ltb}
+use Rattle.whole.specs.Below.{countBelow}
 use Rattle.whole.specs.Signed.{withSignOf}
 use Rattle.rules.specs.Record.{Hour, areas, areaOf, isLoad}
-use Rattle.rules.specs.Ufe.{inArea, demand}
+use Rattle.rules.specs.Ufe.{inArea, ufe}
 use Rattle.rules.specs.Charge.{shareOf}
 use Rattle.rules.specs.Settling.{ufeFigures}
 use Rattle.rules.specs.Inner.Kept.{FileKept}
 use Rattle.hour.specs.Hour.{hourIn}
 
-module _ (h : Hour) where
-  -- what record i demands of area a's UFE: 0 unless it is a load there
-  unfoldable pub demandIn : ℕ → ℕ → ℕ
-  demandIn a i = cond (inArea h a isLoad i) (demand h i) 0
+module _ (h : Hour) (a : ℕ) where
+  -- how many of area a's loads stand before record i: where a load has its demand and its size
+  abbrev pub loadsBefore : ℕ → ℕ
+  loadsBefore i = countBelow (inArea h a isLoad) i
 
   -- a record's share once the areas before a are shared
-  unfoldable pub sharesBelow : ℕ → ℕ → ℤ
-  sharesBelow a i = cond (ltb (areaOf h i) a) (shareOf h i) (pos 0)
+  unfoldable pub sharesBelow : ℕ → ℤ
+  sharesBelow i = cond (ltb (areaOf h i) a) (shareOf h i) (pos 0)
 
-  -- what stands at a record's place once the sizes of area a are put there, with the sign of its UFE
-  unfoldable pub withSizes : ℕ → ℤ → List ℕ → List ℤ → ℕ → ℤ
-  withSizes a ufe sizes out i = cond (eqb (areaOf h i) a) (withSignOf ufe (getD sizes i 0)) (getD out i (pos 0))
+  -- what stands at a record's place once the sizes of area a's loads are put there, with the sign of its UFE
+  unfoldable pub withSizes : ℤ → List ℕ → List ℤ → ℕ → ℤ
+  withSizes figure sizes out i = cond (inArea h a isLoad i) (withSignOf figure (getD sizes (loadsBefore i) 0)) (getD out i (pos 0))
 
 -- the figures are the hour's, and there is a place for each record's share
 pub record Sharing (s : List ℕ) (figures out : List ℤ) : Type 0 where
@@ -33,16 +34,27 @@ pub record Sharing (s : List ℕ) (figures out : List ℤ) : Type 0 where
   pub figures-of : figures ≡ ufeFigures (hourIn s)
   pub room : hourIn s .count ≤ length out
 
--- the areas before a are shared, and a is there to be shared
-pub record SharedUpTo (s : List ℕ) (figures : List ℤ) (a : ℕ) (out : List ℤ) : Type 0 where
+-- no share is put yet, and both rooms have a place a record
+pub record Cleared (s : List ℕ) (figures : List ℤ) (demands sizes : List ℕ) (out : List ℤ) : Type 0 where
   pub sharing : Sharing s figures out
+  pub demands-room : length demands ≡ hourIn s .count
+  pub sizes-room : length sizes ≡ hourIn s .count
+  pub zeros : (i : ℕ) → i < hourIn s .count → getD out i (pos 0) ≡ pos 0
+
+-- the areas before a are shared, a is there to be shared with its UFE, and both rooms have a place a record
+pub record SharedUpTo (s : List ℕ) (a : ℕ) (figure : ℤ) (demands sizes : List ℕ) (out : List ℤ) : Type 0 where
+  pub kept : FileKept s
   pub there : a < areas (hourIn s)
+  pub figure-of : figure ≡ ufe (hourIn s) a
+  pub demands-room : length demands ≡ hourIn s .count
+  pub sizes-room : length sizes ≡ hourIn s .count
+  pub room : hourIn s .count ≤ length out
   pub shared : (i : ℕ) → i < hourIn s .count → getD out i (pos 0) ≡ sharesBelow (hourIn s) a i
 
--- an area's sizes, a place a record, each small enough for a sign, and room for the records' shares
+-- sizes of area a's loads in their order, each small enough for a sign, and room for the records' shares
 pub record Sized (s : List ℕ) (a : ℕ) (sizes : List ℕ) (out : List ℤ) : Type 0 where
   pub kept : FileKept s
-  pub area-place : a < 8
   pub as-many : length sizes ≡ hourIn s .count
   pub room : length sizes ≤ length out
-  pub small : (i : ℕ) → i < length sizes → getD sizes i 0 < 9223372036854775808
+  pub small : (i : ℕ) → i < hourIn s .count → inArea (hourIn s) a isLoad i ≡ true →
+      getD sizes (loadsBefore (hourIn s) a i) 0 < 9223372036854775808

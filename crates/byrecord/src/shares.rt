@@ -1,103 +1,142 @@
 // The share of each record: an area's UFE over its loads, area by area; a record that is no load has 0. The sharing itself is the engine's,
-// `share::shares`, which knows no hours: here its demands are taken from the file and its sizes given the UFE's sign. The UFE figures come
-// from the caller and are not worked again, and refusal 6 was checked before. An area without UFE costs nothing.
+// `share::shares`, which knows no hours: here the demands of an area's loads, and of nobody else, are gathered from the file, and the sizes
+// put back with the UFE's sign. The UFE figures come from the caller and are not worked again, and refusal 6 was checked before. An area
+// without UFE costs nothing.
 ghost use mathlib.Core.Path.{_≡_};
-ghost use mathlib.Core.Bool.{cond};
+ghost use mathlib.Core.Bool.{true, cond};
 ghost use Prim.Native.Nat.{_+_, _≤_, _<_};
 ghost use lib.IntN.{pos};
-ghost use lib.ListN.{length, getD};
-ghost use lib.Dec.{eqb};
-ghost use Rattle.whole.specs.Below.{valuesBelow, replacingFirst};
+ghost use lib.ListN.{length, getD, set};
+ghost use Rattle.whole.specs.Below.{oneIf, replacingFirst, gatheredBelow};
 ghost use Rattle.whole.specs.Signed.{withSignOf};
-ghost use Rattle.rules.specs.Record.{areaOf};
+ghost use Rattle.rules.specs.Record as Record;
+ghost use Rattle.rules.specs.Record.{isLoad};
+ghost use Rattle.rules.specs.Ufe.{inArea, demand};
 ghost use Rattle.rules.specs.Charge.{shareOf};
 ghost use Rattle.rules.specs.Inner.Kept.{FileKept};
 ghost use Rattle.hour.specs.Hour.{hourIn, Headed};
-ghost use Rattle.byrecord.specs.Shared.{demandIn, sharesBelow, withSizes, Sharing, SharedUpTo, Sized};
+ghost use Rattle.byrecord.specs.Shared.{loadsBefore, sharesBelow, withSizes, Sharing, Cleared, SharedUpTo, Sized};
 use hour::Head;
 
-// What a record demands of an area's UFE: 0 unless it is a load there.
-fn demand_there(file: &[u8], a: usize, i: usize) -> u64
+// Whether a record is a load of this area: nobody else takes part in the area's UFE.
+fn load_there(file: &[u8], a: usize, i: usize) -> bool
     requires { ⌜ FileKept (now file) × (i < hourIn (now file) .count) ⌝ }
-    ensures { λ r. ⌜ r ≡ demandIn (hourIn (now (file .entry))) a i ⌝ }
+    ensures { λ r. ⌜ r ≡ inArea (hourIn (now (file .entry))) a isLoad i ⌝ }
 {
     let words = hour::record(file, i);
     if hour::area_in(words) == a {
-        return hour::demand_in(words) as u64;
+        return formula::entry::is_load(hour::kind_in(words));
     }
-    0
+    false
 }
 
-// The demands of an area's loads, with 0 for every other record, so that the engine can take all records as they stand.
-fn put_demands(file: &[u8], a: usize, out: &mut [u64])
-    requires { ⌜ FileKept (now file) × (length (now out) ≡ hourIn (now file) .count) ⌝ }
-    ensures { λ _. ⌜ now (out .exit) ≡ valuesBelow (demandIn (hourIn (now (file .entry))) a) (length (now (out .entry))) ⌝ }
+// A load's demand to the next place; how many loads there are then.
+fn put_demand(file: &[u8], a: usize, i: usize, loads: usize, demands: &mut [u64]) -> usize
+    requires { ⌜ FileKept (now file) × (i < hourIn (now file) .count) × (loads < length (now demands)) ⌝ }
+    ensures { λ r. ⌜ (r ≡ loads + oneIf (inArea (hourIn (now (file .entry))) a isLoad i))
+        × (now (demands .exit) ≡ cond (inArea (hourIn (now (file .entry))) a isLoad i)
+        (set (now (demands .entry)) loads (demand (hourIn (now (file .entry))) i)) (now (demands .entry))) ⌝ }
 {
+    if load_there(file, a, i) {
+        demands[loads] = hour::demand_of(file, i) as u64;
+        return loads + 1;
+    }
+    loads
+}
+
+// The demands of an area's loads, in file order, to the first places of the room; how many loads there are.
+fn put_demands(file: &[u8], a: usize, demands: &mut [u64]) -> usize
+    requires { ⌜ FileKept (now file) × (length (now demands) ≡ hourIn (now file) .count) ⌝ }
+    ensures { λ r. ⌜ (r ≡ loadsBefore (hourIn (now (file .entry))) a (hourIn (now (file .entry)) .count))
+        × (now (demands .exit) ≡ gatheredBelow (inArea (hourIn (now (file .entry))) a isLoad) (demand (hourIn (now (file .entry))))
+        (hourIn (now (file .entry)) .count) (now (demands .entry))) ⌝ }
+{
+    let mut loads = 0;
     let mut i = 0;
-    while i < out.len() {
-        out[i] = demand_there(file, a, i);
+    while i < demands.len() {
+        loads = put_demand(file, a, i, loads, demands);
         i += 1;
     }
+    loads
 }
 
-// A record's share where the area's sizes are known: the size with the UFE's sign, or for another area's record what it had.
-fn share_in(file: &[u8], a: usize, i: usize, ufe: i64, size: u64, before: i64) -> i64
-    requires { ⌜ FileKept (now file) × (i < hourIn (now file) .count) × (size < 9223372036854775808) ⌝ }
-    ensures { λ r. ⌜ r ≡ cond (eqb (areaOf (hourIn (now (file .entry))) i) a) (withSignOf ufe size) before ⌝ }
+// A load's size, with the UFE's sign, to its own place; how many loads have their share then.
+fn put_share(
+    file: &[u8],
+    a: usize,
+    i: usize,
+    figure: i64,
+    sizes: &[u64],
+    loads: usize,
+    out: &mut [i64],
+) -> usize
+    requires { ⌜ FileKept (now file) × (i < hourIn (now file) .count) × (i < length (now out)) × (loads < length (now sizes))
+        × (inArea (hourIn (now file)) a isLoad i ≡ true → getD (now sizes) loads 0 < 9223372036854775808) ⌝ }
+    ensures { λ r. ⌜ (r ≡ loads + oneIf (inArea (hourIn (now (file .entry))) a isLoad i))
+        × (now (out .exit) ≡ cond (inArea (hourIn (now (file .entry))) a isLoad i)
+        (set (now (out .entry)) i (withSignOf figure (getD (now (sizes .entry)) loads 0))) (now (out .entry))) ⌝ }
 {
-    if hour::area_in(hour::record(file, i)) == a {
-        return sign::with_sign_of(ufe, size);
+    if load_there(file, a, i) {
+        out[i] = sign::with_sign_of(figure, sizes[loads]);
+        return loads + 1;
     }
-    before
+    loads
 }
 
-// An area's sizes, with the UFE's sign, to its own records.
-fn put_area(file: &[u8], figures: [i64; 8], a: usize, sizes: &[u64], out: &mut [i64])
+// An area's sizes, in the order of its loads, with the UFE's sign, to its loads.
+fn put_area(file: &[u8], a: usize, figure: i64, sizes: &[u64], out: &mut [i64])
     requires { ⌜ Sized (now file) a (now sizes) (now out) ⌝ }
     ensures { λ _. ⌜ now (out .exit)
-        ≡ replacingFirst (withSizes (hourIn (now (file .entry))) a (getD figures a (pos 0)) (now (sizes .entry)) (now (out .entry)))
-        (length (now (sizes .entry))) (now (out .entry)) ⌝ }
+        ≡ replacingFirst (withSizes (hourIn (now (file .entry))) a figure (now (sizes .entry)) (now (out .entry)))
+        (hourIn (now (file .entry)) .count) (now (out .entry)) ⌝ }
 {
+    let mut loads = 0;
     let mut i = 0;
     while i < sizes.len() {
-        out[i] = share_in(file, a, i, figures[a], sizes[i], out[i]);
+        loads = put_share(file, a, i, figure, sizes, loads, out);
         i += 1;
     }
 }
 
-// An area with UFE: its demands and sizes stand in the rooms lent, a place a record.
-fn share_over(
+// One area more: its loads' demands and sizes stand in the rooms lent.
+fn share_area(
     file: &[u8],
-    figures: [i64; 8],
     a: usize,
+    figure: i64,
     demands: &mut [u64],
     sizes: &mut [u64],
     out: &mut [i64],
 )
-    requires { ⌜ SharedUpTo (now file) figures a (now out)
-        × (length (now demands) ≡ hourIn (now file) .count)
-        × (length (now sizes) ≡ hourIn (now file) .count) ⌝ }
+    requires { ⌜ SharedUpTo (now file) a figure (now demands) (now sizes) (now out) ⌝ }
     ensures { λ _. ⌜ now (out .exit)
         ≡ replacingFirst (sharesBelow (hourIn (now (file .entry))) (a + 1)) (hourIn (now (file .entry)) .count) (now (out .entry)) ⌝ }
 {
-    put_demands(file, a, demands);
-    share::shares(demands, sign::size_of(figures[a]), sizes);
-    put_area(file, figures, a, sizes, out);
-}
-
-// One area more. This function only makes the room.
-fn share_area(file: &[u8], figures: [i64; 8], a: usize, out: &mut [i64])
-    requires { ⌜ SharedUpTo (now file) figures a (now out) ⌝ }
-    ensures { λ _. ⌜ now (out .exit)
-        ≡ replacingFirst (sharesBelow (hourIn (now (file .entry))) (a + 1)) (hourIn (now (file .entry)) .count) (now (out .entry)) ⌝ }
-{
-    if figures[a] == 0 {
+    if figure == 0 {
         return;
     }
-    let n = hour::records(file);
-    let mut demands = [0u64; 250];
-    let mut sizes = [0u64; 250];
-    share_over(file, figures, a, &mut demands[..n], &mut sizes[..n], out);
+    let loads = put_demands(file, a, demands);
+    share::shares(&demands[..loads], sign::size_of(figure), sizes);
+    put_area(file, a, figure, sizes, out);
+}
+
+// All areas, in the rooms lent.
+fn share_areas(
+    file: &[u8],
+    areas: usize,
+    figures: [i64; 8],
+    demands: &mut [u64],
+    sizes: &mut [u64],
+    out: &mut [i64],
+)
+    requires { ⌜ Cleared (now file) figures (now demands) (now sizes) (now out) × (areas ≡ Record.areas (hourIn (now file))) ⌝ }
+    ensures { λ _. ⌜ now (out .exit)
+        ≡ replacingFirst (shareOf (hourIn (now (file .entry)))) (hourIn (now (file .entry)) .count) (now (out .entry)) ⌝ }
+{
+    let mut a = 0;
+    while a < areas {
+        share_area(file, a, figures[a], demands, sizes, out);
+        a += 1;
+    }
 }
 
 // The first `n` places 0.
@@ -112,17 +151,16 @@ fn clear(out: &mut [i64], n: usize)
     }
 }
 
-// One a record, into the first places; the places past them are unchanged.
+// One a record, into the first places; the places past them are unchanged. The rooms are made before the shares are cleared, which takes 64
+// bytes of stack less.
 pub fn put_shares(file: &[u8], head: Head, figures: [i64; 8], out: &mut [i64])
     requires { ⌜ Headed (now file) head × Sharing (now file) figures (now out) ⌝ }
     ensures { λ _. ⌜ now (out .exit)
         ≡ replacingFirst (shareOf (hourIn (now (file .entry)))) (hourIn (now (file .entry)) .count) (now (out .entry)) ⌝ }
 {
-    clear(out, head.records);
-    let areas = head.areas;
-    let mut a = 0;
-    while a < areas {
-        share_area(file, figures, a, out);
-        a += 1;
-    }
+    let n = head.records;
+    let mut demands = [0u64; 250];
+    let mut sizes = [0u64; 250];
+    clear(out, n);
+    share_areas(file, head.areas, figures, &mut demands[..n], &mut sizes[..n], out);
 }

@@ -1,8 +1,8 @@
 -- A size shared in whole units: handing the units left over out one at a time gives them by rank, the shares add up to the size, and
--- each is less than a unit from its exact fraction. Who takes no part may as well demand 0.
+-- each is less than a unit from its exact fraction. Who takes no part may as well not be there.
 use Prim.Native.Nat.{ℕ, zero, suc, _+_, _-_, _*_, _/_, _%_, _≤_, _<_, zero-le}
 use native.Mathlib.Nat.{not-suc-le-zero, le-refl, le-trans, div-add-mod', mod-lt, le-of-mul-le-mul-right, sub-add-cancel, eq-zero-or-pos}
-use native.Mathlib.Nat.{le-of-eq, zero-mul, zero-div, zero-mod}
+use native.Mathlib.Nat.{le-of-eq}
 use native.Mathlib.Omega.{arith}
 use mathlib.Core.Path.{_≡_, refl, sym, _∙_, ap, ap₂, subst}
 use mathlib.Core.Logic.{⊎-elim}
@@ -13,6 +13,7 @@ use borrow.Author.Tests.{ltb-true, ltb-false, eqb-false, not-true, not-false, lt
 use Rattle.whole.specs.Below.{oneIf, countBelow, sumBelow}
 use Rattle.whole.proofs.Tests.{split, never, both, and-mono, cond-ext, last-or-below}
 use Rattle.whole.proofs.Sums.{count-ext, count-mono, sum-ext, sum-mono, sum-at, sum-add, sum-mul, sum-one-if, sum-zero}
+use Rattle.whole.proofs.Gathering.{passer-before, same-order, sum-gathered, count-gathered}
 use Rattle.whole.proofs.Rank.{Order, by-key, why-ahead, count-served}
 use Rattle.whole.proofs.Handing.{Handing, handed}
 use Rattle.rules.specs.Share.{better, firstLargest, isAt, handedOut, allDemand, wholePart, remainder, unitsLeft, shareSize}
@@ -299,89 +300,48 @@ sizes-at-most takes D n U = ⊎-elim
 pub size-at-most : (takes : ℕ → Bool) (D : ℕ → ℕ) (n U i : ℕ) → i < n → shareSize takes D n U i ≤ U
 size-at-most takes D n U i l = le-trans (sum-at (shareSize takes D n U) n i l) (sizes-at-most takes D n U)
 
--- ---- who takes no part may as well demand 0
+-- ---- only the takers' demands, gathered
 
-abbrev all : ℕ → Bool
-all j = true
+abbrev everyone : ℕ → Bool
+everyone j = true
 
-module _ (takes : ℕ → Bool) (D : ℕ → ℕ) (n U : ℕ) where
-  abbrev E : ℕ → ℕ
-  E = ofTakers takes D
+-- g has at the takers' places, which count the takers before each, what D has at the takers
+module _ (takes : ℕ → Bool) (D g : ℕ → ℕ) (n U : ℕ) (same : (j : ℕ) → j < n → takes j ≡ true → g (countBelow takes j) ≡ D j) where
+  abbrev place : ℕ → ℕ
+  place = countBelow takes
 
-  same-whole : (j : ℕ) → wholePart all E n U j ≡ ofTakers takes (wholePart takes D n U) j
-  unfolding wholePart allDemand
-  same-whole j = split (takes j) (λ t. rw t) (λ f. rw (f, zero-mul, zero-div))
-
-  same-remainder : (j : ℕ) → remainder all E n U j ≡ ofTakers takes (remainder takes D n U) j
-  unfolding remainder allDemand
-  same-remainder j = split (takes j) (λ t. rw t) (λ f. rw (f, zero-mul, zero-mod))
-
-  same-left : unitsLeft all E n U ≡ unitsLeft takes D n U
-  unfolding unitsLeft
-  same-left = ap (λ (x : ℕ). U - x) (sum-ext _ _ n (λ j l. same-whole j))
-
-  -- who has a remainder stands behind no demand of 0
-  same-rank : (i : ℕ) → takes i ≡ true → 0 < remainder takes D n U i → rank all E n U i ≡ rank takes D n U i
-  same-rank i t p = count-ext _ _ n (λ j l. split (takes j)
-      (λ s. rw s (same-ahead _ _ j i (same-remainder j ∙ rw s) (same-remainder i ∙ rw t)))
-      (λ f. rw f (behind j (same-remainder j ∙ rw f) (same-remainder i ∙ rw t))))
-    where
-      behind : (j : ℕ) → remainder all E n U j ≡ 0 → remainder all E n U i ≡ remainder takes D n U i →
-          ahead (remainder all E n U) j i ≡ false
-      behind j z e = not-ahead (remainder all E n U) j i (omega arith) (λ l. omega arith)
-
-  same-unit : 0 < allDemand takes D n → (i : ℕ) →
-      ltb (rank all E n U i) (left all E n U) ≡ (takes i && ltb (rank takes D n U i) (left takes D n U))
+  gathered-T : allDemand everyone g (place n) ≡ allDemand takes D n
   unfolding allDemand
-  same-unit p i = split (takes i)
-      (λ t. rw t (⊎-elim
-      (λ z. no-unit all E n U p i (same-remainder i ∙ rw t z) ∙ sym (no-unit takes D n U p i z))
-      (λ s. rw (same-left, same-rank i t s))
-      (eq-zero-or-pos (remainder takes D n U i))))
-      (λ f. rw f (no-unit all E n U p i (same-remainder i ∙ rw f)))
+  gathered-T = sum-gathered takes D g n same
 
--- An engine that sees a demand of 0 for those who take no part gives the same shares.
-pub zeros-for-others : (takes : ℕ → Bool) (D : ℕ → ℕ) (n U i : ℕ) → i < n →
-    shareSize takes D n U i ≡ shareSize (λ j. true) (λ j. cond (takes j) (D j) 0) n U i
-unfolding allDemand
-zeros-for-others takes D n U i l = ⊎-elim
-    (λ z. nothing-without-demand takes D n U i z ∙ sym (nothing-without-demand all (ofTakers takes D) n U i z))
-    (λ p. size-is takes D n U p i l
-    ∙ ap₂ (λ (w : ℕ) (u : Bool). w + oneIf u) (sym (same-whole takes D n U i)) (sym (same-unit takes D n U p i))
-    ∙ sym (size-is all (ofTakers takes D) n U p i l))
-    (eq-zero-or-pos (allDemand takes D n))
-
--- ---- equal demands below n
-
-module _ (D E : ℕ → ℕ) (n U : ℕ) (same : (j : ℕ) → j < n → D j ≡ E j) where
-  equal-T : allDemand all D n ≡ allDemand all E n
-  unfolding allDemand
-  equal-T = sum-ext D E n same
-
-  equal-whole : (j : ℕ) → j < n → wholePart all D n U j ≡ wholePart all E n U j
+  gathered-whole : (j : ℕ) → j < n → takes j ≡ true → wholePart everyone g (place n) U (place j) ≡ wholePart takes D n U j
   unfolding wholePart
-  equal-whole j l = ap₂ (λ (d t : ℕ). d * U / t) (same j l) equal-T
+  gathered-whole j l t = ap₂ (λ (d t : ℕ). d * U / t) (same j l t) gathered-T
 
-  equal-remainder : (j : ℕ) → j < n → remainder all D n U j ≡ remainder all E n U j
+  gathered-remainder : (j : ℕ) → j < n → takes j ≡ true → remainder everyone g (place n) U (place j) ≡ remainder takes D n U j
   unfolding remainder
-  equal-remainder j l = ap₂ (λ (d t : ℕ). d * U % t) (same j l) equal-T
+  gathered-remainder j l t = ap₂ (λ (d t : ℕ). d * U % t) (same j l t) gathered-T
 
-  equal-left : unitsLeft all D n U ≡ unitsLeft all E n U
+  gathered-left : unitsLeft everyone g (place n) U ≡ unitsLeft takes D n U
   unfolding unitsLeft
-  equal-left = ap (λ (x : ℕ). U - x) (sum-ext _ _ n equal-whole)
+  gathered-left = ap (λ (x : ℕ). U - x) (sum-gathered takes (wholePart takes D n U) (wholePart everyone g (place n) U) n gathered-whole)
 
-  equal-rank : (i : ℕ) → i < n → rank all D n U i ≡ rank all E n U i
-  equal-rank i l = count-ext _ _ n (λ j m. same-ahead _ _ j i (equal-remainder j m) (equal-remainder i l))
+  -- the takers keep their order
+  gathered-ahead : (j i : ℕ) → j < n → takes j ≡ true → i < n → takes i ≡ true →
+      ahead (remainder everyone g (place n) U) (place j) (place i) ≡ ahead (remainder takes D n U) j i
+  unfolding ahead
+  gathered-ahead j i l t m u = rw (gathered-remainder j l t, gathered-remainder i m u, same-order takes j i t)
 
-  equal-ranked : (i : ℕ) → i < n → rankedSize all D n U i ≡ rankedSize all E n U i
+  gathered-rank : (i : ℕ) → i < n → takes i ≡ true → rank everyone g (place n) U (place i) ≡ rank takes D n U i
+  gathered-rank i m u = count-gathered takes _ (λ j. ahead (remainder takes D n U) j i) n (λ j l t. gathered-ahead j i l t m u)
+
+  gathered-ranked : (i : ℕ) → i < n → takes i ≡ true → rankedSize everyone g (place n) U (place i) ≡ rankedSize takes D n U i
   unfolding rankedSize
-  equal-ranked i l = rw (equal-T, equal-whole i l, equal-rank i l, equal-left)
+  gathered-ranked i l t = rw (gathered-T, gathered-whole i l t, gathered-rank i l t, gathered-left, t)
 
-module _ (takes takes′ : ℕ → Bool) (D D′ : ℕ → ℕ) (n : ℕ) (same : (j : ℕ) → j < n → cond (takes j) (D j) 0 ≡ cond (takes′ j) (D′ j) 0) where
-  -- Equal demands of those below n that take part give equal shares.
-  pub size-ext : (U i : ℕ) → i < n → shareSize takes D n U i ≡ shareSize takes′ D′ n U i
-  size-ext U i l =
-      zeros-for-others takes D n U i l
-      ∙ ranked all (ofTakers takes D) n U i l
-      ∙ equal-ranked (ofTakers takes D) (ofTakers takes′ D′) n U same i l
-      ∙ sym (zeros-for-others takes′ D′ n U i l ∙ ranked all (ofTakers takes′ D′) n U i l)
+  -- An engine that sees nobody but the takers gives them the same shares.
+  pub gathered-shares : (i : ℕ) → i < n → takes i ≡ true → shareSize everyone g (place n) U (place i) ≡ shareSize takes D n U i
+  gathered-shares i l t =
+      ranked everyone g (place n) U (place i) (passer-before takes i n t l)
+      ∙ gathered-ranked i l t
+      ∙ sym (ranked takes D n U i l)

@@ -1,5 +1,5 @@
 // A size shared over demands in whole units, by largest remainders: `rules`' definition `shareSize`, with everybody taking part.
-// Who takes no part is passed with demand 0. Sizes only: the sign is put on by the caller.
+// Who takes no part is not passed. Sizes only: the sign is put on by the caller.
 ghost use mathlib.Core.Path.{_≡_};
 ghost use mathlib.Core.Option.{some};
 ghost use Prim.Native.Nat.{_≤_, _<_};

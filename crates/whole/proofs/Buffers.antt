@@ -1,14 +1,14 @@
 -- Laws of the list of the values f 0, .., f (n - 1), and of a buffer whose first n places hold them.
 use mathlib.Core.Path.{_≡_, refl, sym, _∙_, ap, ap₂}
 use mathlib.Core.Bool.{cond}
-use mathlib.Core.List.{List, [], _∷_, _++_, append-nil}
+use mathlib.Core.List.{List, [], _∷_, _++_}
 use Prim.Native.Nat.{ℕ, zero, suc, _+_, _-_, _≤_, _<_}
 use native.Mathlib.Nat.{not-suc-le-zero}
 use native.Mathlib.Numerals.{add-one}
 use native.Mathlib.Omega.{arith}
 use lib.Dec.{ltb, eqb}
 use lib.ListN.{length, drop, getD, set, length-append, length-drop, length-set, List·getD-append}
-use lib.Seq.{drop-length, drop-cons, drop-at, set-at, getD-at, getD-drop, append-snoc, set-append-left, getD-set-same, getD-set-other}
+use lib.Seq.{drop-cons, drop-at, set-at, getD-at, getD-drop, append-snoc, set-append-left, getD-set-same, getD-set-other}
 use lib.Seq.{ext-getD}
 use borrow.Author.Tests.{ltb-true, ltb-false, eqb-true, eqb-false}
 use Rattle.whole.specs.Below.{valuesBelow, replacingFirst}
@@ -119,8 +119,3 @@ module _ {ℓ} {A : Type ℓ} (f : ℕ → A) (i : ℕ) (old out : List A) (writ
   -- what is not yet written is as it was
   pub unwritten : (k : ℕ) (d : A) → i ≤ k → getD out k d ≡ getD old k d
   unwritten k d h = rw written (getD-kept f i old k d h)
-
-  -- once all places are written, nothing is left of what stood there
-  pub all-written : i ≡ length old → out ≡ valuesBelow f (length old)
-  unfolding replacingFirst
-  all-written e = written ∙ rw (e, drop-length old) (append-nil (valuesBelow f (length old)))

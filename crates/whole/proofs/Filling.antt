@@ -1,12 +1,14 @@
 -- A loop that fills the first n places of a buffer with f's values, one place a turn: its invariant, and what a turn and the end make of
 -- it.
-use mathlib.Core.Path.{_≡_, sym, _∙_, ap}
+use mathlib.Core.Path.{_≡_, sym, _∙_, ap, subst}
 use mathlib.Core.List.{List}
 use Prim.Native.Nat.{ℕ, _+_, _≤_, _<_, zero-le}
+use native.Mathlib.Nat.{le-refl}
 use native.Mathlib.Omega.{arith}
 use lib.ListN.{length, getD, set}
-use Rattle.whole.specs.Below.{valuesBelow, replacingFirst}
-use Rattle.whole.proofs.Buffers.{replacing-none, written-length, written-next, unwritten, all-written}
+use lib.Seq.{set-getD}
+use Rattle.whole.specs.Below.{replacingFirst}
+use Rattle.whole.proofs.Buffers.{replacing-none, written-length, written-next, unwritten}
 
 -- i of the n places are filled, and the others are as they were
 pub record Filled {ℓ} {A : Type ℓ} (f : ℕ → A) (n i : ℕ) (old out : List A) : Type ℓ where
@@ -36,6 +38,11 @@ module _ {ℓ} {A : Type ℓ} {f : ℕ → A} {n : ℕ} {old : List A} where
     pub not-yet-filled : (k : ℕ) (d : A) → i ≤ k → getD out k d ≡ getD old k d
     not-yet-filled = unwritten f i old out (filled .holds)
 
+    -- a place that is to hold what it held is passed over
+    pub passed-over : (d : A) → i < n → f i ≡ getD old i d → Filled f n (i + 1) old out
+    passed-over d l kept =
+        subst (Filled f n (i + 1) old) (set-getD out i d) (next-filled l (not-yet-filled i d (le-refl i) ∙ sym kept))
+
     -- the loop has ended
     module _ (ended : n ≤ i) where
       all-reached : i ≡ n
@@ -43,7 +50,3 @@ module _ {ℓ} {A : Type ℓ} {f : ℕ → A} {n : ℕ} {old : List A} where
 
       pub first-filled : out ≡ replacingFirst f n old
       first-filled = filled .holds ∙ ap (λ k. replacingFirst f k old) all-reached
-
-      -- of a buffer with no further place nothing is left
-      pub whole-filled : n ≡ length old → out ≡ valuesBelow f (length old)
-      whole-filled e = all-written f i old out (filled .holds) (all-reached ∙ e)

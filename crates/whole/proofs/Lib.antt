@@ -3,6 +3,7 @@ pub mod Tests
 pub mod Linear
 pub mod Ranges
 pub mod Sums
+pub mod Gathering
 pub mod Totals
 pub mod Search
 pub mod Tables

@@ -1,83 +1,69 @@
--- `byrecord::shares::put_shares` meets its contract. The loop's invariant: the areas passed are shared, and every other record has 0.
-use mathlib.Core.Path.{_≡_, _∙_, ap}
-use Prim.Native.Nat.{_-_}
+-- `byrecord::shares::put_shares` meets its contract: there is room for 250 demands and sizes, and the records' places are cleared first.
+use mathlib.Core.Path.{sym, _∙_}
+use Prim.Native.Nat.{_≤_}
 use native.Mathlib.Omega.{arith}
-use lib.IntN.{pos}
-use Rattle.whole.specs.Below.{replacingFirst}
-use Rattle.rules.specs.Record.{areas}
-use Rattle.hour.specs.Hour.{hourIn}
+use lib.Seq.{length-take-le}
 use Rattle.hour.proofs.Figures.{head-areas, head-records}
-use Rattle.byrecord.proofs.Hour.{Cleared, AreasShared, none-shared, same-room, shared-so-far, next-area, all-shared}
+use Rattle.byrecord.proofs.Hour.{ready, shared-over}
 use Rattle.byrecord.proofs.shares.put_shares.Statement.{statement}
 use Rattle.byrecord.proofs.shares.put_shares.Tie as tie
 
-abbrev Inv-loop : tie.InvT-loop
-Inv-loop file figures out₀ areas a₀ out a = AreasShared file a out₀ out
+-- the head's count is the file's
+few : (c : tie.Start) → c .args .head .records ≤ 250
+few c = omega (arith, head-records (c .pre .0), c .pre .1 .kept .hour-kept .count-most)
 
-abbrev μ-loop : tie.MeasureT-loop
-μ-loop file figures out₀ areas a₀ out a = areas - a
+clear-requires : tie.Need-clear-requires
+clear-requires c κs = let start = c .before .before in omega (arith, start .pre .1 .room, head-records (start .pre .0))
 
-clear-requires : tie.Need-clear-requires Inv-loop μ-loop
-clear-requires c κs = let s = c .before .before in omega (arith, s .pre .1 .room, head-records (s .pre .0))
+-- the shares are cleared, as it is seen from the end of the clearing, and from where each room is lent
+abbrev start : tie.After-clear → tie.Start
+start c = c .before .before .before
 
--- every place of a record is 0 once the buffer has come back from `clear`
-module _ (c : tie.After-out Inv-loop μ-loop) where
-  abbrev start : tie.Start Inv-loop μ-loop
-  start = c .before .before .before .before
+-- &mut demands[..n]
+array-borrow-prefix-demands : tie.Need-array-borrow-prefix-demands
+array-borrow-prefix-demands c = few (start (c .before))
 
-  cleared : Cleared (start .args .file .now) (start .args .figures) (start .args .out .now) (c .before .clear .last .0)
-  cleared = record {
-    sharing = start .pre .1;
-    zeros =
-        c .before .clear .ensures
-        ∙ ap (λ n. replacingFirst (λ i. pos 0) n (start .args .out .now)) (head-records (start .pre .0));
-  }
+slice-aggregate-share-areas : tie.Need-slice-aggregate-share-areas
+slice-aggregate-share-areas c = sym (length-take-le _ _ (few (start (c .before .before))))
 
-  -- the loop runs over the hour's areas
-  counted : start .args .head .areas ≡ areas (hourIn (start .args .file .now))
-  counted = head-areas (start .pre .0)
+-- &mut sizes[..n]
+array-borrow-prefix-sizes : tie.Need-array-borrow-prefix-sizes
+array-borrow-prefix-sizes c = few (start (c .before .before))
 
--- that moment, as it is seen at the head of a turn; the head of a turn, as it is seen where its area is to be shared
-abbrev begun : tie.At-loop Inv-loop μ-loop → tie.After-out Inv-loop μ-loop
-begun c = c .before
+slice-aggregate-share-areas-2 : tie.Need-slice-aggregate-share-areas-2
+slice-aggregate-share-areas-2 c = sym (length-take-le _ _ (few (start (c .before .before .before))))
 
-abbrev turn : tie.After-share-area-arg Inv-loop μ-loop → tie.At-loop Inv-loop μ-loop
-turn c = c .before .before
+share-areas-requires : tie.Need-share-areas-requires
+share-areas-requires c κs =
+    let clearing = c .before .before .before .before in
+    let begun = start clearing in (
+      ready (begun .pre .1) (head-records (begun .pre .0)) (clearing .clear .ensures)
+      (length-take-le _ _ (few begun)) (length-take-le _ _ (few begun)),
+      head-areas (begun .pre .0),
+    )
 
-loop-holds : tie.Need-loop-holds Inv-loop μ-loop
-loop-holds c = none-shared (cleared c)
+-- the shares cleared, as it is seen where they are all put
+abbrev cleared : tie.After-share-areas → tie.After-clear
+cleared c = c .before .before .before .before .before
 
-share-area-requires : tie.Need-share-area-requires Inv-loop μ-loop
-share-area-requires c κs = shared-so-far (cleared (begun (turn c))) (turn c .loop .inv) (omega (arith, counted (begun (turn c))))
+same-length : tie.Need-same-length
+same-length c = let shared = c .before .before .before in shared .share-areas .kept .1 .1 .1 .1 .1 .0 ∙ cleared shared .clear .kept .0
 
-add-a : tie.Need-add-a Inv-loop μ-loop
-add-a c = omega arith
-
-loop-less : tie.Need-loop-less Inv-loop μ-loop
-loop-less c = omega arith
-
-loop-again : tie.Need-loop-again Inv-loop μ-loop
-loop-again c =
-    let at = turn (c .before .before) in
-    next-area (cleared (begun at)) (at .loop .inv) (omega (arith, counted (begun at))) (c .before .share-area .ensures)
-
-same-length : tie.Need-same-length Inv-loop μ-loop
-same-length c = same-room (cleared (begun (c .before))) (c .before .loop .inv)
-
-returns : tie.Need-returns Inv-loop μ-loop
-returns c = all-shared (cleared (begun (c .before))) (c .before .loop .inv) (omega (arith, counted (begun (c .before))))
+returns : tie.Need-returns
+returns c =
+    let shared = c .before .before .before in
+    let begun = start (cleared shared) in
+    shared-over (begun .pre .1) (head-records (begun .pre .0)) (cleared shared .clear .ensures) (shared .share-areas .ensures)
 
 pub put-shares-spec : {M : Type 1} → statement M
 put-shares-spec =
     tie.close
     (tie.spec
-    Inv-loop
-    μ-loop
     clear-requires
-    loop-holds
-    share-area-requires
-    add-a
-    loop-less
-    loop-again
+    array-borrow-prefix-demands
+    slice-aggregate-share-areas
+    array-borrow-prefix-sizes
+    slice-aggregate-share-areas-2
+    share-areas-requires
     same-length
     returns)

@@ -1,69 +1,127 @@
--- `byrecord::shares::share_area` meets its contract: an area without UFE changes nothing, and for any other there is room for 250 records.
-use mathlib.Core.Path.{sym, _∙_}
-use Prim.Native.Nat.{_≤_}
-use native.Mathlib.Omega.{arith}
+-- `byrecord::shares::share_area` meets its contract: an area without UFE changes nothing; for any other the demands as they were put, the
+-- sizes as the engine shares them, and their signs.
+use mathlib.Core.Path.{_≡_, sym, _∙_, ap}
+use mathlib.Core.List.{List}
+use Prim.Native.Nat.{ℕ}
+use lib.IntN.{natAbs}
+use lib.ListN.{take}
 use lib.Seq.{length-take-le}
-use borrow.Author.Needs.{needs}
-use Rattle.byrecord.proofs.Areas.{area-place, nothing-to-write}
+use Rattle.whole.specs.Below.{replacingFirst}
+use Rattle.whole.proofs.Machine.{read-back}
+use Rattle.rules.specs.Record.{Hour}
+use Rattle.rules.specs.Ufe.{ufe}
+use Rattle.share.specs.Shareable.{sharesIn}
+use Rattle.hour.specs.Hour.{hourIn}
+use Rattle.byrecord.specs.Shared.{withSizes}
+use Rattle.byrecord.proofs.Areas.{nothing-to-write, Asked, loads-fit, shareable, sized, area-shared}
 use Rattle.byrecord.proofs.shares.share_area.Statement.{statement}
 use Rattle.byrecord.proofs.shares.share_area.Tie as tie
 
-mul-if1 : tie.Need-mul-if1
-mul-if1 c = omega (arith, area-place (c .before .pre))
-
-array-copy-out-if1 : tie.Need-array-copy-out-if1
-array-copy-out-if1 c = area-place (c .before .pre)
-
 returns : tie.Need-returns
-returns c = nothing-to-write (c .before .before .before .pre) (c .if1 .taken)
+returns c = nothing-to-write (c .before .before .before .before .pre) (c .if1 .taken)
 
-records-requires : tie.Need-records-requires
-records-requires c κs = tt
+put-demands-requires : tie.Need-put-demands-requires
+put-demands-requires c κs = let pre = c .before .before .before .before .before .pre in (pre .kept, pre .demands-room)
 
--- once the records are counted
-module _ (c : tie.After-records) where
+-- the demands are put
+module _ (c : tie.After-put-demands) where
   abbrev start : tie.Start
-  start = c .before .before .before .before
+  start = c .before .before .before .before .before .before
 
-  few : c .records .result ≤ 250
-  few = omega (arith, start .pre .sharing .kept .hour-kept .count-most)
+  abbrev h : Hour
+  h = hourIn (start .args .file .now)
 
-array-borrow-prefix-demands : tie.Need-array-borrow-prefix-demands
-array-borrow-prefix-demands c = few c
+  abbrev loads : ℕ
+  loads = c .put-demands .result
 
-slice-aggregate-share-over : tie.Need-slice-aggregate-share-over
-slice-aggregate-share-over c = sym (length-take-le (c .before .records .result) _ (few (c .before)))
+  abbrev put : List ℕ
+  put = c .put-demands .last .1 .1 .0
 
-array-borrow-prefix-sizes : tie.Need-array-borrow-prefix-sizes
-array-borrow-prefix-sizes c = few (c .before)
+  asked : Asked (start .args .file .now) (start .args .a) (start .args .figure) (start .args .demands .now) (start .args .sizes .now)
+      (start .args .out .now) loads put
+  asked = record { up-to = start .pre; counted = c .put-demands .ensures .0; holds = c .put-demands .ensures .1 }
 
-slice-aggregate-share-over-2 : tie.Need-slice-aggregate-share-over-2
-slice-aggregate-share-over-2 c = sym (length-take-le (c .before .before .records .result) _ (few (c .before .before)))
+-- that moment, as it is seen where the engine is to be called
+abbrev asking : tie.After-shares-arg2 → tie.After-put-demands
+asking c = c .before .before .before .before .before
 
-share-over-requires : tie.Need-share-over-requires
-share-over-requires c κs =
-    let counted = c .before .before .before in
-    let as-many = counted .records .ensures in
-    (start counted .pre, length-take-le _ _ (few counted) ∙ as-many, length-take-le _ _ (few counted) ∙ as-many)
+slice-reshare-prefix-shares : tie.Need-slice-reshare-prefix-shares
+slice-reshare-prefix-shares c = loads-fit (asked (c .before .before))
+
+slice-aggregate-shares : tie.Need-slice-aggregate-shares
+slice-aggregate-shares c =
+    let asking = c .before .before .before in sym (length-take-le (loads asking) (put asking) (loads-fit (asked asking)))
+
+size-of-requires : tie.Need-size-of-requires
+size-of-requires c κs = tt
+
+-- the size that the engine is asked to share is the UFE's
+module _ (c : tie.After-shares-arg2) where
+  abbrev size : ℕ
+  size = natAbs (ufe (h (asking c)) (start (asking c) .args .a))
+
+  size-is : c .before .size-of .result ≡ size
+  size-is =
+      let begun = start (asking c) in
+      c .before .size-of .ensures ∙ ap natAbs (read-back (begun .fits .figure) ∙ begun .pre .figure-of)
+
+shares-requires : tie.Need-shares-requires
+shares-requires c κs = rw (size-is c) (shareable (asked (asking c)))
+
+-- the engine has answered
+module _ (c : tie.After-shares) where
+  abbrev asked-at : tie.After-put-demands
+  asked-at = asking (c .before)
+
+  abbrev got : List ℕ
+  got = c .shares .last .1 .1 .0
+
+  shared : got ≡ sharesIn (take (loads asked-at) (put asked-at)) (size (c .before)) (start asked-at .args .sizes .now)
+  shared =
+      c .shares .ensures
+      ∙ ap (λ u. sharesIn (take (loads asked-at) (put asked-at)) u (start asked-at .args .sizes .now)) (size-is (c .before))
+
+-- that moment, as it is seen where the area is to be put
+abbrev answered : tie.After-put-area-arg2 → tie.After-shares
+answered c = c .before .before .before .before
+
+put-area-requires : tie.Need-put-area-requires
+put-area-requires c κs = sized (asked (asked-at (answered c))) (shared (answered c))
+
+-- the engine's answer, as it is seen at the end
+abbrev engine : tie.After-out → tie.After-shares
+engine c = answered (c .before .before)
 
 same-length : tie.Need-same-length
-same-length c = search needs
+same-length c = asked-at (engine c) .put-demands .kept .1 .1 .0
+
+same-length-2 : tie.Need-same-length-2
+same-length-2 c = engine c .shares .kept .1 .1 .0
+
+same-length-3 : tie.Need-same-length-3
+same-length-3 c = c .before .put-area .kept .1 .1 .1 .1 .0
 
 returns-2 : tie.Need-returns-2
-returns-2 c = search needs
+returns-2 c =
+    let begun = start (asked-at (engine c)) in
+    let hour = hourIn (begun .args .file .now) in
+    let out = begun .args .out .now in
+    area-shared (asked (asked-at (engine c))) (shared (engine c)) (
+    c .before .put-area .ensures
+    ∙ ap (λ u. replacingFirst (withSizes hour (begun .args .a) u (got (engine c)) out) (hour .count) out) (read-back (begun .fits .figure)))
 
 pub share-area-spec : {M : Type 1} → statement M
 share-area-spec =
     tie.close
     (tie.spec
-    mul-if1
-    array-copy-out-if1
     returns
-    records-requires
-    array-borrow-prefix-demands
-    slice-aggregate-share-over
-    array-borrow-prefix-sizes
-    slice-aggregate-share-over-2
-    share-over-requires
+    put-demands-requires
+    slice-reshare-prefix-shares
+    slice-aggregate-shares
+    size-of-requires
+    shares-requires
+    put-area-requires
     same-length
+    same-length-2
+    same-length-3
     returns-2)
