@@ -162,5 +162,12 @@ pub fn put_shares(file: &[u8], head: Head, figures: [i64; 8], out: &mut [i64])
     let mut demands = [0u64; 250];
     let mut sizes = [0u64; 250];
     clear(out, n);
-    share_areas(file, head.areas, figures, &mut demands[..n], &mut sizes[..n], out);
+    share_areas(
+        file,
+        head.areas,
+        figures,
+        &mut demands[..n],
+        &mut sizes[..n],
+        out,
+    );
 }

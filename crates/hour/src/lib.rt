@@ -85,10 +85,10 @@ pub fn head_of(file: &[u8]) -> Head
     requires { ⌜ FileKept (now file) ⌝ }
     ensures { λ r. ⌜ r ≡ headOf (hourIn (now (file .entry))) ⌝ }
 {
-    let areas = blocks::whole_word(file, 11) as usize;
+    let areas = head_word(file, 11) as usize;
     let prices = prices(file, areas);
     Head {
-        members: blocks::whole_word(file, 9) as usize,
+        members: head_word(file, 9) as usize,
         areas: areas,
         records: records(file),
         prices: prices,

@@ -64,7 +64,7 @@ module _ (s : List ℕ) (b : Buffers) where
   unfolding fileRows tableRows
   in-order = refl
 
-  pub file-refused : {a : Answer} → verdictOf a ≡ verdict (fileRows s) → (a ≡ Accepted → ⊥) →
+  file-refused : {a : Answer} → verdictOf a ≡ verdict (fileRows s) → (a ≡ Accepted → ⊥) →
       Says s b (record { answer = a; ufe = noFigures })
   file-refused {a} examined refused =
       refused-with a (file-decides s _ _ _ _ (λ e. refused (one-answer a Accepted (examined ∙ e))) ∙ sym examined) refused
@@ -111,6 +111,11 @@ module _ (s : List ℕ) (b : Buffers) where
         let same = settle-changes-nothing s b (λ e. refused (one-answer (r .answer) Accepted (said .verdict-is ∙ e))) .0 in
         record { verdict-is = said .verdict-is; ufe-is = said .ufe-is; buffers-are = sym same }
 
+  pub file-unchanged : (a : Answer) {r : Settled} → verdictOf a ≡ verdict (fileRows s) → (a ≡ Accepted → ⊥) →
+      r ≡ record { answer = a; ufe = noFigures } → Fits s b r b
+  file-unchanged a examined refused e = rw e (unchanged (file-refused examined refused) refused)
+
+  module _ {r : Settled} (said : Says s b r) where
     module _ (accepts : r .answer ≡ Accepted) where
       hour-accepted : Accepts s b
       hour-accepted = sym (said .verdict-is) ∙ ap verdictOf accepts

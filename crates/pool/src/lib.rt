@@ -5,6 +5,8 @@ ghost use mathlib.Core.Bool.{_||_};
 ghost use lib.Dec.{ltb};
 ghost use Rattle.rules.specs.Settling as Settling;
 ghost use Rattle.rules.specs.Promises.{Fits};
+ghost use Rattle.rules.specs.Refusals.{accepted, verdict, fileRows};
+ghost use Rattle.hour.specs.Hour.{Headed};
 ghost use Rattle.pool.specs.Buffers.{buffers};
 ghost use Rattle.pool.specs.AsSettled.{AsSettled};
 ghost use Rattle.pool.specs.Unlined.{unlined, FitsUnlined};
@@ -37,16 +39,19 @@ fn too_short(head: Head, charges: usize, lines: usize, shares: usize, deviations
     deviations < records
 }
 
-// What settling answers, of buffers of these lengths: every check, in the table's order, and the UFE figures. Row 7 is not among them,
-// since no file that passes rows 1 to 5 breaks it.
-fn answered(file: &[u8], charges: usize, lines: usize, shares: usize, deviations: usize) -> Settled
+// What settling answers of a file that passes rows 1 to 5, whose head this is, and of buffers of these lengths: rows 6 and 11, and the UFE
+// figures. Row 7 is not among them, since no such file breaks it.
+fn answered(
+    file: &[u8],
+    head: Head,
+    charges: usize,
+    lines: usize,
+    shares: usize,
+    deviations: usize,
+) -> Settled
+    requires { ⌜ (verdict (fileRows (now file)) ≡ accepted) × Headed (now file) head ⌝ }
     ensures { λ r. ⌜ AsSettled (now (file .entry)) charges lines shares deviations r ⌝ }
 {
-    let answer = examine::examine(file);
-    let Answer::Accepted = answer else {
-        return answer::refused(answer);
-    };
-    let head = hour::head_of(file);
     let tally = tally::tally_of(file, head);
     let figures = tally::ufe_figures(file, head, tally);
     if let Found::At(a) = tally::area_without_demand(file, head, tally, figures) {
@@ -62,7 +67,7 @@ fn answered(file: &[u8], charges: usize, lines: usize, shares: usize, deviations
 }
 
 // Settles an hour file: any bytes, any lengths of buffers. Every check runs before the first store, so that "unchanged" is the absence of
-// code; then each figure is worked once, in the caller's buffers.
+// code; then each figure is worked once, in the caller's buffers. The head is read once, when rows 1 to 5 are passed.
 pub fn settle(
     file: &[u8],
     lines: &mut [Line],
@@ -74,8 +79,14 @@ pub fn settle(
         (buffers (now (charges .entry)) (now (shares .entry)) (now (deviations .entry)) (now (lines .entry))) r
         (buffers (now (charges .exit)) (now (shares .exit)) (now (deviations .exit)) (now (lines .exit))) ⌝ }
 {
+    let examined = examine::examine(file);
+    let Answer::Accepted = examined else {
+        return answer::refused(examined);
+    };
+    let head = hour::head_of(file);
     let settled = answered(
         file,
+        head,
         charges.len(),
         lines.len(),
         shares.len(),
@@ -85,7 +96,6 @@ pub fn settle(
     let Answer::Accepted = answer else {
         return settled;
     };
-    let head = hour::head_of(file);
     byrecord::deviations::put_deviations(file, head, deviations);
     let figures = settled.ufe;
     byrecord::shares::put_shares(file, head, figures, shares);

@@ -1,27 +1,37 @@
 -- Refused, no buffer is touched; accepted, each is filled, in an order in which every figure that is needed is there.
 mod Lts
 mod Tie
-use mathlib.Core.Path.{_≡_, refl}
+use mathlib.Core.Path.{_≡_, refl, sym, _∙_, ap}
 use mathlib.Core.List.{List}
 use Prim.Native.Nat.{ℕ}
 use borrow.Author.Needs.{needs}
 use Rattle.rules.specs.declared.Answer.the-variants.{Accepted}
+use Rattle.rules.specs.Refusals.{accepted, verdictOf, verdict, fileRows}
 use Rattle.rules.specs.Settling.{Buffers}
 use Rattle.rules.specs.Inner.Kept.{FileKept}
 use Rattle.hour.specs.Hour.{Headed}
 use Rattle.hour.proofs.Figures.{head-members}
 use Rattle.answer.proofs.Refusing.{no-other}
+use Rattle.examine.proofs.Examined.{accepted-kept}
 use Rattle.pool.specs.AsSettled.{Says}
 use Rattle.pool.specs.Buffers.{buffers}
-use Rattle.pool.proofs.Answers.{unchanged, kept, room, can-share, can-put-lines, can-put-charges, all-filled}
+use Rattle.pool.proofs.Answers.{file-unchanged, unchanged, room, can-share, can-put-lines, can-put-charges, all-filled}
 use Rattle.pool.proofs.settle.Statement.{statement}
 use Rattle.pool.proofs.settle.Proof.Tie as tie
 
-answered-requires : tie.Need-answered-requires
-answered-requires c κs = tt
+-- ---- rows 1 to 5
 
--- the answer is given
-module _ (c : tie.After-answered) where
+examine-requires : tie.Need-examine-requires
+examine-requires c κs = tt
+
+enum-told : tie.Need-enum-told
+enum-told c = search needs
+
+refused-requires : tie.Need-refused-requires
+refused-requires c κs = tt
+
+-- the file is examined
+module _ (c : tie.After-examine) where
   abbrev start : tie.Start
   start = c .before .before
 
@@ -31,42 +41,72 @@ module _ (c : tie.After-answered) where
   abbrev lent : Buffers
   lent = buffers (start .args .charges .now) (start .args .shares .now) (start .args .deviations .now) (start .args .lines .now)
 
-  said : Says file lent (c .answered .result)
-  said = c .answered .ensures .says lent (record { of-charges = refl; of-lines = refl; of-shares = refl; of-deviations = refl })
-
-enum-told : tie.Need-enum-told
-enum-told c = search needs
-
 returns : tie.Need-returns
-returns c = let a = c .before in unchanged (file a) (lent a) (said a) (λ e. no-other (rw e at (c .match .keys2)))
+returns c =
+    let e = c .before .before in
+    file-unchanged (file e) (lent e) (e .examine .result) (e .examine .ensures) (λ a. no-other (rw a at (c .before .match .keys2)))
+    (c .refused .ensures)
 
--- accepted
+-- they are passed
 module _ (c : tie.After-enum-told) where
-  abbrev answer : tie.After-answered
-  answer = c .before .before
+  abbrev examined : tie.After-examine
+  examined = c .before .before
 
-  accepts : answer .answered .result .answer ≡ Accepted
-  accepts = c .enum-told .given .1
+  passed : verdict (fileRows (file examined)) ≡ accepted
+  passed = sym (examined .examine .ensures) ∙ ap verdictOf (c .enum-told .given .1)
 
-  keeps : FileKept (file answer)
-  keeps = kept (file answer) (lent answer) (said answer) accepts
+  keeps : FileKept (file examined)
+  keeps = accepted-kept (file examined) (examined .examine .result) (examined .examine .ensures) (c .enum-told .given .1)
 
 head-of-requires : tie.Need-head-of-requires
 head-of-requires c κs = keeps c
 
--- the head is read
-module _ (c : tie.After-head-of) where
-  abbrev given : tie.After-answered
-  given = answer (c .before)
+headed : (c : tie.After-head-of) → Headed (file (examined (c .before))) (c .head-of .result)
+headed c = record { kept = keeps (c .before); head-is = c .head-of .ensures }
 
-  headed : Headed (file given) (c .head-of .result)
-  headed = record { kept = keeps (c .before); head-is = c .head-of .ensures }
+-- ---- rows 6 and 11
+
+answered-requires : tie.Need-answered-requires
+answered-requires c κs = (passed (c .before), headed c)
+
+-- the answer is given
+module _ (c : tie.After-answered) where
+  abbrev whole : tie.After-examine
+  whole = examined (c .before .before)
+
+  said : Says (file whole) (lent whole) (c .answered .result)
+  said = c .answered .ensures .says (lent whole) (record { of-charges = refl; of-lines = refl; of-shares = refl; of-deviations = refl })
+
+enum-told-2 : tie.Need-enum-told-2
+enum-told-2 c = search needs
+
+returns-2 : tie.Need-returns-2
+returns-2 c =
+    let a = c .before in
+    unchanged (file (whole a)) (lent (whole a)) (said a) (λ e. no-other (rw e at (c .match2 .keys2)))
+
+-- ---- accepted: the buffers are filled
+
+module _ (c : tie.After-enum-told2) where
+  abbrev answer : tie.After-answered
+  answer = c .before .before
+
+  abbrev bytes : List ℕ
+  bytes = file (whole answer)
+
+  abbrev rooms : Buffers
+  rooms = lent (whole answer)
+
+  accepts : answer .answered .result .answer ≡ Accepted
+  accepts = c .enum-told2 .given .1
+
+  with-head : Headed bytes (answer .before .head-of .result)
+  with-head = headed (answer .before)
 
 put-deviations-requires : tie.Need-put-deviations-requires
 put-deviations-requires c κs =
     let t = c .before in
-    let a = given t in
-    (headed t, room (file a) (lent a) (said a) (accepts (t .before)) .deviations-room)
+    (with-head t, room (bytes t) (rooms t) (said (answer t)) (accepts t) .deviations-room)
 
 -- the moments at which deviations, shares, lines and charges are put
 abbrev deviated : tie.After-put-shares-arg → tie.After-put-deviations
@@ -81,16 +121,15 @@ lined c = c .before .before .before
 put-shares-requires : tie.Need-put-shares-requires
 put-shares-requires c κs =
     let t = deviated c .before .before in
-    let a = given t in (headed t, can-share (file a) (lent a) (said a) (accepts (t .before)))
+    (with-head t, can-share (bytes t) (rooms t) (said (answer t)) (accepts t))
 
 put-lines-requires : tie.Need-put-lines-requires
 put-lines-requires c κs =
     let p = shared c in
     let d = deviated (p .before) in
     let t = d .before .before in
-    let a = given t in
-    let can = can-put-lines (file a) (lent a) (said a) (accepts (t .before)) (d .put-deviations .ensures) (p .put-shares .ensures) in
-    (headed t, can .0, can .1)
+    let can = can-put-lines (bytes t) (rooms t) (said (answer t)) (accepts t) (d .put-deviations .ensures) (p .put-shares .ensures) in
+    (with-head t, can .0, can .1)
 
 put-charges-requires : tie.Need-put-charges-requires
 put-charges-requires c κs =
@@ -98,9 +137,8 @@ put-charges-requires c κs =
     let p = shared (l .before) in
     let d = deviated (p .before) in
     let t = d .before .before in
-    let a = given t in
-    can-put-charges (file a) (lent a) (said a) (accepts (t .before)) (d .put-deviations .ensures) (p .put-shares .ensures)
-    (l .put-lines .ensures) (head-members (headed t))
+    can-put-charges (bytes t) (rooms t) (said (answer t)) (accepts t) (d .put-deviations .ensures) (p .put-shares .ensures)
+    (l .put-lines .ensures) (head-members (with-head t))
 
 -- when all is put
 abbrev charged : tie.After-charges → tie.After-put-charges
@@ -118,25 +156,28 @@ same-length-3 c = search needs
 same-length-4 : tie.Need-same-length-4
 same-length-4 c = search needs
 
-returns-2 : tie.Need-returns-2
-returns-2 c =
+returns-3 : tie.Need-returns-3
+returns-3 c =
     let q = charged c in
     let l = lined (q .before) in
     let p = shared (l .before) in
     let d = deviated (p .before) in
     let t = d .before .before in
-    let a = given t in
-    all-filled (file a) (lent a) (said a) (accepts (t .before)) (d .put-deviations .ensures) (p .put-shares .ensures)
-    (l .put-lines .ensures) (head-members (headed t)) (q .put-charges .ensures)
+    all-filled (bytes t) (rooms t) (said (answer t)) (accepts t) (d .put-deviations .ensures) (p .put-shares .ensures)
+    (l .put-lines .ensures) (head-members (with-head t)) (q .put-charges .ensures)
 
 pub settle-spec : {M : Type 1} → statement M
 settle-spec =
     tie.close
     (tie.spec
-    answered-requires
+    examine-requires
     enum-told
+    refused-requires
     returns
     head-of-requires
+    answered-requires
+    enum-told-2
+    returns-2
     put-deviations-requires
     put-shares-requires
     put-lines-requires
@@ -145,4 +186,4 @@ settle-spec =
     same-length-2
     same-length-3
     same-length-4
-    returns-2)
+    returns-3)

@@ -38,7 +38,7 @@ share-areas-requires c κs =
     let clearing = c .before .before .before .before in
     let begun = start clearing in (
       ready (begun .pre .1) (head-records (begun .pre .0)) (clearing .clear .ensures)
-      (length-take-le _ _ (few begun)) (length-take-le _ _ (few begun)),
+          (length-take-le _ _ (few begun)) (length-take-le _ _ (few begun)),
       head-areas (begun .pre .0),
     )
 
