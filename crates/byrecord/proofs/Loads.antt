@@ -35,6 +35,12 @@ pub load-demands : (h : Hour) (a i : ℕ) → inArea h a isLoad i ≡ true → d
 unfolding inArea demandBy entryOf entry
 load-demands h a i t = rw (both (eqb (areaOf h i) a) _ t .1)
 
+-- the next record is counted if it is one
+counted-on : (h : Hour) (a i : ℕ) {loads more : ℕ} → loads ≡ loadsBefore h a i → more ≡ loads + oneIf (inArea h a isLoad i) →
+    more ≡ loadsBefore h a (i + 1)
+counted-on h a i counted one =
+    one ∙ ap (λ (k : ℕ). k + oneIf (inArea h a isLoad i)) counted ∙ sym (count-add-one (inArea h a isLoad) i)
+
 -- ---- the demands of an area's loads are put, those of the first i records
 
 pub record DemandsPut (h : Hour) (a i loads : ℕ) (lent room : List ℕ) : Type 0 where
@@ -61,7 +67,7 @@ module _ {h : Hour} {a : ℕ} {lent : List ℕ} where
         next ≡ cond (inArea h a isLoad i) (set room loads (demand h i)) room → DemandsPut h a (i + 1) more lent next
     next-demand l one stored = record {
       reached = omega arith;
-      counted = one ∙ ap (λ (k : ℕ). k + oneIf (inArea h a isLoad i)) (put .counted) ∙ sym (count-add-one (inArea h a isLoad) i);
+      counted = counted-on h a i (put .counted) one;
       holds =
           stored
           ∙ ap₂ (λ (k : ℕ) (l : List ℕ). cond (inArea h a isLoad i) (set l k (demand h i)) l) (put .counted) (put .holds)
@@ -93,7 +99,7 @@ module _ {h : Hour} {a : ℕ} {figure : ℤ} {sizes : List ℕ} {lent : List ℤ
         SharesPut h a figure sizes (i + 1) more lent next
     unfolding withSizes
     next-share l one stored = record {
-      counted = one ∙ ap (λ (k : ℕ). k + oneIf (inArea h a isLoad i)) (put .counted) ∙ sym (count-add-one (inArea h a isLoad) i);
+      counted = counted-on h a i (put .counted) one;
       filled = rw stored (split (inArea h a isLoad i)
           (λ t. rw t (next-filled (put .filled) l (rw (t, put .counted) refl)))
           (λ f. rw f (passed-over (put .filled) (pos 0) l (rw f refl))));
