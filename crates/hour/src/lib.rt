@@ -48,7 +48,7 @@ pub fn record(file: &[u8], i: usize) -> &[u8]
 
 // ---- the head, read once
 
-// What the stages take from the head: how many members, areas and records there are, and the zone price of each area, 0 past the areas. It is
+// What the stages take from the head: how many members, areas and records there are, and each area's zone price, 0 past the areas. It is
 // read once and handed on by value.
 pub struct Head {
     pub members: usize,

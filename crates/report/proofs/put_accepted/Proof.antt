@@ -44,8 +44,11 @@ put-members-requires c κs =
     let s = known .before in
     let h = hourIn (s .args .file .now) in
     let kept = s .pre .0 .kept .hour-kept in
-    let line = first-line-most h kept (hour-number-most (s .args .file .now) (λ i. known .shared-slice-known .given i .fits)) in
-    (headed (p .before .before), s .pre .0, omega (arith, line-1 p .next-is, p .put-first-line .kept .0, line, kept .members-most, s .pre .1))
+    let line = first-line-most h kept (hour-number-most (s .args .file .now) (λ i. known .shared-slice-known .given i .fits)) in (
+      headed (p .before .before),
+      s .pre .0,
+      omega (arith, line-1 p .next-is, p .put-first-line .kept .0, line, kept .members-most, s .pre .1),
+    )
 
 same-length : tie.Need-same-length
 same-length c = search needs

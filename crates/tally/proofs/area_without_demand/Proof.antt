@@ -81,8 +81,9 @@ loop-again c =
 returns-2 : tie.Need-returns-2 Inv-loop μ-loop
 unfolding badArea
 returns-2 c =
-    let all : Record.areas (hourIn (start (c .before) .args .file .now)) ≡ c .before .loop .a = omega (arith, counted (start (c .before))) in
-    rw all (sym (c .before .loop .inv .1))
+    let at = c .before in
+    let all : Record.areas (hourIn (start at .args .file .now)) ≡ at .loop .a = omega (arith, counted (start at)) in
+    rw all (sym (at .loop .inv .1))
 
 pub area-without-demand-spec : {M : Type 1} → statement M
 area-without-demand-spec =
