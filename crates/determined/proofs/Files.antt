@@ -11,7 +11,6 @@ use Rattle.examine.proofs.examine.Reads as examine
 use Rattle.hour.proofs.head_of.Reads as head-of
 use Rattle.hour.proofs.kind_in.Reads as kind-in
 use Rattle.hour.proofs.area_in.Reads as area-in
-use Rattle.hour.proofs.demand_in.Reads as demand-in
 use Rattle.hour.proofs.member_of.Reads as member-of
 use Rattle.hour.proofs.area_of.Reads as area-of
 use Rattle.hour.proofs.demand_of.Reads as demand-of
@@ -44,9 +43,6 @@ one-kind-in κs a x y s t = agree
 
 pub one-area-in : (κs : Lfts 1) → OneResult (area-in.Post κs)
 one-area-in κs a x y s t = agree
-
-pub one-demand-in : (κs : Lfts 1) → OneResult (demand-in.Post κs)
-one-demand-in κs a x y s t = agree
 
 pub one-member-of : (κs : Lfts 1) → OneResult (member-of.Post κs)
 one-member-of κs a x y s t = agree

@@ -135,7 +135,7 @@ pub fn entry_in(words: &[u8]) -> Entry
     }
 }
 
-pub fn demand_in(words: &[u8]) -> u32
+fn demand_in(words: &[u8]) -> u32
     requires { ⌜ length (now words) ≡ 48 ⌝ }
     ensures { λ r. ⌜ r ≡ demandBy (word (now (words .entry))) ⌝ }
 {
