@@ -1,11 +1,12 @@
-// The parts of `write`: an amount's sign, how long its text is, and the text in its place at the field's right end.
+// The parts of `write`: an amount's sign, its text in twenty bytes, and the text in its place at the field's right end.
 ghost use mathlib.Core.List.{[], _∷_, _++_};
 ghost use mathlib.Core.Path.{_≡_};
-ghost use Prim.Native.Nat.{_+_, _/_, _%_, _≤_};
+ghost use Prim.Native.Nat.{_+_, _-_, _/_, _%_, _≤_};
+ghost use lib.IntN.{natAbs};
 ghost use lib.ListN.{drop, length, replicate};
 ghost use lib.Seq.{sets};
 ghost use Rattle.rules.specs.Text.{amountField, amountText, digitByte, signByte};
-use crate::decimal;
+use crate::text;
 
 fn sign_byte(cents: i64) -> u8
     ensures { λ r. ⌜ r ≡ signByte cents ⌝ }
@@ -13,11 +14,27 @@ fn sign_byte(cents: i64) -> u8
     if cents < 0 { b'-' } else { b'+' }
 }
 
-// The sign, the dollars, a point and two digits.
-pub fn text_length(cents: i64) -> usize
-    ensures { λ r. ⌜ r ≡ length (amountText cents) ⌝ }
+// A point and two digits, the last of a text.
+fn put_cents(text: &mut [u8; 20], size: u64)
+    ensures { λ r. ⌜ now (text .exit) ≡ sets (now (text .entry)) 17 (46 ∷ digitByte (size / 10 % 10) ∷ digitByte (size % 10) ∷ []) ⌝ }
 {
-    4 + decimal::digits(sign::size_of(cents) / 100)
+    let tenth = size / 10;
+    text[17] = b'.';
+    text[18] = text::last_digit(tenth, size / 100);
+    text[19] = text::last_digit(size, tenth);
+}
+
+// An amount at the end of twenty blanks. Hands back the length of its text.
+pub fn write_amount(text: &mut [u8; 20], cents: i64) -> usize
+    requires { ⌜ (natAbs cents ≤ 999999999999) × (now text ≡ replicate 20 32) ⌝ }
+    ensures length { λ r. ⌜ r ≡ length (amountText cents) ⌝ }
+    ensures text { λ r. ⌜ now (text .exit) ≡ amountField 20 cents ⌝ }
+{
+    let size = sign::size_of(cents);
+    let first = text::write_digits(text, 17, size / 100);
+    put_cents(text, size);
+    text[first - 1] = sign_byte(cents);
+    21 - first
 }
 
 // Blanks before `end`.
@@ -32,25 +49,21 @@ fn put_blanks(field: &mut [u8], end: usize)
     }
 }
 
-// A point and two digits, from `point` on.
-fn put_cents(field: &mut [u8], point: usize, size: u64)
-    requires { ⌜ point + 3 ≤ length (now field) ⌝ }
-    ensures { λ r. ⌜ now (field .exit) ≡ sets (now (field .entry)) point (46 ∷ digitByte (size / 10 % 10) ∷ digitByte (size % 10) ∷ []) ⌝ }
+// A text at the right end of the field: blanks before it in a wider one, its last bytes in a narrower one.
+pub fn put(field: &mut [u8], text: &[u8])
+    ensures { λ r. ⌜
+        now (field .exit) ≡
+        replicate (length (now (field .entry)) - length (now (text .entry))) 32 ++
+        drop (length (now (text .entry)) - length (now (field .entry))) (now (text .entry))
+        ⌝ }
 {
-    field[point] = b'.';
-    field[point + 1] = decimal::digit(size / 10);
-    field[point + 2] = decimal::digit(size);
-}
-
-// An amount's text from `start` to the end of the field, and blanks before it.
-pub fn put(field: &mut [u8], start: usize, cents: i64)
-    requires { ⌜ start + length (amountText cents) ≡ length (now field) ⌝ }
-    ensures { λ r. ⌜ now (field .exit) ≡ amountField (length (now (field .entry))) cents ⌝ }
-{
-    let size = sign::size_of(cents);
-    let point = field.len() - 3;
+    let width = field.len();
+    if width < text.len() {
+        let cut = text.len() - width;
+        text::put_text(field, 0, &text[cut..]);
+        return;
+    }
+    let start = width - text.len();
     put_blanks(field, start);
-    field[start] = sign_byte(cents);
-    decimal::put_digits(field, point, size / 100);
-    put_cents(field, point, size);
+    text::put_text(field, start, text)
 }

@@ -1,21 +1,51 @@
 -- `amount::write` meets its contract: out of range, too narrow, or written; each way answers as `write` of `rules` does.
+use Prim.Native.Nat.{ℕ, _+_, _-_, _≤_}
 use mathlib.Core.Path.{_≡_, refl, _∙_, ap}
+use mathlib.Core.List.{List, _++_, append-assoc}
 use native.Mathlib.Omega.{arith}
 use borrow.Author.Needs.{needs}
-use lib.IntN.{natAbs}
-use lib.ListN.{length}
+use lib.IntN.{ℤ, natAbs}
+use lib.ListN.{length, take, drop, replicate, length-replicate, replicate-append-replicate}
+use lib.Seq.{take-all, drop-at}
 use Rattle.whole.proofs.Machine.{read-back}
-use Rattle.rules.specs.Text.{amountText}
-use Rattle.rules.proofs.Text.{write-out-of-range, write-too-narrow, write-accepted-at}
+use Rattle.rules.specs.Text.{amountField, amountText}
+use Rattle.rules.proofs.Text.{text-fits-14, amount-field-width, write-out-of-range, write-too-narrow, write-accepted-at}
 use Rattle.amount.proofs.write.Statement.{statement}
 use Rattle.amount.proofs.write.Tie as tie
+
+-- ---- an amount's text in another width: more blanks, or fewer
+
+fewer-blanks : (k m : ℕ) (t : List ℕ) → drop k (replicate (k + m) 32 ++ t) ≡ replicate m 32 ++ t
+fewer-blanks k m t = rw (← replicate-append-replicate {A = ℕ} k m 32, append-assoc)
+    (drop-at (replicate k 32) (replicate m 32 ++ t) k (length-replicate k 32))
+
+module _ (z : ℤ) (short : length (amountText z) ≤ 14) where
+  abbrev n : ℕ
+  n = length (amountText z)
+
+  narrower : take 14 (drop 6 (amountField 20 z)) ≡ amountField 14 z
+  unfolding amountField
+  narrower =
+      let six : 20 - n ≡ 6 + (14 - n) = omega arith in
+      rw (six, fewer-blanks 6 (14 - n) (amountText z)) (take-all 14 (amountField 14 z) (omega (arith, amount-field-width 14 z short)))
+
+  at-width : (w : ℕ) → n ≤ w → replicate (w - 14) 32 ++ drop (14 - w) (amountField 14 z) ≡ amountField w z
+  unfolding amountField
+  at-width w h =
+      let m = 14 - n - (14 - w) in
+      let cut : 14 - n ≡ 14 - w + m = omega arith in
+      let blanks : w - 14 + m ≡ w - n = omega arith in
+      rw (cut, fewer-blanks (14 - w) m (amountText z), ← append-assoc, replicate-append-replicate {A = ℕ} (w - 14) m 32, blanks)
+
+-- ---- the needs
 
 -- the size and the length that the code computes
 sized : (c : tie.After-size-of) → c .size-of .result ≡ natAbs (c .before .before .args .cents)
 sized c = c .size-of .ensures ∙ ap natAbs (read-back (c .before .before .fits .cents))
 
-measured : (c : tie.After-text-length) → c .text-length .result ≡ length (amountText (c .before .before .before .before .args .cents))
-measured c = c .text-length .ensures ∙ ap (λ z. length (amountText z)) (read-back (c .before .before .before .before .fits .cents))
+written : (c : tie.After-write-amount) → let z = c .before .before .before .before .before .args .cents in
+    (c .write-amount .result ≡ length (amountText z)) × (c .write-amount .last .0 ≡ amountField 20 z)
+written c = rw (read-back (c .before .before .before .before .before .fits .cents)) at (c .write-amount .ensures)
 
 size-of-requires : tie.Need-size-of-requires
 size-of-requires c κs = search needs
@@ -25,17 +55,27 @@ returns c =
     let s = c .before .before .before in
     rw (write-out-of-range (s .args .field .now) (s .args .cents) (omega (arith, sized (c .before)))) (refl, refl)
 
-text-length-requires : tie.Need-text-length-requires
-text-length-requires c κs = search needs
+write-amount-requires : tie.Need-write-amount-requires
+write-amount-requires c κs = search needs
 
 returns-2 : tie.Need-returns-2
 returns-2 c =
-    let s = c .before .before .before .before .before in
-    rw (write-too-narrow (s .args .field .now) (s .args .cents) (omega (arith, sized (c .before .before .before)))
-    (omega (arith, measured (c .before)))) (refl, refl)
+    let s = c .before .before .before .before .before .before in
+    let z = s .args .cents in
+    let range : natAbs z ≤ 999999999999 = omega (arith, sized (c .before .before .before .before)) in
+    rw (write-too-narrow (s .args .field .now) z range (omega (arith, written (c .before) .0))) (refl, refl)
 
 sub-put : tie.Need-sub-put
 sub-put c = search needs
+
+part-put-start : tie.Need-part-put-start
+part-put-start c = search needs
+
+part-put-end : tie.Need-part-put-end
+part-put-end c =
+    let z = c .before .before .before .before .before .before .before .before .args .cents in
+    let range : natAbs z ≤ 999999999999 = omega (arith, sized (c .before .before .before .before .before .before)) in
+    rw (written (c .before .before .before) .1) (omega (arith, amount-field-width 20 z (omega (arith, text-fits-14 z range))))
 
 put-requires : tie.Need-put-requires
 put-requires c κs = search needs
@@ -45,10 +85,17 @@ same-length c = search needs
 
 returns-3 : tie.Need-returns-3
 returns-3 c =
-    let t = c .before .before .before .before .before in
-    let s = t .before .before .before .before in
-    rw (write-accepted-at (s .args .field .now) (s .args .cents) (omega (arith, sized (t .before .before))) (omega (arith, measured t)))
-    (refl, c .before .before .put .ensures ∙ rw (read-back (s .fits .cents)))
+    let w = c .before .before .before .before .before .before .before in
+    let s = w .before .before .before .before .before in
+    let f = s .args .field .now in
+    let z = s .args .cents in
+    let range : natAbs z ≤ 999999999999 = omega (arith, sized (w .before .before .before)) in
+    let short = text-fits-14 z range in
+    let fits : length (amountText z) ≤ length f = omega (arith, written w .0) in
+    rw (write-accepted-at f z range fits) (
+      refl,
+      c .before .before .put .ensures ∙ rw (written w .1, narrower z short, amount-field-width 14 z short) (at-width z short (length f) fits),
+    )
 
 pub write-spec : {M : Type 1} → statement M
 write-spec =
@@ -56,9 +103,11 @@ write-spec =
     (tie.spec
     size-of-requires
     returns
-    text-length-requires
+    write-amount-requires
     returns-2
     sub-put
+    part-put-start
+    part-put-end
     put-requires
     same-length
     returns-3)

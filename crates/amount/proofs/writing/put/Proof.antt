@@ -1,131 +1,91 @@
--- `amount::writing::put` meets its contract: blanks, the sign, the dollars and the cents, stored one after the other to the field's end.
-use Prim.Native.Nat.{ℕ, _+_, _-_, _/_, _%_, _≤_}
-use mathlib.Core.Path.{_≡_, _∙_, ap}
-use mathlib.Core.List.{List, [], _∷_, _++_}
+-- `amount::writing::put` meets its contract: in either case the text ends where the field does.
+use Prim.Native.Nat.{ℕ, _+_, _-_, _≤_, _<_}
+use mathlib.Core.Path.{_≡_, _∙_}
+use mathlib.Core.List.{List, _++_}
 use native.Mathlib.Omega.{arith}
 use borrow.Author.Needs.{needs}
-use lib.IntN.{ℤ, natAbs}
-use lib.ListN.{length, drop, set, replicate, length-set, length-append, length-replicate, length-drop}
-use lib.Seq.{sets, take-at}
-use Rattle.whole.proofs.Machine.{read-back}
-use Rattle.whole.proofs.Stores.{stored-on, stored-to-the-end}
-use Rattle.rules.specs.Text.{amountField, amountText, decimal, digitByte, signByte}
-use Rattle.rules.proofs.Text.{text-length}
+use lib.ListN.{length, take, drop, replicate, length-append, length-replicate, length-drop}
+use lib.Seq.{sets, take-all, take-at}
+use Rattle.whole.proofs.Stores.{stored-to-the-end}
 use Rattle.amount.proofs.writing.put.Statement.{statement}
 use Rattle.amount.proofs.writing.put.Tie as tie
 
--- ---- the stores make the field
+module _ (f t : List ℕ) where
+  cut : length f < length t →
+      sets f 0 (take (length t - (length t - length f)) (drop (length t - length f) t))
+      ≡ replicate (length f - length t) 32 ++ drop (length t - length f) t
+  cut h =
+      let none : length f - length t ≡ 0 = omega arith in
+      let left : 0 + length (drop (length t - length f) t) ≡ length f = simp length-drop (omega arith) in
+      rw (none, take-all (length t - (length t - length f)) (drop (length t - length f) t) (omega arith))
+      (stored-to-the-end (drop (length t - length f) t) f 0 left)
 
-module _ (f : List ℕ) (start : ℕ) (z : ℤ) (fits : start + length (amountText z) ≡ length f) where
-  abbrev blanks : List ℕ
-  blanks = replicate start 32
+  widened : length t ≤ length f →
+      sets (replicate (length f - length t) 32 ++ drop (length f - length t) f) (length f - length t) t
+      ≡ replicate (length f - length t) 32 ++ drop (length t - length f) t
+  widened h =
+      let none : length t - length f ≡ 0 = omega arith in
+      let blanks : List ℕ = replicate (length f - length t) 32 in
+      rw none (stored-to-the-end t (blanks ++ drop (length f - length t) f) (length f - length t) to-the-end
+      ∙ rw (take-at blanks (drop (length f - length t) f) (length f - length t) (length-replicate (length f - length t) 32)))
+    where
+      to-the-end : length f - length t + length t ≡ length (replicate (length f - length t) 32 ++ drop (length f - length t) f)
+      to-the-end = rw (length-append, length-replicate, length-drop) (omega arith)
 
-  abbrev blanked : List ℕ
-  blanked = blanks ++ drop start f
+sub-cut : tie.Need-sub-cut
+sub-cut c = search needs
 
-  abbrev dollars : List ℕ
-  dollars = decimal (natAbs z / 100)
+sub-put-text : tie.Need-sub-put-text
+sub-put-text c = search needs
 
-  abbrev cents : List ℕ
-  cents = 46 ∷ digitByte (natAbs z / 10 % 10) ∷ digitByte (natAbs z % 10) ∷ []
+part-put-text-start : tie.Need-part-put-text-start
+part-put-text-start c = search needs
 
-  at-dollars : length f - 3 - length dollars ≡ start + length (signByte z ∷ [])
-  at-dollars = omega (arith, text-length z)
+part-put-text-end : tie.Need-part-put-text-end
+part-put-text-end c = search needs
 
-  at-cents : length f - 3 ≡ start + length (signByte z ∷ dollars)
-  at-cents = omega (arith, text-length z)
+put-text-requires : tie.Need-put-text-requires
+put-text-requires c κs = search needs
 
-  to-the-end : start + length (amountText z) ≡ length blanked
-  to-the-end = rw (length-append blanks (drop start f), length-replicate {A = ℕ} start 32, length-drop start f) (omega arith)
+same-length : tie.Need-same-length
+same-length c = search needs
 
-  blanks-before : length f - length (amountText z) ≡ start
-  blanks-before = omega arith
+returns : tie.Need-returns
+returns c =
+    let s = c .before .before .before .before .before .before .before .before .args in
+    c .before .before .put-text .ensures ∙ cut (s .field .now) (s .text .now) (omega arith)
 
-  one-run :
-      sets (sets (set blanked start (signByte z)) (start + length (signByte z ∷ [])) dollars) (start + length (signByte z ∷ dollars)) cents
-      ≡ sets blanked start (amountText z)
-  unfolding amountText
-  one-run = rw (stored-on (signByte z ∷ []) dollars blanked start) (stored-on (signByte z ∷ dollars) cents blanked start)
-
-  whole-field : sets (sets (set blanked start (signByte z)) (length f - 3 - length dollars) dollars) (length f - 3) cents
-      ≡ amountField (length f) z
-  unfolding amountField
-  whole-field = rw (at-dollars, at-cents, blanks-before)
-      (one-run ∙ stored-to-the-end (amountText z) blanked start to-the-end
-      ∙ rw (take-at blanks (drop start f) start (length-replicate start 32)))
-
--- ---- the needs
-
--- the size that the code computes
-sized : (c : tie.After-size-of) → c .size-of .result ≡ natAbs (c .before .before .args .cents)
-sized c = c .size-of .ensures ∙ ap natAbs (read-back (c .before .before .fits .cents))
-
-size-of-requires : tie.Need-size-of-requires
-size-of-requires c κs = search needs
-
-sub-point : tie.Need-sub-point
-sub-point c = omega (arith, text-length (c .before .before .args .cents))
+sub-start : tie.Need-sub-start
+sub-start c = search needs
 
 put-blanks-requires : tie.Need-put-blanks-requires
 put-blanks-requires c κs = search needs
 
-sign-byte-requires : tie.Need-sign-byte-requires
-sign-byte-requires c κs = search needs
+put-text-requires-2 : tie.Need-put-text-requires-2
+put-text-requires-2 c κs = search needs
 
-slice-write-field : tie.Need-slice-write-field
-slice-write-field c = omega (
-  arith,
-  c .before .before .before .put-blanks .kept .0,
-  text-length (c .before .before .before .before .before .before .before .args .cents),
-)
+same-length-2 : tie.Need-same-length-2
+same-length-2 c = search needs
 
-put-digits-requires : tie.Need-put-digits-requires
-put-digits-requires c κs =
-    let s = c .before .before .before .before .before .before .before .before in
-    let h : length (decimal (natAbs (s .args .cents) / 100)) ≤ length (s .args .field .now) - 3 =
-    omega (arith, text-length (s .args .cents)) in (
-      rw (sized (c .before .before .before .before .before .before)) h,
-      simp length-set (omega (arith, c .before .before .before .before .put-blanks .kept .0)),
-    )
-
--- the field keeps its length up to the cents
-kept : (c : tie.After-put-digits) →
-    length (c .put-digits .last .0) ≡ length (c .before .before .before .before .before .before .before .before .before .args .field .now)
-kept c = c .put-digits .kept .0 ∙ simp length-set (c .before .before .before .before .before .put-blanks .kept .0)
-
-put-cents-requires : tie.Need-put-cents-requires
-put-cents-requires c κs =
-    let d = c .before .before .before in
-    omega (arith, kept d, text-length (d .before .before .before .before .before .before .before .before .before .args .cents))
-
-same-length : tie.Need-same-length
-same-length c = c .before .before .put-cents .kept .0 ∙ kept (c .before .before .before .before .before .before)
-
-returns : tie.Need-returns
-returns c =
-    let d = c .before .before .before .before .before .before in
-    let s = d .before .before .before .before .before .before .before .before .before in
-    let sign : d .before .before .sign-byte .result ≡ signByte (s .args .cents) = d .before .before .sign-byte .ensures
-    ∙ ap signByte (read-back (s .fits .cents)) in
-    c .before .before .put-cents .ensures
-    ∙ rw (
-      d .put-digits .ensures,
-      d .before .before .before .before .before .put-blanks .ensures,
-      sign,
-      sized (d .before .before .before .before .before .before .before),
-    )
-    (whole-field (s .args .field .now) (s .args .start) (s .args .cents) (s .pre))
+returns-2 : tie.Need-returns-2
+returns-2 c =
+    let s = c .before .before .before .before .before .before .before .before .before .before .before .args in
+    c .before .before .put-text2 .ensures
+    ∙ rw (c .before .before .before .before .before .before .put-blanks .ensures) (widened (s .field .now) (s .text .now) (omega arith))
 
 pub put-spec : {M : Type 1} → statement M
 put-spec =
     tie.close
     (tie.spec
-    size-of-requires
-    sub-point
-    put-blanks-requires
-    sign-byte-requires
-    slice-write-field
-    put-digits-requires
-    put-cents-requires
+    sub-cut
+    sub-put-text
+    part-put-text-start
+    part-put-text-end
+    put-text-requires
     same-length
-    returns)
+    returns
+    sub-start
+    put-blanks-requires
+    put-text-requires-2
+    same-length-2
+    returns-2)

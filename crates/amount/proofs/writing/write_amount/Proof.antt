@@ -1,0 +1,121 @@
+-- `amount::writing::write_amount` meets its contract: dollars, cents and sign are stored one beside the other, up to the text's end.
+use Prim.Native.Nat.{ℕ, zero, suc, _+_, _-_, _/_, _%_, _≤_, _<_}
+use mathlib.Core.Path.{_≡_, refl, sym, _∙_, ap}
+use mathlib.Core.List.{List, [], _∷_, _++_}
+use native.Mathlib.Omega.{arith}
+use borrow.Author.Needs.{needs}
+use lib.IntN.{ℤ, natAbs}
+use lib.ListN.{length, take, set, replicate}
+use lib.Seq.{sets, set-comm}
+use Rattle.whole.proofs.Machine.{read-back}
+use Rattle.whole.proofs.Stores.{stored-on, stored-to-the-end}
+use Rattle.rules.specs.Text.{amountField, amountText, decimal, digitByte, signByte}
+use Rattle.rules.proofs.Text.{text-length, text-fits-14}
+use Rattle.amount.proofs.writing.write_amount.Statement.{statement}
+use Rattle.amount.proofs.writing.write_amount.Tie as tie
+
+-- ---- the stores make the text
+
+-- a value stored before others may as well be stored first
+stored-before : (xs l : List ℕ) (i j x : ℕ) → j < i → set (sets l i xs) j x ≡ sets (set l j x) i xs
+stored-before [] l i j x h = refl
+stored-before (a ∷ xs) l i j x h =
+    stored-before xs (set l i a) (suc i) j x (omega arith) ∙ ap (λ (m : List ℕ). sets m (suc i) xs) (set-comm l i j a x (λ e. omega arith))
+
+first-blanks : (k m : ℕ) → k ≤ m → take {A = ℕ} k (replicate m 32) ≡ replicate k 32
+first-blanks zero m h = refl
+first-blanks (suc k) zero h = absurd (omega arith)
+first-blanks (suc k) (suc m) h = ap (λ (l : List ℕ). 32 ∷ l) (first-blanks k m (omega arith))
+
+module _ (z : ℤ) (short : length (amountText z) ≤ 14) where
+  abbrev dollars : List ℕ
+  dollars = decimal (natAbs z / 100)
+
+  abbrev cents : List ℕ
+  cents = 46 ∷ digitByte (natAbs z / 10 % 10) ∷ digitByte (natAbs z % 10) ∷ []
+
+  abbrev sign-at : ℕ
+  sign-at = 20 - length (amountText z)
+
+  at-sign : 17 - length dollars - 1 ≡ sign-at
+  at-sign = omega (arith, text-length z)
+
+  at-dollars : 17 - length dollars ≡ suc sign-at
+  at-dollars = omega (arith, text-length z)
+
+  at-cents : 17 ≡ 17 - length dollars + length dollars
+  at-cents = omega (arith, text-length z)
+
+  measured : 21 - (17 - length dollars) ≡ length (amountText z)
+  measured = omega (arith, text-length z)
+
+  to-the-end : sign-at + length (amountText z) ≡ 20
+  to-the-end = omega arith
+
+  one-run : (l : List ℕ) → length l ≡ 20 →
+      set (sets (sets l (17 - length dollars) dollars) 17 cents) (17 - length dollars - 1) (signByte z) ≡ take sign-at l ++ amountText z
+  unfolding amountText
+  one-run l e =
+      ap (λ (k : ℕ). set (sets (sets l (17 - length dollars) dollars) k cents) (17 - length dollars - 1) (signByte z)) at-cents
+      ∙ rw (stored-on dollars cents l (17 - length dollars), at-sign, at-dollars)
+      (stored-before (dollars ++ cents) l (suc sign-at) sign-at (signByte z) (omega arith)
+      ∙ stored-to-the-end (amountText z) l sign-at (to-the-end ∙ sym e))
+
+  whole-text : set (sets (sets (replicate 20 32) (17 - length dollars) dollars) 17 cents) (17 - length dollars - 1) (signByte z)
+      ≡ amountField 20 z
+  unfolding amountField
+  whole-text = one-run (replicate 20 32) refl ∙ ap (λ (l : List ℕ). l ++ amountText z) (first-blanks sign-at 20 (omega arith))
+
+-- ---- the needs
+
+-- the size that the code computes, and how many digits its dollars have
+sized : (c : tie.After-size-of) → c .size-of .result ≡ natAbs (c .before .args .cents)
+sized c = c .size-of .ensures ∙ ap natAbs (read-back (c .before .fits .cents))
+
+few : (c : tie.After-size-of) → length (decimal (c .size-of .result / 100)) ≤ 10
+few c = let z = c .before .args .cents in
+    rw (sized c) (omega (arith, text-fits-14 z (c .before .pre .0), text-length z))
+
+size-of-requires : tie.Need-size-of-requires
+size-of-requires c κs = search needs
+
+write-digits-requires : tie.Need-write-digits-requires
+write-digits-requires c κs = omega (arith, few (c .before))
+
+put-cents-requires : tie.Need-put-cents-requires
+put-cents-requires c κs = search needs
+
+sign-byte-requires : tie.Need-sign-byte-requires
+sign-byte-requires c κs = search needs
+
+sub-text : tie.Need-sub-text
+sub-text c = omega (arith, c .before .before .before .write-digits .ensures .0, few (c .before .before .before .before .before))
+
+element-write-text : tie.Need-element-write-text
+element-write-text c = search needs
+
+sub-result : tie.Need-sub-result
+sub-result c = omega (arith, c .before .before .before .write-digits .ensures .0)
+
+returns : tie.Need-returns
+returns c =
+    let w = c .before .before .before .write-digits in
+    let s = c .before .before .before .before .before .before in
+    let z = s .args .cents in
+    let short = text-fits-14 z (s .pre .0) in
+    let sign : c .sign-byte .result ≡ signByte z = c .sign-byte .ensures ∙ ap signByte (read-back (s .fits .cents)) in
+    rw (c .before .put-cents .ensures, w .ensures .1, w .ensures .0, sign, sized (c .before .before .before .before .before), s .pre .1)
+    (measured z short, whole-text z short)
+
+pub write-amount-spec : {M : Type 1} → statement M
+write-amount-spec =
+    tie.close
+    (tie.spec
+    size-of-requires
+    write-digits-requires
+    put-cents-requires
+    sign-byte-requires
+    sub-text
+    element-write-text
+    sub-result
+    returns)
