@@ -1,8 +1,9 @@
 -- `amount::reading::digits_from` meets its contract: so many of the digits that stand there are passed, and they make the value.
-use Prim.Native.Nat.{ℕ, _+_, _-_, _^_, _≤_, _<_}
+use Prim.Native.Nat.{ℕ, min, _+_, _-_, _^_, _≤_, _<_}
 use mathlib.Core.Path.{_≡_, refl, sym, _∙_}
 use mathlib.Core.Bool.{true, false}
 use mathlib.Core.List.{List}
+use mathlib.Core.Logic.{⊎-elim}
 use native.Mathlib.Nat.{add-zero, zero-add, pow-le-pow-right, lt-of-lt-of-le}
 use native.Mathlib.Omega.{arith}
 use borrow.Author.Tests.{not-true, not-false}
@@ -91,17 +92,27 @@ loop-again c =
       rw (l .inv .2, b .ensures) (sym (value-more s from (l .count))),
     )
 
-returns : tie.Need-returns Inv-loop μ-loop
-returns c = let l = c .before .loop in (omega (arith, l .inv .1), l .inv .2)
+add-t12 : tie.Need-add-t12 Inv-loop μ-loop
+add-t12 c =
+    let s = c .before .before .before .args .field .now in
+    let from = c .before .before .before .args .from in
+    omega (arith, counted-stand (drop from s), length-drop from s)
 
-returns-2 : tie.Need-returns-2 Inv-loop μ-loop
-returns-2 c =
-    let l = c .before .before .before .before .loop in
-    let b = c .before .before .byte-at in
-    let s = c .before .before .before .before .before .before .args .field .now in
-    let from = c .before .before .before .before .before .before .args .from in
-    let none : isDigit (b .result) ≡ false = sym (c .before .is-digit .ensures) ∙ not-true (c .before .is-digit .result) (c .if1 .taken) in
-    (omega (arith, no-more s from (l .count) (l .inv .1) (rw (b .ensures) at none)), l .inv .2)
+returns : tie.Need-returns Inv-loop μ-loop
+returns c =
+    let l = c .before .loop in
+    let s = c .before .before .before .args .field .now in
+    let from = c .before .before .before .args .from in
+    let counted : l .count ≡ min 11 (digitCount (drop from s)) = ⊎-elim
+    (λ eleven. omega (arith, eleven .left, l .inv .1))
+    (λ t. omega (
+      arith,
+      t .0 .taken,
+      no-more s from (l .count) (l .inv .1)
+          (rw (t .1 .ensures) at (sym (t .2 .ensures) ∙ not-true (t .2 .result) (t .3 .taken))),
+    ))
+    (c .loop-test .came) in
+    (counted, (refl, l .inv .2))
 
 pub digits-from-spec : {M : Type 1} → statement M
 digits-from-spec =
@@ -120,5 +131,5 @@ digits-from-spec =
     add-count
     loop-less
     loop-again
-    returns
-    returns-2)
+    add-t12
+    returns)
