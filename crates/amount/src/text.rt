@@ -1,7 +1,7 @@
 // Twenty bytes in which a number or an amount is written before it goes to its field. It is written from the right, so its length shows
 // only when it is whole; till then no byte of the field is touched. Every number of 64 bits has room, and every amount.
 ghost use mathlib.Core.Path.{_≡_};
-ghost use Prim.Native.Nat.{_+_, _-_, _/_, _%_, _≤_};
+ghost use Prim.Native.Nat.{_-_, _/_, _%_, _≤_};
 ghost use lib.ListN.{length};
 ghost use lib.Seq.{sets};
 ghost use Rattle.rules.specs.Text.{decimal, digitByte};
@@ -30,11 +30,12 @@ pub fn write_digits(text: &mut [u8; 20], end: usize, left: u64) -> usize
     write_digits(text, at, tenth)
 }
 
-// Bytes put into a field from a place on.
-pub fn put_text(field: &mut [u8], start: usize, text: &[u8])
-    requires { ⌜ start + length (now text) ≤ length (now field) ⌝ }
-    ensures { λ r. ⌜ now (field .exit) ≡ sets (now (field .entry)) start (now (text .entry)) ⌝ }
+// Bytes before `end`.
+pub fn put_text(field: &mut [u8], end: usize, text: &[u8])
+    requires { ⌜ (length (now text) ≤ end) × (end ≤ length (now field)) ⌝ }
+    ensures { λ r. ⌜ now (field .exit) ≡ sets (now (field .entry)) (end - length (now (text .entry))) (now (text .entry)) ⌝ }
 {
+    let start = end - text.len();
     let mut i = 0;
     while i < text.len() {
         field[start + i] = text[i];

@@ -1,27 +1,16 @@
 // The parts of `write`: an amount's sign, its text in twenty bytes, and the text in its place at the field's right end.
-ghost use mathlib.Core.List.{[], _∷_, _++_};
+ghost use mathlib.Core.List.{_++_};
 ghost use mathlib.Core.Path.{_≡_};
-ghost use Prim.Native.Nat.{_+_, _-_, _/_, _%_, _≤_};
+ghost use Prim.Native.Nat.{_-_, _≤_};
 ghost use lib.IntN.{natAbs};
 ghost use lib.ListN.{drop, length, replicate};
-ghost use lib.Seq.{sets};
-ghost use Rattle.rules.specs.Text.{amountField, amountText, digitByte, signByte};
+ghost use Rattle.rules.specs.Text.{amountField, amountText, signByte};
 use crate::text;
 
 fn sign_byte(cents: i64) -> u8
     ensures { λ r. ⌜ r ≡ signByte cents ⌝ }
 {
     if cents < 0 { b'-' } else { b'+' }
-}
-
-// A point and two digits, the last of a text.
-fn put_cents(text: &mut [u8; 20], size: u64)
-    ensures { λ r. ⌜ now (text .exit) ≡ sets (now (text .entry)) 17 (46 ∷ digitByte (size / 10 % 10) ∷ digitByte (size % 10) ∷ []) ⌝ }
-{
-    let tenth = size / 10;
-    text[17] = b'.';
-    text[18] = text::last_digit(tenth, size / 100);
-    text[19] = text::last_digit(size, tenth);
 }
 
 // An amount at the end of twenty blanks. Hands back the length of its text.
@@ -31,9 +20,13 @@ pub fn write_amount(text: &mut [u8; 20], cents: i64) -> usize
     ensures text { λ r. ⌜ now (text .exit) ≡ amountField 20 cents ⌝ }
 {
     let size = sign::size_of(cents);
-    let first = text::write_digits(text, 17, size / 100);
-    put_cents(text, size);
+    let tenth = size / 10;
+    let dollars = size / 100;
+    let first = text::write_digits(text, 17, dollars);
     text[first - 1] = sign_byte(cents);
+    text[17] = b'.';
+    text[18] = text::last_digit(tenth, dollars);
+    text[19] = text::last_digit(size, tenth);
     21 - first
 }
 
@@ -60,10 +53,9 @@ pub fn put(field: &mut [u8], text: &[u8])
     let width = field.len();
     if width < text.len() {
         let cut = text.len() - width;
-        text::put_text(field, 0, &text[cut..]);
+        text::put_text(field, width, &text[cut..]);
         return;
     }
-    let start = width - text.len();
-    put_blanks(field, start);
-    text::put_text(field, start, text)
+    put_blanks(field, width - text.len());
+    text::put_text(field, width, text)
 }

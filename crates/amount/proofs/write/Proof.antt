@@ -39,13 +39,15 @@ module _ (z : ℤ) (short : length (amountText z) ≤ 14) where
 
 -- ---- the needs
 
--- the size and the length that the code computes
+-- the size, the length and the text that the code computes
 sized : (c : tie.After-size-of) → c .size-of .result ≡ natAbs (c .before .before .args .cents)
 sized c = c .size-of .ensures ∙ ap natAbs (read-back (c .before .before .fits .cents))
 
 written : (c : tie.After-write-amount) → let z = c .before .before .before .before .before .args .cents in
-    (c .write-amount .result ≡ length (amountText z)) × (c .write-amount .last .0 ≡ amountField 20 z)
-written c = rw (read-back (c .before .before .before .before .before .fits .cents)) at (c .write-amount .ensures)
+    (natAbs z ≤ 999999999999) × (c .write-amount .result ≡ length (amountText z)) × (c .write-amount .last .0 ≡ amountField 20 z)
+written c =
+    let w = rw (read-back (c .before .before .before .before .before .fits .cents)) at (c .write-amount .ensures) in
+    (omega (arith, sized (c .before .before .before)), w .0, w .1)
 
 size-of-requires : tie.Need-size-of-requires
 size-of-requires c κs = search needs
@@ -61,9 +63,8 @@ write-amount-requires c κs = search needs
 returns-2 : tie.Need-returns-2
 returns-2 c =
     let s = c .before .before .before .before .before .before in
-    let z = s .args .cents in
-    let range : natAbs z ≤ 999999999999 = omega (arith, sized (c .before .before .before .before)) in
-    rw (write-too-narrow (s .args .field .now) z range (omega (arith, written (c .before) .0))) (refl, refl)
+    let w = written (c .before) in
+    rw (write-too-narrow (s .args .field .now) (s .args .cents) (w .0) (omega (arith, w .1))) (refl, refl)
 
 sub-put : tie.Need-sub-put
 sub-put c = search needs
@@ -74,8 +75,8 @@ part-put-start c = search needs
 part-put-end : tie.Need-part-put-end
 part-put-end c =
     let z = c .before .before .before .before .before .before .before .before .args .cents in
-    let range : natAbs z ≤ 999999999999 = omega (arith, sized (c .before .before .before .before .before .before)) in
-    rw (written (c .before .before .before) .1) (omega (arith, amount-field-width 20 z (omega (arith, text-fits-14 z range))))
+    let w = written (c .before .before .before) in
+    rw (w .2) (omega (arith, amount-field-width 20 z (omega (arith, text-fits-14 z (w .0)))))
 
 put-requires : tie.Need-put-requires
 put-requires c κs = search needs
@@ -85,16 +86,14 @@ same-length c = search needs
 
 returns-3 : tie.Need-returns-3
 returns-3 c =
-    let w = c .before .before .before .before .before .before .before in
-    let s = w .before .before .before .before .before in
-    let f = s .args .field .now in
-    let z = s .args .cents in
-    let range : natAbs z ≤ 999999999999 = omega (arith, sized (w .before .before .before)) in
-    let short = text-fits-14 z range in
-    let fits : length (amountText z) ≤ length f = omega (arith, written w .0) in
-    rw (write-accepted-at f z range fits) (
+    let s = c .before .before .before .before .before .before .before .before .before .before .before .before .args in
+    let w = written (c .before .before .before .before .before .before .before) in
+    let short = text-fits-14 (s .cents) (w .0) in
+    let fits : length (amountText (s .cents)) ≤ length (s .field .now) = omega (arith, w .1) in
+    rw (write-accepted-at (s .field .now) (s .cents) (w .0) fits) (
       refl,
-      c .before .before .put .ensures ∙ rw (written w .1, narrower z short, amount-field-width 14 z short) (at-width z short (length f) fits),
+      c .before .before .put .ensures ∙ rw (w .2, narrower (s .cents) short, amount-field-width 14 (s .cents) short)
+          (at-width (s .cents) short (length (s .field .now)) fits),
     )
 
 pub write-spec : {M : Type 1} → statement M

@@ -23,12 +23,6 @@ write-digits-requires c κs = omega (arith, decimal-at-most-20 (c .before .befor
 sub-put-text : tie.Need-sub-put-text
 sub-put-text c = search needs
 
-sub-put-text-2 : tie.Need-sub-put-text-2
-sub-put-text-2 c = search needs
-
-sub-put-text-3 : tie.Need-sub-put-text-3
-sub-put-text-3 c = search needs
-
 part-put-text-start : tie.Need-part-put-text-start
 part-put-text-start c = search needs
 
@@ -44,12 +38,10 @@ same-length c = search needs
 returns : tie.Need-returns
 returns c =
     let w = c .before .before .before .before .before .before .write-digits in
-    let s = c .before .before .before .before .before .before .before .before .before .args in
-    let d = decimal (s .left) in
-    let few = decimal-at-most-20 (s .left) in
-    let at : s .end - (20 - (20 - length d)) ≡ s .end - length d = omega arith in
+    let d = decimal (c .before .before .before .before .before .before .before .before .before .args .left) in
+    let few = decimal-at-most-20 (c .before .before .before .before .before .before .before .before .before .args .left) in
     c .before .before .put-text .ensures
-    ∙ rw (w .ensures .1, w .ensures .0, at, stored-there d (replicate 20 0) (20 - length d) (omega arith))
+    ∙ rw (w .ensures .1, w .ensures .0, stored-there d (replicate 20 0) (20 - length d) (omega arith))
 
 pub put-digits-spec : {M : Type 1} → statement M
 put-digits-spec =
@@ -57,8 +49,6 @@ put-digits-spec =
     (tie.spec
     write-digits-requires
     sub-put-text
-    sub-put-text-2
-    sub-put-text-3
     part-put-text-start
     part-put-text-end
     put-text-requires

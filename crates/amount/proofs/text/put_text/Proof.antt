@@ -9,13 +9,16 @@ use Rattle.amount.proofs.text.put_text.Statement.{statement}
 use Rattle.amount.proofs.text.put_text.Tie as tie
 
 abbrev Inv-loop : tie.InvT-loop
-Inv-loop field₀ start text i₀ field i = (i ≤ length text) × (length field ≡ length field₀) × (field ≡ paste field₀ start text i)
+Inv-loop field₀ end text start i₀ field i = (i ≤ length text) × (length field ≡ length field₀) × (field ≡ paste field₀ start text i)
 
 abbrev μ-loop : tie.MeasureT-loop
-μ-loop field₀ start text i₀ field i = length text - i
+μ-loop field₀ end text start i₀ field i = length text - i
+
+sub-start : tie.Need-sub-start Inv-loop μ-loop
+sub-start c = omega arith
 
 loop-holds : tie.Need-loop-holds Inv-loop μ-loop
-loop-holds c = (omega arith, refl, paste-zero (c .args .field .now) (c .args .start) (c .args .text .now))
+loop-holds c = let a = c .args in (omega arith, refl, paste-zero (a .field .now) (a .end - length (a .text .now)) (a .text .now))
 
 shared-slice-read-field : tie.Need-shared-slice-read-field Inv-loop μ-loop
 shared-slice-read-field c = omega arith
@@ -34,13 +37,14 @@ loop-less c = omega arith
 
 loop-again : tie.Need-loop-again Inv-loop μ-loop
 loop-again c =
-    let s = c .before .before .before .args in
-    let l = c .before .before .loop in (
+    let a = c .before .before .before .args in
+    let l = c .before .before .loop in
+    let start = a .end - length (a .text .now) in (
       omega arith,
       length-set (l .field) _ _ ∙ l .inv .1,
-      ap (λ x. set x (s .start + l .i) (getD (s .text .now) (l .i) 0)) (l .inv .2)
-          ∙ paste-suc (s .field .now) (s .start) (s .text .now) (l .i) 0 (omega arith) (omega arith)
-          ∙ sym (ap (paste (s .field .now) (s .start) (s .text .now)) (add-one (l .i))),
+      ap (λ x. set x (start + l .i) (getD (a .text .now) (l .i) 0)) (l .inv .2)
+          ∙ paste-suc (a .field .now) start (a .text .now) (l .i) 0 (omega arith) (omega arith)
+          ∙ sym (ap (paste (a .field .now) start (a .text .now)) (add-one (l .i))),
     )
 
 same-length : tie.Need-same-length Inv-loop μ-loop
@@ -48,10 +52,11 @@ same-length c = c .before .loop .inv .1
 
 returns : tie.Need-returns Inv-loop μ-loop
 returns c =
-    let s = c .before .before .args in
+    let a = c .before .before .args in
     let l = c .before .loop in
-    let all : l .i ≡ length (s .text .now) = omega arith in
-    l .inv .2 ∙ rw (all, take-length (s .text .now)) (sym (sets-eq (s .text .now) (s .field .now) (s .start) (c .before .before .pre)))
+    let all : l .i ≡ length (a .text .now) = omega arith in
+    l .inv .2
+    ∙ rw (all, take-length (a .text .now)) (sym (sets-eq (a .text .now) (a .field .now) (a .end - length (a .text .now)) (omega arith)))
 
 pub put-text-spec : {M : Type 1} → statement M
 put-text-spec =
@@ -59,6 +64,7 @@ put-text-spec =
     (tie.spec
     Inv-loop
     μ-loop
+    sub-start
     loop-holds
     shared-slice-read-field
     add-field

@@ -11,26 +11,28 @@ use Rattle.amount.proofs.writing.put.Statement.{statement}
 use Rattle.amount.proofs.writing.put.Tie as tie
 
 module _ (f t : List ℕ) where
-  cut : length f < length t →
-      sets f 0 (take (length t - (length t - length f)) (drop (length t - length f) t))
-      ≡ replicate (length f - length t) 32 ++ drop (length t - length f) t
-  cut h =
-      let none : length f - length t ≡ 0 = omega arith in
-      let left : 0 + length (drop (length t - length f) t) ≡ length f = simp length-drop (omega arith) in
-      rw (none, take-all (length t - (length t - length f)) (drop (length t - length f) t) (omega arith))
-      (stored-to-the-end (drop (length t - length f) t) f 0 left)
+  abbrev wider : ℕ
+  wider = length f - length t
 
-  widened : length t ≤ length f →
-      sets (replicate (length f - length t) 32 ++ drop (length f - length t) f) (length f - length t) t
-      ≡ replicate (length f - length t) 32 ++ drop (length t - length f) t
-  widened h =
-      let none : length t - length f ≡ 0 = omega arith in
-      let blanks : List ℕ = replicate (length f - length t) 32 in
-      rw none (stored-to-the-end t (blanks ++ drop (length f - length t) f) (length f - length t) to-the-end
-      ∙ rw (take-at blanks (drop (length f - length t) f) (length f - length t) (length-replicate (length f - length t) 32)))
+  abbrev cut : ℕ
+  cut = length t - length f
+
+  in-narrower : length f < length t →
+      sets f (length f - length (take (length t - cut) (drop cut t))) (take (length t - cut) (drop cut t)) ≡ replicate wider 32 ++ drop cut t
+  in-narrower h =
+      let as-long : length (drop cut t) ≡ length f = simp length-drop (omega arith) in
+      let whole : length f - length (drop cut t) ≡ 0 = omega arith in
+      let no-blank : wider ≡ 0 = omega arith in
+      rw (take-all (length t - cut) (drop cut t) (omega arith), whole, no-blank) (stored-to-the-end (drop cut t) f 0 (omega arith))
+
+  in-wider : length t ≤ length f → sets (replicate wider 32 ++ drop wider f) wider t ≡ replicate wider 32 ++ drop cut t
+  in-wider h =
+      let none-cut : cut ≡ 0 = omega arith in
+      rw none-cut (stored-to-the-end t (replicate wider 32 ++ drop wider f) wider left
+      ∙ rw (take-at (replicate wider 32) (drop wider f) wider (length-replicate wider 32)))
     where
-      to-the-end : length f - length t + length t ≡ length (replicate (length f - length t) 32 ++ drop (length f - length t) f)
-      to-the-end = rw (length-append, length-replicate, length-drop) (omega arith)
+      left : wider + length t ≡ length (replicate wider 32 ++ drop wider f)
+      left = rw (length-append, length-replicate, length-drop) (omega arith)
 
 sub-cut : tie.Need-sub-cut
 sub-cut c = search needs
@@ -53,10 +55,10 @@ same-length c = search needs
 returns : tie.Need-returns
 returns c =
     let s = c .before .before .before .before .before .before .before .before .args in
-    c .before .before .put-text .ensures ∙ cut (s .field .now) (s .text .now) (omega arith)
+    c .before .before .put-text .ensures ∙ in-narrower (s .field .now) (s .text .now) (omega arith)
 
-sub-start : tie.Need-sub-start
-sub-start c = search needs
+sub-put-blanks : tie.Need-sub-put-blanks
+sub-put-blanks c = search needs
 
 put-blanks-requires : tie.Need-put-blanks-requires
 put-blanks-requires c κs = search needs
@@ -71,7 +73,7 @@ returns-2 : tie.Need-returns-2
 returns-2 c =
     let s = c .before .before .before .before .before .before .before .before .before .before .before .args in
     c .before .before .put-text2 .ensures
-    ∙ rw (c .before .before .before .before .before .before .put-blanks .ensures) (widened (s .field .now) (s .text .now) (omega arith))
+    ∙ rw (c .before .before .before .before .before .before .put-blanks .ensures) (in-wider (s .field .now) (s .text .now) (omega arith))
 
 pub put-spec : {M : Type 1} → statement M
 put-spec =
@@ -84,7 +86,7 @@ put-spec =
     put-text-requires
     same-length
     returns
-    sub-start
+    sub-put-blanks
     put-blanks-requires
     put-text-requires-2
     same-length-2

@@ -1,4 +1,4 @@
--- `amount::writing::write_amount` meets its contract: dollars, cents and sign are stored one beside the other, up to the text's end.
+-- `amount::writing::write_amount` meets its contract: dollars, sign and cents are stored one beside the other, up to the text's end.
 use Prim.Native.Nat.{ℕ, zero, suc, _+_, _-_, _/_, _%_, _≤_, _<_}
 use mathlib.Core.Path.{_≡_, refl, sym, _∙_, ap}
 use mathlib.Core.List.{List, [], _∷_, _++_}
@@ -43,25 +43,21 @@ module _ (z : ℤ) (short : length (amountText z) ≤ 14) where
   at-dollars : 17 - length dollars ≡ suc sign-at
   at-dollars = omega (arith, text-length z)
 
-  at-cents : 17 ≡ 17 - length dollars + length dollars
+  at-cents : 17 ≡ sign-at + length (signByte z ∷ dollars)
   at-cents = omega (arith, text-length z)
 
-  measured : 21 - (17 - length dollars) ≡ length (amountText z)
-  measured = omega (arith, text-length z)
-
-  to-the-end : sign-at + length (amountText z) ≡ 20
-  to-the-end = omega arith
+  at-end : sign-at + length (amountText z) ≡ 20
+  at-end = omega arith
 
   one-run : (l : List ℕ) → length l ≡ 20 →
-      set (sets (sets l (17 - length dollars) dollars) 17 cents) (17 - length dollars - 1) (signByte z) ≡ take sign-at l ++ amountText z
+      sets (set (sets l (17 - length dollars) dollars) (17 - length dollars - 1) (signByte z)) 17 cents ≡ take sign-at l ++ amountText z
   unfolding amountText
   one-run l e =
-      ap (λ (k : ℕ). set (sets (sets l (17 - length dollars) dollars) k cents) (17 - length dollars - 1) (signByte z)) at-cents
-      ∙ rw (stored-on dollars cents l (17 - length dollars), at-sign, at-dollars)
-      (stored-before (dollars ++ cents) l (suc sign-at) sign-at (signByte z) (omega arith)
-      ∙ stored-to-the-end (amountText z) l sign-at (to-the-end ∙ sym e))
+      ap (λ (k : ℕ). sets (set (sets l (17 - length dollars) dollars) (17 - length dollars - 1) (signByte z)) k cents) at-cents
+      ∙ rw (at-sign, at-dollars, stored-before dollars l (suc sign-at) sign-at (signByte z) (omega arith))
+      (stored-on (signByte z ∷ dollars) cents l sign-at ∙ stored-to-the-end (amountText z) l sign-at (at-end ∙ sym e))
 
-  whole-text : set (sets (sets (replicate 20 32) (17 - length dollars) dollars) 17 cents) (17 - length dollars - 1) (signByte z)
+  whole-text : sets (set (sets (replicate 20 32) (17 - length dollars) dollars) (17 - length dollars - 1) (signByte z)) 17 cents
       ≡ amountField 20 z
   unfolding amountField
   whole-text = one-run (replicate 20 32) refl ∙ ap (λ (l : List ℕ). l ++ amountText z) (first-blanks sign-at 20 (omega arith))
@@ -73,8 +69,7 @@ sized : (c : tie.After-size-of) → c .size-of .result ≡ natAbs (c .before .ar
 sized c = c .size-of .ensures ∙ ap natAbs (read-back (c .before .fits .cents))
 
 few : (c : tie.After-size-of) → length (decimal (c .size-of .result / 100)) ≤ 10
-few c = let z = c .before .args .cents in
-    rw (sized c) (omega (arith, text-fits-14 z (c .before .pre .0), text-length z))
+few c = let z = c .before .args .cents in rw (sized c) (omega (arith, text-fits-14 z (c .before .pre .0), text-length z))
 
 size-of-requires : tie.Need-size-of-requires
 size-of-requires c κs = search needs
@@ -82,20 +77,32 @@ size-of-requires c κs = search needs
 write-digits-requires : tie.Need-write-digits-requires
 write-digits-requires c κs = omega (arith, few (c .before))
 
-put-cents-requires : tie.Need-put-cents-requires
-put-cents-requires c κs = search needs
-
 sign-byte-requires : tie.Need-sign-byte-requires
 sign-byte-requires c κs = search needs
 
 sub-text : tie.Need-sub-text
-sub-text c = omega (arith, c .before .before .before .write-digits .ensures .0, few (c .before .before .before .before .before))
+sub-text c = omega (arith, c .before .write-digits .ensures .0, few (c .before .before .before))
 
 element-write-text : tie.Need-element-write-text
 element-write-text c = search needs
 
+element-write-text-2 : tie.Need-element-write-text-2
+element-write-text-2 c = search needs
+
+last-digit-requires : tie.Need-last-digit-requires
+last-digit-requires c κs = search needs
+
+element-write-text-3 : tie.Need-element-write-text-3
+element-write-text-3 c = search needs
+
+last-digit-requires-2 : tie.Need-last-digit-requires-2
+last-digit-requires-2 c κs = search needs
+
+element-write-text-4 : tie.Need-element-write-text-4
+element-write-text-4 c = search needs
+
 sub-result : tie.Need-sub-result
-sub-result c = omega (arith, c .before .before .before .write-digits .ensures .0)
+sub-result c = search needs
 
 returns : tie.Need-returns
 returns c =
@@ -103,9 +110,18 @@ returns c =
     let s = c .before .before .before .before .before .before in
     let z = s .args .cents in
     let short = text-fits-14 z (s .pre .0) in
-    let sign : c .sign-byte .result ≡ signByte z = c .sign-byte .ensures ∙ ap signByte (read-back (s .fits .cents)) in
-    rw (c .before .put-cents .ensures, w .ensures .1, w .ensures .0, sign, sized (c .before .before .before .before .before), s .pre .1)
-    (measured z short, whole-text z short)
+    let sign : c .before .before .sign-byte .result ≡ signByte z = c .before .before .sign-byte .ensures
+    ∙ ap signByte (read-back (s .fits .cents)) in
+    rw (
+      c .before .last-digit .ensures,
+      c .last-digit2 .ensures,
+      w .ensures .1,
+      w .ensures .0,
+      sign,
+      sized (c .before .before .before .before .before),
+      s .pre .1,
+    )
+    (omega (arith, text-length z), whole-text z short)
 
 pub write-amount-spec : {M : Type 1} → statement M
 write-amount-spec =
@@ -113,9 +129,13 @@ write-amount-spec =
     (tie.spec
     size-of-requires
     write-digits-requires
-    put-cents-requires
     sign-byte-requires
     sub-text
     element-write-text
+    element-write-text-2
+    last-digit-requires
+    element-write-text-3
+    last-digit-requires-2
+    element-write-text-4
     sub-result
     returns)
