@@ -28,5 +28,5 @@ pub fn put_digits(field: &mut [u8], end: usize, left: u64)
 {
     let mut text = [0u8; 20];
     let first = text::write_digits(&mut text, 20, left);
-    text::put_text(field, end, &text[first..])
+    text::put_text(field, end, &text, 20 - first)
 }

@@ -28,7 +28,7 @@ pub fn write(cents: i64, field: &mut [u8]) -> Answer
     if field.len() < length {
         return Answer::TooNarrow;
     }
-    writing::put(field, &text[6..]);
+    writing::put(field, &text);
     Answer::Accepted
 }
 

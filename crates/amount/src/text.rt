@@ -2,7 +2,7 @@
 // only when it is whole; till then no byte of the field is touched. Every number of 64 bits has room, and every amount.
 ghost use mathlib.Core.Path.{_≡_};
 ghost use Prim.Native.Nat.{_-_, _/_, _%_, _≤_};
-ghost use lib.ListN.{length};
+ghost use lib.ListN.{drop, length};
 ghost use lib.Seq.{sets};
 ghost use Rattle.rules.specs.Text.{decimal, digitByte};
 
@@ -30,15 +30,16 @@ pub fn write_digits(text: &mut [u8; 20], end: usize, left: u64) -> usize
     write_digits(text, at, tenth)
 }
 
-// Bytes before `end`.
-pub fn put_text(field: &mut [u8], end: usize, text: &[u8])
-    requires { ⌜ (length (now text) ≤ end) × (end ≤ length (now field)) ⌝ }
-    ensures { λ r. ⌜ now (field .exit) ≡ sets (now (field .entry)) (end - length (now (text .entry))) (now (text .entry)) ⌝ }
+// A text's last bytes, so many, before `end`. That a text has twenty is asked, since nothing tells it of a lent array.
+pub fn put_text(field: &mut [u8], end: usize, text: &[u8; 20], count: usize)
+    requires { ⌜ (count ≤ end) × (end ≤ length (now field)) × (count ≤ 20) × (length (now text) ≡ 20) ⌝ }
+    ensures { λ r. ⌜ now (field .exit) ≡ sets (now (field .entry)) (end - count) (drop (20 - count) (now (text .entry))) ⌝ }
 {
-    let start = end - text.len();
+    let start = end - count;
+    let first = 20 - count;
     let mut i = 0;
-    while i < text.len() {
-        field[start + i] = text[i];
+    while i < count {
+        field[start + i] = text[first + i];
         i += 1;
     }
 }

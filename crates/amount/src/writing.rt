@@ -1,7 +1,7 @@
 // The parts of `write`: an amount's sign, its text in twenty bytes, and the text in its place at the field's right end.
 ghost use mathlib.Core.List.{_++_};
 ghost use mathlib.Core.Path.{_≡_};
-ghost use Prim.Native.Nat.{_-_, _≤_};
+ghost use Prim.Native.Nat.{_+_, _-_, _≤_};
 ghost use lib.IntN.{natAbs};
 ghost use lib.ListN.{drop, length, replicate};
 ghost use Rattle.rules.specs.Text.{amountField, amountText, signByte};
@@ -22,11 +22,11 @@ pub fn write_amount(text: &mut [u8; 20], cents: i64) -> usize
     let size = sign::size_of(cents);
     let tenth = size / 10;
     let dollars = size / 100;
-    let first = text::write_digits(text, 17, dollars);
-    text[first - 1] = sign_byte(cents);
     text[17] = b'.';
     text[18] = text::last_digit(tenth, dollars);
     text[19] = text::last_digit(size, tenth);
+    let first = text::write_digits(text, 17, dollars);
+    text[first - 1] = sign_byte(cents);
     21 - first
 }
 
@@ -42,20 +42,20 @@ fn put_blanks(field: &mut [u8], end: usize)
     }
 }
 
-// A text at the right end of the field: blanks before it in a wider one, its last bytes in a narrower one.
-pub fn put(field: &mut [u8], text: &[u8])
+// A text at the right end of the field: its last 14 bytes, which hold every amount, with blanks before them; in a narrower field as many
+// as it has room for.
+pub fn put(field: &mut [u8], text: &[u8; 20])
+    requires { ⌜ length (now text) ≡ 20 ⌝ }
     ensures { λ r. ⌜
         now (field .exit) ≡
-        replicate (length (now (field .entry)) - length (now (text .entry))) 32 ++
-        drop (length (now (text .entry)) - length (now (field .entry))) (now (text .entry))
+        replicate (length (now (field .entry)) - 14) 32 ++ drop (6 + (14 - length (now (field .entry)))) (now (text .entry))
         ⌝ }
 {
     let width = field.len();
-    if width < text.len() {
-        let cut = text.len() - width;
-        text::put_text(field, width, &text[cut..]);
+    if width < 14 {
+        text::put_text(field, width, text, width);
         return;
     }
-    put_blanks(field, width - text.len());
-    text::put_text(field, width, text)
+    put_blanks(field, width - 14);
+    text::put_text(field, width, text, 14)
 }

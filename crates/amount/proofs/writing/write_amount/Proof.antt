@@ -1,14 +1,15 @@
--- `amount::writing::write_amount` meets its contract: dollars, sign and cents are stored one beside the other, up to the text's end.
+-- `amount::writing::write_amount` meets its contract: cents, dollars and sign are stored one before the other, from the text's end.
 use Prim.Native.Nat.{ℕ, zero, suc, _+_, _-_, _/_, _%_, _≤_, _<_}
 use mathlib.Core.Path.{_≡_, refl, sym, _∙_, ap}
 use mathlib.Core.List.{List, [], _∷_, _++_}
+use native.Mathlib.Nat.{add-zero}
 use native.Mathlib.Omega.{arith}
 use borrow.Author.Needs.{needs}
 use lib.IntN.{ℤ, natAbs}
 use lib.ListN.{length, take, set, replicate}
 use lib.Seq.{sets, set-comm}
 use Rattle.whole.proofs.Machine.{read-back}
-use Rattle.whole.proofs.Stores.{stored-on, stored-to-the-end}
+use Rattle.whole.proofs.Stores.{stored-to-the-end}
 use Rattle.rules.specs.Text.{amountField, amountText, decimal, digitByte, signByte}
 use Rattle.rules.proofs.Text.{text-length, text-fits-14}
 use Rattle.amount.proofs.writing.write_amount.Statement.{statement}
@@ -21,6 +22,12 @@ stored-before : (xs l : List ℕ) (i j x : ℕ) → j < i → set (sets l i xs) 
 stored-before [] l i j x h = refl
 stored-before (a ∷ xs) l i j x h =
     stored-before xs (set l i a) (suc i) j x (omega arith) ∙ ap (λ (m : List ℕ). sets m (suc i) xs) (set-comm l i j a x (λ e. omega arith))
+
+runs-joined : (xs ys l : List ℕ) (i : ℕ) → sets (sets l (i + length xs) ys) i xs ≡ sets l i (xs ++ ys)
+runs-joined [] ys l i = rw add-zero
+runs-joined (x ∷ xs) ys l i =
+    let along : i + length (x ∷ xs) ≡ suc i + length xs = omega arith in
+    rw (stored-before ys l (i + length (x ∷ xs)) i x (omega arith), along) (runs-joined xs ys (set l i x) (suc i))
 
 first-blanks : (k m : ℕ) → k ≤ m → take {A = ℕ} k (replicate m 32) ≡ replicate k 32
 first-blanks zero m h = refl
@@ -50,14 +57,15 @@ module _ (z : ℤ) (short : length (amountText z) ≤ 14) where
   at-end = omega arith
 
   one-run : (l : List ℕ) → length l ≡ 20 →
-      sets (set (sets l (17 - length dollars) dollars) (17 - length dollars - 1) (signByte z)) 17 cents ≡ take sign-at l ++ amountText z
+      set (sets (sets l 17 cents) (17 - length dollars) dollars) (17 - length dollars - 1) (signByte z) ≡ take sign-at l ++ amountText z
   unfolding amountText
   one-run l e =
-      ap (λ (k : ℕ). sets (set (sets l (17 - length dollars) dollars) (17 - length dollars - 1) (signByte z)) k cents) at-cents
-      ∙ rw (at-sign, at-dollars, stored-before dollars l (suc sign-at) sign-at (signByte z) (omega arith))
-      (stored-on (signByte z ∷ dollars) cents l sign-at ∙ stored-to-the-end (amountText z) l sign-at (at-end ∙ sym e))
+      ap (λ (k : ℕ). set (sets (sets l k cents) (17 - length dollars) dollars) (17 - length dollars - 1) (signByte z)) at-cents
+      ∙ rw (at-sign, at-dollars) (stored-before dollars _ (suc sign-at) sign-at (signByte z) (omega arith)
+      ∙ runs-joined (signByte z ∷ dollars) cents l sign-at
+      ∙ stored-to-the-end (amountText z) l sign-at (at-end ∙ sym e))
 
-  whole-text : sets (set (sets (replicate 20 32) (17 - length dollars) dollars) (17 - length dollars - 1) (signByte z)) 17 cents
+  whole-text : set (sets (sets (replicate 20 32) 17 cents) (17 - length dollars) dollars) (17 - length dollars - 1) (signByte z)
       ≡ amountField 20 z
   unfolding amountField
   whole-text = one-run (replicate 20 32) refl ∙ ap (λ (l : List ℕ). l ++ amountText z) (first-blanks sign-at 20 (omega arith))
@@ -74,29 +82,29 @@ few c = let z = c .before .args .cents in rw (sized c) (omega (arith, text-fits-
 size-of-requires : tie.Need-size-of-requires
 size-of-requires c κs = search needs
 
+element-write-text : tie.Need-element-write-text
+element-write-text c = search needs
+
+last-digit-requires : tie.Need-last-digit-requires
+last-digit-requires c κs = search needs
+
+element-write-text-2 : tie.Need-element-write-text-2
+element-write-text-2 c = search needs
+
+last-digit-requires-2 : tie.Need-last-digit-requires-2
+last-digit-requires-2 c κs = search needs
+
+element-write-text-3 : tie.Need-element-write-text-3
+element-write-text-3 c = search needs
+
 write-digits-requires : tie.Need-write-digits-requires
-write-digits-requires c κs = omega (arith, few (c .before))
+write-digits-requires c κs = omega (arith, few (c .before .before .before))
 
 sign-byte-requires : tie.Need-sign-byte-requires
 sign-byte-requires c κs = search needs
 
 sub-text : tie.Need-sub-text
-sub-text c = omega (arith, c .before .write-digits .ensures .0, few (c .before .before .before))
-
-element-write-text : tie.Need-element-write-text
-element-write-text c = search needs
-
-element-write-text-2 : tie.Need-element-write-text-2
-element-write-text-2 c = search needs
-
-last-digit-requires : tie.Need-last-digit-requires
-last-digit-requires c κs = search needs
-
-element-write-text-3 : tie.Need-element-write-text-3
-element-write-text-3 c = search needs
-
-last-digit-requires-2 : tie.Need-last-digit-requires-2
-last-digit-requires-2 c κs = search needs
+sub-text c = omega (arith, c .before .write-digits .ensures .0, few (c .before .before .before .before .before))
 
 element-write-text-4 : tie.Need-element-write-text-4
 element-write-text-4 c = search needs
@@ -106,18 +114,17 @@ sub-result c = search needs
 
 returns : tie.Need-returns
 returns c =
-    let w = c .before .before .before .write-digits in
+    let w = c .before .write-digits in
     let s = c .before .before .before .before .before .before in
     let z = s .args .cents in
     let short = text-fits-14 z (s .pre .0) in
-    let sign : c .before .before .sign-byte .result ≡ signByte z = c .before .before .sign-byte .ensures
-    ∙ ap signByte (read-back (s .fits .cents)) in
     rw (
-      c .before .last-digit .ensures,
-      c .last-digit2 .ensures,
       w .ensures .1,
       w .ensures .0,
-      sign,
+      c .sign-byte .ensures,
+      read-back (s .fits .cents),
+      c .before .before .before .last-digit2 .ensures,
+      c .before .before .before .before .last-digit .ensures,
       sized (c .before .before .before .before .before),
       s .pre .1,
     )
@@ -128,14 +135,14 @@ write-amount-spec =
     tie.close
     (tie.spec
     size-of-requires
+    element-write-text
+    last-digit-requires
+    element-write-text-2
+    last-digit-requires-2
+    element-write-text-3
     write-digits-requires
     sign-byte-requires
     sub-text
-    element-write-text
-    element-write-text-2
-    last-digit-requires
-    element-write-text-3
-    last-digit-requires-2
     element-write-text-4
     sub-result
     returns)

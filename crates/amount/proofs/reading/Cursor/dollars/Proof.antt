@@ -69,8 +69,8 @@ returns-4 c =
     let d = t .before .before .digits-from in
     let s = t .before .before .before .before in
     let first = getD (s .args .field .now) (s .args .self .at) 0 in
-    rw (d .ensures .1 .0, d .ensures .1 .1) (found (s .args .field .now) (s .args .self .at) (d .result .count) (d .ensures .0) (t .if2 .left)
-    (t .before .if1 .left)
+    rw (d .ensures .1 .0, d .ensures .1 .1) (found (s .args .field .now) (s .args .self .at) (d .result .count) (d .ensures .0)
+    (t .if2 .left) (t .before .if1 .left)
     (rw (ne-eqb first 48 (λ e. c .if4 .left (c .before .byte-at .ensures ∙ e))) (or-true (eqb (d .result .count) 1))))
 
 returns-5 : tie.Need-returns-5
@@ -78,8 +78,8 @@ returns-5 c =
     let t = c .before in
     let d = t .before .before .digits-from in
     let s = t .before .before .before .before in
-    rw (d .ensures .1 .0, d .ensures .1 .1) (found (s .args .field .now) (s .args .self .at) (d .result .count) (d .ensures .0) (t .if2 .left)
-    (t .before .if1 .left)
+    rw (d .ensures .1 .0, d .ensures .1 .1) (found (s .args .field .now) (s .args .self .at) (d .result .count) (d .ensures .0)
+    (t .if2 .left) (t .before .if1 .left)
     (rw (eq-eqb (d .result .count) 1 (omega (arith, c .if3 .left, t .before .if1 .left)))))
 
 pub dollars-spec : {M : Type 1} → statement M
