@@ -6,6 +6,7 @@ ghost use Rattle.rules.specs.Settling as Settling;
 
 pub mod decimal;
 mod reading;
+mod text;
 mod writing;
 
 use reading::Cursor;
@@ -22,11 +23,12 @@ pub fn write(cents: i64, field: &mut [u8]) -> Answer
     if 999999999999 < sign::size_of(cents) {
         return Answer::OutOfRange;
     }
-    let length = writing::text_length(cents);
+    let mut text = [b' '; 20];
+    let length = writing::write_amount(&mut text, cents);
     if field.len() < length {
         return Answer::TooNarrow;
     }
-    writing::put(field, field.len() - length, cents);
+    writing::put(field, &text);
     Answer::Accepted
 }
 

@@ -1,7 +1,7 @@
 // The parts of `read`: a reading place moves on, and each part hands it back with its value, or is missing.
 ghost use mathlib.Core.Option.{none};
 ghost use mathlib.Core.Path.{_≡_};
-ghost use Prim.Native.Nat.{_≤_, min};
+ghost use Prim.Native.Nat.{_+_, _≤_, min};
 ghost use lib.ListN.{drop, getD};
 ghost use Rattle.rules.specs.Text.{centsAt, digitCount, digitsValue, dollarsAt, isDigit, pastBlanks, signAt, withMinus};
 ghost use Rattle.rules.specs.Settling.{orRefused};
@@ -26,9 +26,10 @@ pub enum Number {
     Missing,
 }
 
-// Digits that stand in a row: how many they are, and the number that they make.
+// Digits that stand in a row: how many they are, the place after them, and the number that they make.
 struct Run {
     count: usize,
+    next: usize,
     value: u64,
 }
 
@@ -51,6 +52,7 @@ fn is_digit(byte: u8) -> bool
 // The digits from a place on, at most eleven: dollars have at most ten.
 fn digits_from(field: &[u8], from: usize) -> Run
     ensures count { λ r. ⌜ r .count ≡ min 11 (digitCount (drop from (now (field .entry)))) ⌝ }
+    ensures next { λ r. ⌜ r .next ≡ from + r .count ⌝ }
     ensures value { λ r. ⌜ r .value ≡ digitsValue (drop from (now (field .entry))) (r .count) ⌝ }
 {
     let mut count: usize = 0;
@@ -65,6 +67,7 @@ fn digits_from(field: &[u8], from: usize) -> Run
     }
     Run {
         count: count,
+        next: from + count,
         value: value,
     }
 }
@@ -119,7 +122,7 @@ impl Cursor {
                 return Number::Missing;
             }
         }
-        Number::Found(run.value, Cursor { at: at + count })
+        Number::Found(run.value, Cursor { at: run.next })
     }
 
     // A point and two digits.
@@ -130,12 +133,12 @@ impl Cursor {
         if byte_at(field, at) != b'.' {
             return Number::Missing;
         }
-        let tens = byte_at(field, at + 1);
-        if !is_digit(tens) {
-            return Number::Missing;
-        }
         let ones = byte_at(field, at + 2);
         if !is_digit(ones) {
+            return Number::Missing;
+        }
+        let tens = byte_at(field, at + 1);
+        if !is_digit(tens) {
             return Number::Missing;
         }
         let value = 10 * (tens - 48) as u64 + (ones - 48) as u64;

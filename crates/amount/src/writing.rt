@@ -1,11 +1,11 @@
-// The parts of `write`: an amount's sign, how long its text is, and the text in its place at the field's right end.
-ghost use mathlib.Core.List.{[], _∷_, _++_};
+// The parts of `write`: an amount's sign, its text in twenty bytes, and the text in its place at the field's right end.
+ghost use mathlib.Core.List.{_++_};
 ghost use mathlib.Core.Path.{_≡_};
-ghost use Prim.Native.Nat.{_+_, _/_, _%_, _≤_};
+ghost use Prim.Native.Nat.{_+_, _-_, _≤_};
+ghost use lib.IntN.{natAbs};
 ghost use lib.ListN.{drop, length, replicate};
-ghost use lib.Seq.{sets};
-ghost use Rattle.rules.specs.Text.{amountField, amountText, digitByte, signByte};
-use crate::decimal;
+ghost use Rattle.rules.specs.Text.{amountField, amountText, signByte};
+use crate::text;
 
 fn sign_byte(cents: i64) -> u8
     ensures { λ r. ⌜ r ≡ signByte cents ⌝ }
@@ -13,11 +13,21 @@ fn sign_byte(cents: i64) -> u8
     if cents < 0 { b'-' } else { b'+' }
 }
 
-// The sign, the dollars, a point and two digits.
-pub fn text_length(cents: i64) -> usize
-    ensures { λ r. ⌜ r ≡ length (amountText cents) ⌝ }
+// An amount at the end of twenty blanks. Hands back the length of its text.
+pub fn write_amount(text: &mut [u8; 20], cents: i64) -> usize
+    requires { ⌜ (natAbs cents ≤ 999999999999) × (now text ≡ replicate 20 32) ⌝ }
+    ensures length { λ r. ⌜ r ≡ length (amountText cents) ⌝ }
+    ensures text { λ r. ⌜ now (text .exit) ≡ amountField 20 cents ⌝ }
 {
-    4 + decimal::digits(sign::size_of(cents) / 100)
+    let size = sign::size_of(cents);
+    let tenth = size / 10;
+    let dollars = size / 100;
+    text[17] = b'.';
+    text[18] = text::last_digit(tenth, dollars);
+    text[19] = text::last_digit(size, tenth);
+    let first = text::write_digits(text, 17, dollars);
+    text[first - 1] = sign_byte(cents);
+    21 - first
 }
 
 // Blanks before `end`.
@@ -32,25 +42,20 @@ fn put_blanks(field: &mut [u8], end: usize)
     }
 }
 
-// A point and two digits, from `point` on.
-fn put_cents(field: &mut [u8], point: usize, size: u64)
-    requires { ⌜ point + 3 ≤ length (now field) ⌝ }
-    ensures { λ r. ⌜ now (field .exit) ≡ sets (now (field .entry)) point (46 ∷ digitByte (size / 10 % 10) ∷ digitByte (size % 10) ∷ []) ⌝ }
+// A text at the right end of the field: its last 14 bytes, which hold every amount, with blanks before them; in a narrower field as many
+// as it has room for.
+pub fn put(field: &mut [u8], text: &[u8; 20])
+    requires { ⌜ length (now text) ≡ 20 ⌝ }
+    ensures { λ r. ⌜
+        now (field .exit) ≡
+        replicate (length (now (field .entry)) - 14) 32 ++ drop (6 + (14 - length (now (field .entry)))) (now (text .entry))
+        ⌝ }
 {
-    field[point] = b'.';
-    field[point + 1] = decimal::digit(size / 10);
-    field[point + 2] = decimal::digit(size);
-}
-
-// An amount's text from `start` to the end of the field, and blanks before it.
-pub fn put(field: &mut [u8], start: usize, cents: i64)
-    requires { ⌜ start + length (amountText cents) ≡ length (now field) ⌝ }
-    ensures { λ r. ⌜ now (field .exit) ≡ amountField (length (now (field .entry))) cents ⌝ }
-{
-    let size = sign::size_of(cents);
-    let point = field.len() - 3;
-    put_blanks(field, start);
-    field[start] = sign_byte(cents);
-    decimal::put_digits(field, point, size / 100);
-    put_cents(field, point, size);
+    let width = field.len();
+    if width < 14 {
+        text::put_text(field, width, text, width);
+        return;
+    }
+    put_blanks(field, width - 14);
+    text::put_text(field, width, text, 14)
 }

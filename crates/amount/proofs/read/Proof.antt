@@ -72,36 +72,36 @@ past-blanks : (c : tie.After-sign) → let s = c .before .before .before .before
     signPart (c .sign .result) ≡ signAt s (pastBlanks s 0)
 past-blanks c = c .sign .ensures ∙ rw (c .before .blanks .ensures, c .before .before .start .ensures)
 
+abbrev text : tie.After-known-told → List ℕ
+text c = c .before .before .before .before .before .before .before .args .field .now
+
 abbrev theSign : tie.After-known-told → Part Bool
 theSign c = let g = c .before .is-minus .given .0 in record { value = g .0; next = g .1 .0 .at }
 
-sign-is : (c : tie.After-known-told) → let s = c .before .before .before .before .before .before .before .args .field .now in
-    signAt s (pastBlanks s 0) ≡ some (theSign c)
+sign-is : (c : tie.After-known-told) → signAt (text c) (pastBlanks (text c) 0) ≡ some (theSign c)
 sign-is c = sign-found (past-blanks (c .before .before .before)) (c .before .is-minus .given .1)
+
+abbrev told : tie.After-known-told2 → tie.After-known-told
+told c = c .before .before .before .before
 
 abbrev theDollars : tie.After-known-told2 → Part ℕ
 theDollars c = let g = c .before .dollars2 .given .0 in record { value = g .0; next = g .1 .0 .at }
 
-dollars-are : (c : tie.After-known-told2) → let t = c .before .before .before .before in
-    dollarsAt (t .before .before .before .before .before .before .before .args .field .now) (theSign t .next) ≡ some (theDollars c)
+dollars-are : (c : tie.After-known-told2) → dollarsAt (text (told c)) (theSign (told c) .next) ≡ some (theDollars c)
 dollars-are c = number-found (c .before .before .before .dollars .ensures) (c .before .dollars2 .given .1)
+
+abbrev told2 : tie.After-known-told3 → tie.After-known-told2
+told2 c = c .before .before .before .before
 
 abbrev theCents : tie.After-known-told3 → Part ℕ
 theCents c = let g = c .before .cents2 .given .0 in record { value = g .0; next = g .1 .0 .at }
 
-cents-are : (c : tie.After-known-told3) → let t = c .before .before .before .before in
-    centsAt (t .before .before .before .before .before .before .before .before .before .before .before .args .field .now)
-    (theDollars t .next) ≡ some (theCents c)
+cents-are : (c : tie.After-known-told3) → centsAt (text (told (told2 c))) (theDollars (told2 c) .next) ≡ some (theCents c)
 cents-are c = number-found (c .before .before .before .cents .ensures) (c .before .cents2 .given .1)
 
-range : (c : tie.Else1) →
-    100 * theDollars (c .before .before .before .before .before .before) .value + theCents (c .before .before) .value ≤ 999999999999
-range c =
-    let k = c .before .before in
-    let d = k .before .before .before .before in
-    let t = d .before .before .before .before in
-    in-range (t .before .before .before .before .before .before .before .args .field .now) (theSign t) (sign-is t) (theDollars d)
-    (dollars-are d) (theCents k) (cents-are k)
+range : (c : tie.After-known-told3) → 100 * theDollars (told2 c) .value + theCents c .value ≤ 999999999999
+range c = let d = told2 c in let t = told d in
+    in-range (text t) (theSign t) (sign-is t) (theDollars d) (dollars-are d) (theCents c) (cents-are c)
 
 start-requires : tie.Need-start-requires
 start-requires c κs = search needs
@@ -122,8 +122,7 @@ refused-requires : tie.Need-refused-requires
 refused-requires c κs = search needs
 
 returns : tie.Need-returns
-returns c = let p = c .before .before .before in
-    let s = p .before .before .before .before .args .field .now in
+returns c = let p = c .before .before .before in let s = p .before .before .before .before .args .field .now in
     answered s (c .refused .result) none (c .refused .ensures)
     (no-sign s (sym (past-blanks p) ∙ ap signPart (c .before .enum-told .given .1)))
 
@@ -140,11 +139,9 @@ refused-requires-2 : tie.Need-refused-requires-2
 refused-requires-2 c κs = search needs
 
 returns-2 : tie.Need-returns-2
-returns-2 c = let p = c .before .before .before in
-    let t = p .before in
-    let s = t .before .before .before .before .before .before .before .args .field .now in
-    answered s (c .refused2 .result) none (c .refused2 .ensures)
-    (no-dollars s (theSign t) (sign-is t) (sym (p .dollars .ensures) ∙ ap numberPart (c .before .enum-told2 .given .1)))
+returns-2 c = let p = c .before .before .before in let t = p .before in
+    answered (text t) (c .refused2 .result) none (c .refused2 .ensures)
+    (no-dollars (text t) (theSign t) (sign-is t) (sym (p .dollars .ensures) ∙ ap numberPart (c .before .enum-told2 .given .1)))
 
 cents-requires : tie.Need-cents-requires
 cents-requires c κs = search needs
@@ -159,40 +156,33 @@ refused-requires-3 : tie.Need-refused-requires-3
 refused-requires-3 c κs = search needs
 
 returns-3 : tie.Need-returns-3
-returns-3 c = let p = c .before .before .before in
-    let d = p .before in
-    let t = d .before .before .before .before in
-    let s = t .before .before .before .before .before .before .before .args .field .now in
-    answered s (c .refused3 .result) none (c .refused3 .ensures) (no-cents s (theSign t) (sign-is t) (theDollars d) (dollars-are d)
+returns-3 c = let p = c .before .before .before in let d = p .before in let t = told d in
+    answered (text t) (c .refused3 .result) none (c .refused3 .ensures)
+    (no-cents (text t) (theSign t) (sign-is t) (theDollars d) (dollars-are d)
     (sym (p .cents .ensures) ∙ ap numberPart (c .before .enum-told3 .given .1)))
 
 refused-requires-4 : tie.Need-refused-requires-4
 refused-requires-4 c κs = search needs
 
 returns-4 : tie.Need-returns-4
-returns-4 c = let k = c .before .before .before in
-    let d = k .before .before .before .before in
-    let t = d .before .before .before .before in
-    let s = t .before .before .before .before .before .before .before .args .field .now in
-    answered s (c .refused4 .result) none (c .refused4 .ensures)
-    (something-after s (theSign t) (sign-is t) (theDollars d) (dollars-are d) (theCents k) (cents-are k) (c .before .if1 .taken))
+returns-4 c = let k = c .before .before .before in let d = told2 k in let t = told d in
+    answered (text t) (c .refused4 .result) none (c .refused4 .ensures)
+    (something-after (text t) (theSign t) (sign-is t) (theDollars d) (dollars-are d) (theCents k) (cents-are k) (c .before .if1 .taken))
 
 mul-signed : tie.Need-mul-signed
-mul-signed c = omega (arith, range c)
+mul-signed c = omega (arith, range (c .before .before))
 
 add-signed : tie.Need-add-signed
-add-signed c = omega (arith, range c)
+add-signed c = omega (arith, range (c .before .before))
 
 signed-requires : tie.Need-signed-requires
-signed-requires c κs = range c
+signed-requires c κs = range (c .before .before)
 
 returns-5 : tie.Need-returns-5
-returns-5 c = let k = c .before .before .before in
-    let d = k .before .before .before .before in
-    let t = d .before .before .before .before in
-    let s = t .before .before .before .before .before .before .before .args .field .now in
-    answered s (c .signed .result) (withMinus (theSign t .value) (100 * theDollars d .value + theCents k .value)) (c .signed .ensures)
-    (nothing-after s (theSign t) (sign-is t) (theDollars d) (dollars-are d) (theCents k) (cents-are k) (c .before .if1 .left))
+returns-5 c = let k = c .before .before .before in let d = told2 k in let t = told d in
+    answered (text t) (c .signed .result) (withMinus (theSign t .value) (100 * theDollars d .value + theCents k .value))
+    (c .signed .ensures)
+    (nothing-after (text t) (theSign t) (sign-is t) (theDollars d) (dollars-are d) (theCents k) (cents-are k) (c .before .if1 .left))
 
 pub read-spec : {M : Type 1} → statement M
 read-spec =

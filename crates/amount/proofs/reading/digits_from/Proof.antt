@@ -1,12 +1,13 @@
 -- `amount::reading::digits_from` meets its contract: so many of the digits that stand there are passed, and they make the value.
-use Prim.Native.Nat.{ℕ, _+_, _-_, _^_, _≤_, _<_}
+use Prim.Native.Nat.{ℕ, min, _+_, _-_, _^_, _≤_, _<_}
 use mathlib.Core.Path.{_≡_, refl, sym, _∙_}
 use mathlib.Core.Bool.{true, false}
 use mathlib.Core.List.{List}
+use mathlib.Core.Logic.{⊎-elim}
 use native.Mathlib.Nat.{add-zero, zero-add, pow-le-pow-right, lt-of-lt-of-le}
 use native.Mathlib.Omega.{arith}
 use borrow.Author.Tests.{not-true, not-false}
-use lib.ListN.{drop, getD, length-drop}
+use lib.ListN.{length, drop, getD, length-drop}
 use Rattle.rules.specs.Text.{isDigit, digitCount, digitsValue}
 use Rattle.rules.proofs.Digits.{digits-from, digit-range, counted-stand, value-more, value-below-power}
 use Rattle.amount.proofs.reading.digits_from.Statement.{statement}
@@ -35,15 +36,23 @@ Inv-loop field from count₀ value₀ count value = (count ≤ 11) × Passed fie
 abbrev μ-loop : tie.MeasureT-loop
 μ-loop field from count₀ value₀ count value = 11 - count
 
+-- the field and the place that the loop began with
+abbrev s : tie.At-loop Inv-loop μ-loop → List ℕ
+s c = c .before .before .args .field .now
+
+abbrev from : tie.At-loop Inv-loop μ-loop → ℕ
+from c = c .before .before .args .from
+
+-- so many digits stand in the field
+room : (c : tie.At-loop Inv-loop μ-loop) → digitCount (drop (from c) (s c)) ≤ length (s c) - from c
+room c = rw (← length-drop (from c) (s c)) (counted-stand (drop (from c) (s c)))
+
 loop-holds : tie.Need-loop-holds Inv-loop μ-loop
 unfolding digitsValue
 loop-holds c = (omega arith, rw (add-zero, zero-add), refl)
 
 add-byte-at : tie.Need-add-byte-at Inv-loop μ-loop
-add-byte-at c =
-    let s = c .before .before .before .args .field .now in
-    let from = c .before .before .before .args .from in
-    omega (arith, counted-stand (drop from s), length-drop from s)
+add-byte-at c = omega (arith, room (c .before))
 
 byte-at-requires : tie.Need-byte-at-requires Inv-loop μ-loop
 byte-at-requires c κs = tt
@@ -56,11 +65,8 @@ digit : (c : tie.Else1 Inv-loop μ-loop) → isDigit (c .before .before .byte-at
 digit c = sym (c .before .is-digit .ensures) ∙ not-false (c .before .is-digit .result) (c .if1 .left)
 
 small : (c : tie.Else1 Inv-loop μ-loop) → c .before .before .before .before .loop .value < 10 ^ 10
-small c =
-    let l = c .before .before .before .before .loop in
-    let s = c .before .before .before .before .before .before .args .field .now in
-    let from = c .before .before .before .before .before .before .args .from in
-    rw (l .inv .2) (at-most-ten s from (l .count) (l .inv .1) (omega arith))
+small c = let h = c .before .before .before .before in
+    rw (h .loop .inv .2) (at-most-ten (s h) (from h) (h .loop .count) (h .loop .inv .1) (omega arith))
 
 mul-value : tie.Need-mul-value Inv-loop μ-loop
 mul-value c = omega (arith, small c)
@@ -82,26 +88,30 @@ loop-less c = omega arith
 
 loop-again : tie.Need-loop-again Inv-loop μ-loop
 loop-again c =
-    let l = c .before .before .before .before .loop in
-    let b = c .before .before .byte-at in
-    let s = c .before .before .before .before .before .before .args .field .now in
-    let from = c .before .before .before .before .before .before .args .from in (
+    let h = c .before .before .before .before in
+    let b = c .before .before .byte-at in (
       omega arith,
-      one-more s from (l .count) (l .inv .1) (rw (b .ensures) at (digit c)),
-      rw (l .inv .2, b .ensures) (sym (value-more s from (l .count))),
+      one-more (s h) (from h) (h .loop .count) (h .loop .inv .1) (rw (b .ensures) at (digit c)),
+      rw (h .loop .inv .2, b .ensures) (sym (value-more (s h) (from h) (h .loop .count))),
     )
 
-returns : tie.Need-returns Inv-loop μ-loop
-returns c = let l = c .before .loop in (omega (arith, l .inv .1), l .inv .2)
+add-t12 : tie.Need-add-t12 Inv-loop μ-loop
+add-t12 c = omega (arith, room (c .before))
 
-returns-2 : tie.Need-returns-2 Inv-loop μ-loop
-returns-2 c =
-    let l = c .before .before .before .before .loop in
-    let b = c .before .before .byte-at in
-    let s = c .before .before .before .before .before .before .args .field .now in
-    let from = c .before .before .before .before .before .before .args .from in
-    let none : isDigit (b .result) ≡ false = sym (c .before .is-digit .ensures) ∙ not-true (c .before .is-digit .result) (c .if1 .taken) in
-    (omega (arith, no-more s from (l .count) (l .inv .1) (rw (b .ensures) at none)), l .inv .2)
+returns : tie.Need-returns Inv-loop μ-loop
+returns c =
+    let h = c .before in
+    let l = h .loop in
+    let counted : l .count ≡ min 11 (digitCount (drop (from h) (s h))) = ⊎-elim
+    (λ eleven. omega (arith, eleven .left, l .inv .1))
+    (λ t. omega (
+      arith,
+      t .0 .taken,
+      no-more (s h) (from h) (l .count) (l .inv .1)
+          (rw (t .1 .ensures) at (sym (t .2 .ensures) ∙ not-true (t .2 .result) (t .3 .taken))),
+    ))
+    (c .loop-test .came) in
+    (counted, (refl, l .inv .2))
 
 pub digits-from-spec : {M : Type 1} → statement M
 digits-from-spec =
@@ -120,5 +130,5 @@ digits-from-spec =
     add-count
     loop-less
     loop-again
-    returns
-    returns-2)
+    add-t12
+    returns)

@@ -1,131 +1,74 @@
--- `amount::writing::put` meets its contract: blanks, the sign, the dollars and the cents, stored one after the other to the field's end.
-use Prim.Native.Nat.{ℕ, _+_, _-_, _/_, _%_, _≤_}
-use mathlib.Core.Path.{_≡_, _∙_, ap}
-use mathlib.Core.List.{List, [], _∷_, _++_}
+-- `amount::writing::put` meets its contract: in either case the text ends where the field does.
+use Prim.Native.Nat.{ℕ, _+_, _-_, _≤_, _<_}
+use mathlib.Core.Path.{_≡_, _∙_}
+use mathlib.Core.List.{List, _++_}
 use native.Mathlib.Omega.{arith}
 use borrow.Author.Needs.{needs}
-use lib.IntN.{ℤ, natAbs}
-use lib.ListN.{length, drop, set, replicate, length-set, length-append, length-replicate, length-drop}
+use lib.ListN.{length, drop, replicate, length-append, length-replicate, length-drop}
 use lib.Seq.{sets, take-at}
-use Rattle.whole.proofs.Machine.{read-back}
-use Rattle.whole.proofs.Stores.{stored-on, stored-to-the-end}
-use Rattle.rules.specs.Text.{amountField, amountText, decimal, digitByte, signByte}
-use Rattle.rules.proofs.Text.{text-length}
+use Rattle.whole.proofs.Stores.{stored-to-the-end}
 use Rattle.amount.proofs.writing.put.Statement.{statement}
 use Rattle.amount.proofs.writing.put.Tie as tie
 
--- ---- the stores make the field
+module _ (f t : List ℕ) (whole : length t ≡ 20) where
+  abbrev wider : ℕ
+  wider = length f - 14
 
-module _ (f : List ℕ) (start : ℕ) (z : ℤ) (fits : start + length (amountText z) ≡ length f) where
-  abbrev blanks : List ℕ
-  blanks = replicate start 32
+  abbrev first : ℕ
+  first = 6 + (14 - length f)
 
-  abbrev blanked : List ℕ
-  blanked = blanks ++ drop start f
+  in-narrower : length f < 14 → {g : List ℕ} → g ≡ sets f (length f - length f) (drop (20 - length f) t) →
+      g ≡ replicate wider 32 ++ drop first t
+  in-narrower h e =
+      let start : length f - length f ≡ 0 = omega arith in
+      let from : 20 - length f ≡ first = omega arith in
+      let no-blank : wider ≡ 0 = omega arith in
+      e ∙ rw (start, from, no-blank) (stored-to-the-end (drop first t) f 0 (simp length-drop (omega arith)))
 
-  abbrev dollars : List ℕ
-  dollars = decimal (natAbs z / 100)
+  in-wider : 14 ≤ length f → sets (replicate wider 32 ++ drop wider f) wider (drop 6 t) ≡ replicate wider 32 ++ drop first t
+  in-wider h =
+      let from : first ≡ 6 = omega arith in
+      rw from (stored-to-the-end (drop 6 t) (replicate wider 32 ++ drop wider f) wider to-the-end
+      ∙ rw (take-at (replicate wider 32) (drop wider f) wider (length-replicate wider 32)))
+    where
+      to-the-end : wider + length (drop 6 t) ≡ length (replicate wider 32 ++ drop wider f)
+      to-the-end = simp (length-append, length-replicate, length-drop) (omega arith)
 
-  abbrev cents : List ℕ
-  cents = 46 ∷ digitByte (natAbs z / 10 % 10) ∷ digitByte (natAbs z % 10) ∷ []
+put-text-requires : tie.Need-put-text-requires
+put-text-requires c κs = search needs
 
-  at-dollars : length f - 3 - length dollars ≡ start + length (signByte z ∷ [])
-  at-dollars = omega (arith, text-length z)
+same-length : tie.Need-same-length
+same-length c = search needs
 
-  at-cents : length f - 3 ≡ start + length (signByte z ∷ dollars)
-  at-cents = omega (arith, text-length z)
-
-  to-the-end : start + length (amountText z) ≡ length blanked
-  to-the-end = rw (length-append blanks (drop start f), length-replicate {A = ℕ} start 32, length-drop start f) (omega arith)
-
-  blanks-before : length f - length (amountText z) ≡ start
-  blanks-before = omega arith
-
-  one-run :
-      sets (sets (set blanked start (signByte z)) (start + length (signByte z ∷ [])) dollars) (start + length (signByte z ∷ dollars)) cents
-      ≡ sets blanked start (amountText z)
-  unfolding amountText
-  one-run = rw (stored-on (signByte z ∷ []) dollars blanked start) (stored-on (signByte z ∷ dollars) cents blanked start)
-
-  whole-field : sets (sets (set blanked start (signByte z)) (length f - 3 - length dollars) dollars) (length f - 3) cents
-      ≡ amountField (length f) z
-  unfolding amountField
-  whole-field = rw (at-dollars, at-cents, blanks-before)
-      (one-run ∙ stored-to-the-end (amountText z) blanked start to-the-end
-      ∙ rw (take-at blanks (drop start f) start (length-replicate start 32)))
-
--- ---- the needs
-
--- the size that the code computes
-sized : (c : tie.After-size-of) → c .size-of .result ≡ natAbs (c .before .before .args .cents)
-sized c = c .size-of .ensures ∙ ap natAbs (read-back (c .before .before .fits .cents))
-
-size-of-requires : tie.Need-size-of-requires
-size-of-requires c κs = search needs
-
-sub-point : tie.Need-sub-point
-sub-point c = omega (arith, text-length (c .before .before .args .cents))
+returns : tie.Need-returns
+returns c =
+    let s = c .before .before .before .before .before .before in
+    in-narrower (s .args .field .now) (s .args .text .now) (s .pre) (omega arith) (c .before .before .put-text .ensures)
 
 put-blanks-requires : tie.Need-put-blanks-requires
 put-blanks-requires c κs = search needs
 
-sign-byte-requires : tie.Need-sign-byte-requires
-sign-byte-requires c κs = search needs
+put-text-requires-2 : tie.Need-put-text-requires-2
+put-text-requires-2 c κs = search needs
 
-slice-write-field : tie.Need-slice-write-field
-slice-write-field c = omega (
-  arith,
-  c .before .before .before .put-blanks .kept .0,
-  text-length (c .before .before .before .before .before .before .before .args .cents),
-)
+same-length-2 : tie.Need-same-length-2
+same-length-2 c = search needs
 
-put-digits-requires : tie.Need-put-digits-requires
-put-digits-requires c κs =
-    let s = c .before .before .before .before .before .before .before .before in
-    let h : length (decimal (natAbs (s .args .cents) / 100)) ≤ length (s .args .field .now) - 3 =
-    omega (arith, text-length (s .args .cents)) in (
-      rw (sized (c .before .before .before .before .before .before)) h,
-      simp length-set (omega (arith, c .before .before .before .before .put-blanks .kept .0)),
-    )
-
--- the field keeps its length up to the cents
-kept : (c : tie.After-put-digits) →
-    length (c .put-digits .last .0) ≡ length (c .before .before .before .before .before .before .before .before .before .args .field .now)
-kept c = c .put-digits .kept .0 ∙ simp length-set (c .before .before .before .before .before .put-blanks .kept .0)
-
-put-cents-requires : tie.Need-put-cents-requires
-put-cents-requires c κs =
-    let d = c .before .before .before in
-    omega (arith, kept d, text-length (d .before .before .before .before .before .before .before .before .before .args .cents))
-
-same-length : tie.Need-same-length
-same-length c = c .before .before .put-cents .kept .0 ∙ kept (c .before .before .before .before .before .before)
-
-returns : tie.Need-returns
-returns c =
-    let d = c .before .before .before .before .before .before in
-    let s = d .before .before .before .before .before .before .before .before .before in
-    let sign : d .before .before .sign-byte .result ≡ signByte (s .args .cents) = d .before .before .sign-byte .ensures
-    ∙ ap signByte (read-back (s .fits .cents)) in
-    c .before .before .put-cents .ensures
-    ∙ rw (
-      d .put-digits .ensures,
-      d .before .before .before .before .before .put-blanks .ensures,
-      sign,
-      sized (d .before .before .before .before .before .before .before),
-    )
-    (whole-field (s .args .field .now) (s .args .start) (s .args .cents) (s .pre))
+returns-2 : tie.Need-returns-2
+returns-2 c =
+    let s = c .before .before .before .before .before .before .before .before .before .before in
+    c .before .before .put-text2 .ensures
+    ∙ rw (c .before .before .before .before .before .before .put-blanks .ensures)
+    (in-wider (s .args .field .now) (s .args .text .now) (s .pre) (omega arith))
 
 pub put-spec : {M : Type 1} → statement M
 put-spec =
     tie.close
     (tie.spec
-    size-of-requires
-    sub-point
-    put-blanks-requires
-    sign-byte-requires
-    slice-write-field
-    put-digits-requires
-    put-cents-requires
+    put-text-requires
     same-length
-    returns)
+    returns
+    put-blanks-requires
+    put-text-requires-2
+    same-length-2
+    returns-2)

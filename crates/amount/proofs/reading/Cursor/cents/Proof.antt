@@ -2,7 +2,7 @@
 -- the end.
 use Prim.Native.Nat.{ℕ, _+_, _-_, _*_, _<_}
 use mathlib.Core.Path.{_≡_, sym, _∙_}
-use mathlib.Core.Bool.{Bool, true, false, not}
+use mathlib.Core.Bool.{Bool, true, false, not, and-false}
 use mathlib.Core.List.{List}
 use native.Mathlib.Omega.{arith}
 use borrow.Author.Needs.{needs}
@@ -34,13 +34,13 @@ no-digit {t = t} e f g = rw g at (sym e ∙ not-true t f)
 point : (c : tie.Else1) → getD (c .before .before .before .args .field .now) (c .before .before .before .args .self .at) 0 ≡ 46
 point c = sym (c .before .byte-at .ensures) ∙ c .if1 .left
 
-tens : (c : tie.Else2) → let s = c .before .before .before .before .before .before in
-    isDigit (getD (s .args .field .now) (s .args .self .at + 1) 0) ≡ true
-tens c = a-digit (c .before .is-digit .ensures) (c .if2 .left) (c .before .before .byte-at2 .ensures)
-
-ones : (c : tie.Else3) → let s = c .before .before .before .before .before .before .before .before .before in
+ones : (c : tie.Else2) → let s = c .before .before .before .before .before .before in
     isDigit (getD (s .args .field .now) (s .args .self .at + 2) 0) ≡ true
-ones c = a-digit (c .before .is-digit2 .ensures) (c .if3 .left) (c .before .before .byte-at3 .ensures)
+ones c = a-digit (c .before .is-digit .ensures) (c .if2 .left) (c .before .before .byte-at2 .ensures)
+
+tens : (c : tie.Else3) → let s = c .before .before .before .before .before .before .before .before .before in
+    isDigit (getD (s .args .field .now) (s .args .self .at + 1) 0) ≡ true
+tens c = a-digit (c .before .is-digit2 .ensures) (c .if3 .left) (c .before .before .byte-at3 .ensures)
 
 byte-at-requires : tie.Need-byte-at-requires
 byte-at-requires c κs = search needs
@@ -62,12 +62,16 @@ is-digit-requires c κs = search needs
 
 returns-2 : tie.Need-returns-2
 unfolding centsAt
-returns-2 c =
-    rw (point (c .before .before .before), no-digit (c .before .is-digit .ensures) (c .if2 .taken) (c .before .before .byte-at2 .ensures))
+returns-2 c = let s = c .before .before .before .before .before .before in
+    rw (
+      point (c .before .before .before),
+      no-digit (c .before .is-digit .ensures) (c .if2 .taken) (c .before .before .byte-at2 .ensures),
+      and-false (isDigit (getD (s .args .field .now) (s .args .self .at + 1) 0)),
+    )
 
 add-byte-at-2 : tie.Need-add-byte-at-2
 add-byte-at-2 c = let s = c .before .before .before .before .before .before in
-    omega (arith, digit-stands (s .args .field .now) (s .args .self .at + 1) (tens c))
+    omega (arith, digit-stands (s .args .field .now) (s .args .self .at + 2) (ones c))
 
 byte-at-requires-3 : tie.Need-byte-at-requires-3
 byte-at-requires-3 c κs = search needs
@@ -79,13 +83,12 @@ returns-3 : tie.Need-returns-3
 unfolding centsAt
 returns-3 c = rw (
   point (c .before .before .before .before .before .before),
-  tens (c .before .before .before),
+  ones (c .before .before .before),
   no-digit (c .before .is-digit2 .ensures) (c .if3 .taken) (c .before .before .byte-at3 .ensures),
 )
 
 sub-value : tie.Need-sub-value
-sub-value c = digit-range (c .before .before .before .before .before .byte-at2 .result)
-    (rw (← c .before .before .before .before .before .byte-at2 .ensures) at (tens (c .before .before .before))) .0
+sub-value c = digit-range (c .before .before .byte-at3 .result) (rw (← c .before .before .byte-at3 .ensures) at (tens c)) .0
 
 cast-value : tie.Need-cast-value
 cast-value c = search needs
@@ -94,7 +97,8 @@ mul-value : tie.Need-mul-value
 mul-value c = search needs
 
 sub-value-2 : tie.Need-sub-value-2
-sub-value-2 c = digit-range (c .before .before .byte-at3 .result) (rw (← c .before .before .byte-at3 .ensures) at (ones c)) .0
+sub-value-2 c = digit-range (c .before .before .before .before .before .byte-at2 .result)
+    (rw (← c .before .before .before .before .before .byte-at2 .ensures) at (ones (c .before .before .before))) .0
 
 cast-value-2 : tie.Need-cast-value-2
 cast-value-2 c = search needs
@@ -104,15 +108,15 @@ add-value c = search needs
 
 add-t9 : tie.Need-add-t9
 add-t9 c = let s = c .before .before .before .before .before .before .before .before .before in
-    omega (arith, digit-stands (s .args .field .now) (s .args .self .at + 2) (ones c))
+    omega (arith, digit-stands (s .args .field .now) (s .args .self .at + 2) (ones (c .before .before .before)))
 
 returns-4 : tie.Need-returns-4
 unfolding centsAt
 returns-4 c = let s = c .before .before .before .before .before .before .before .before .before in
     rw (
       point (c .before .before .before .before .before .before),
-      tens (c .before .before .before),
-      ones c,
+      ones (c .before .before .before),
+      tens c,
       two-digits (s .args .field .now) (s .args .self .at),
       c .before .before .before .before .before .byte-at2 .ensures,
       c .before .before .byte-at3 .ensures,

@@ -4,15 +4,13 @@ use Prim.Native.Nat.{ℕ, min, _+_, _≤_, _<_}
 use mathlib.Core.Path.{_≡_, sym, _∙_}
 use mathlib.Core.Bool.{true, not, _||_, or-true}
 use mathlib.Core.List.{List}
-use mathlib.Core.Logic.{⊎-elim}
 use mathlib.Core.Option.{none, some}
 use native.Mathlib.Omega.{arith}
 use borrow.Author.Needs.{needs}
 use borrow.Author.Tests.{le-leb, lt-leb, eq-eqb, ne-eqb}
 use lib.Dec.{eqb}
-use lib.ListN.{drop, getD, length-drop}
+use lib.ListN.{drop, getD}
 use Rattle.rules.specs.Text.{digitCount, digitsValue, dollarsAt}
-use Rattle.rules.proofs.Digits.{counted-stand}
 use Rattle.amount.proofs.reading.Cursor.dollars.Statement.{statement}
 use Rattle.amount.proofs.reading.Cursor.dollars.Tie as tie
 
@@ -65,29 +63,26 @@ returns-3 c =
     (omega (arith, c .before .before .if3 .taken))
     (sym (c .before .byte-at .ensures) ∙ c .if4 .taken)
 
-add-t9 : tie.Need-add-t9
-add-t9 c =
-    let s = c .before .before .before .before .before in
-    omega (
-      arith,
-      c .before .before .before .digits-from .ensures .0,
-      counted-stand (drop (s .args .self .at) (s .args .field .now)),
-      length-drop (s .args .self .at) (s .args .field .now),
-    )
-
 returns-4 : tie.Need-returns-4
 returns-4 c =
-    let d = c .before .before .before .digits-from in
-    let s = c .before .before .before .before .before in
+    let t = c .before .before .before in
+    let d = t .before .before .digits-from in
+    let s = t .before .before .before .before in
     let first = getD (s .args .field .now) (s .args .self .at) 0 in
-    let front : (eqb (d .result .count) 1 || not (eqb first 48)) ≡ true = ⊎-elim
-    (λ several. rw (ne-eqb first 48 (λ e. several .2 .left (several .1 .ensures ∙ e))) (or-true (eqb (d .result .count) 1)))
-    (λ single. rw (eq-eqb (d .result .count) 1 (omega (arith, single .left, c .before .before .if1 .left))))
-    (c .if3 .came) in
-    rw (d .ensures .1) (found (s .args .field .now) (s .args .self .at) (d .result .count) (d .ensures .0) (c .before .if2 .left)
-    (c .before .before .if1 .left) front)
+    rw (d .ensures .1 .0, d .ensures .1 .1) (found (s .args .field .now) (s .args .self .at) (d .result .count) (d .ensures .0)
+    (t .if2 .left) (t .before .if1 .left)
+    (rw (ne-eqb first 48 (λ e. c .if4 .left (c .before .byte-at .ensures ∙ e))) (or-true (eqb (d .result .count) 1))))
+
+returns-5 : tie.Need-returns-5
+returns-5 c =
+    let t = c .before in
+    let d = t .before .before .digits-from in
+    let s = t .before .before .before .before in
+    rw (d .ensures .1 .0, d .ensures .1 .1) (found (s .args .field .now) (s .args .self .at) (d .result .count) (d .ensures .0)
+    (t .if2 .left) (t .before .if1 .left)
+    (rw (eq-eqb (d .result .count) 1 (omega (arith, c .if3 .left, t .before .if1 .left)))))
 
 pub dollars-spec : {M : Type 1} → statement M
 dollars-spec =
     tie.close
-    (tie.spec digits-from-requires returns returns-2 byte-at-requires returns-3 add-t9 returns-4)
+    (tie.spec digits-from-requires returns returns-2 byte-at-requires returns-3 returns-4 returns-5)
