@@ -6,6 +6,7 @@ use Rattle.hour.proofs.area_in.Tie as tie
 whole-word-requires : tie.Need-whole-word-requires
 whole-word-requires c κs = omega arith
 
+-- blocks::whole_word(words, 2) as usize
 cast-result : tie.Need-cast-result
 cast-result c = omega arith
 

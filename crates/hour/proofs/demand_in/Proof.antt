@@ -20,10 +20,12 @@ whole-word-requires c κs = omega arith
 is-load : (c : tie.After-is-load) → isLoad (kindOf (word (c .before .before .before .args .words .now) 0)) ≡ c .is-load .result
 is-load c = sym (ap isLoad (c .before .kind-in .ensures)) ∙ sym (c .is-load .ensures)
 
+-- return blocks::whole_word(words, 4)
 returns : tie.Need-returns
 unfolding demandBy
 returns c = rw (is-load (c .before .before) ∙ c .before .if1 .taken) (c .whole-word .ensures)
 
+-- 0
 returns-2 : tie.Need-returns-2
 unfolding demandBy
 returns-2 c = rw (is-load (c .before) ∙ c .if1 .left)

@@ -11,51 +11,66 @@ use Rattle.hour.proofs.entry_in.Tie as tie
 kind-in-requires : tie.Need-kind-in-requires
 kind-in-requires c κs = omega arith
 
+-- s: blocks::whole_word(words, 3)
 whole-word-requires : tie.Need-whole-word-requires
 whole-word-requires c κs = omega arith
 
+-- s: blocks::whole_word(words, 3) as i64
 cast-t4 : tie.Need-cast-t4
 cast-t4 c = omega arith
 
+-- a: blocks::whole_word(words, 4)
 whole-word-requires-2 : tie.Need-whole-word-requires-2
 whole-word-requires-2 c κs = omega arith
 
+-- a: blocks::whole_word(words, 4) as i64
 cast-t6 : tie.Need-cast-t6
 cast-t6 c = omega arith
 
+-- j: blocks::signed(blocks::whole_word(words, 5))
 whole-word-requires-3 : tie.Need-whole-word-requires-3
 whole-word-requires-3 c κs = omega arith
 
 signed-requires : tie.Need-signed-requires
 signed-requires c κs = tt
 
+-- n: blocks::whole_word(words, 6)
 whole-word-requires-4 : tie.Need-whole-word-requires-4
 whole-word-requires-4 c κs = omega arith
 
+-- n: blocks::whole_word(words, 6) as i64
 cast-t10 : tie.Need-cast-t10
 cast-t10 c = omega arith
 
+-- o: blocks::whole_word(words, 7)
 whole-word-requires-5 : tie.Need-whole-word-requires-5
 whole-word-requires-5 c κs = omega arith
 
+-- o: blocks::whole_word(words, 7) as i64
 cast-t12 : tie.Need-cast-t12
 cast-t12 c = omega arith
 
+-- m: blocks::whole_word(words, 8)
 whole-word-requires-6 : tie.Need-whole-word-requires-6
 whole-word-requires-6 c κs = omega arith
 
+-- m: blocks::whole_word(words, 8) as i64
 cast-t14 : tie.Need-cast-t14
 cast-t14 c = omega arith
 
+-- f: blocks::whole_word(words, 9)
 whole-word-requires-7 : tie.Need-whole-word-requires-7
 whole-word-requires-7 c κs = omega arith
 
+-- f: blocks::whole_word(words, 9) as i64
 cast-t16 : tie.Need-cast-t16
 cast-t16 c = omega arith
 
+-- h: blocks::whole_word(words, 10)
 whole-word-requires-8 : tie.Need-whole-word-requires-8
 whole-word-requires-8 c κs = omega arith
 
+-- h: blocks::whole_word(words, 10) as i64
 cast-t18 : tie.Need-cast-t18
 cast-t18 c = omega arith
 

@@ -4,18 +4,22 @@ use Rattle.hour.specs.Hour.{headOf}
 use Rattle.hour.proofs.head_of.Statement.{statement}
 use Rattle.hour.proofs.head_of.Tie as tie
 
+-- head_word(file, 11)
 head-word-requires : tie.Need-head-word-requires
 head-word-requires c κs = search needs
 
+-- head_word(file, 11) as usize
 cast-areas : tie.Need-cast-areas
 cast-areas c = search needs
 
 prices-requires : tie.Need-prices-requires
 prices-requires c κs = (c .before .before .pre, c .head-word .ensures)
 
+-- head_word(file, 9)
 head-word-requires-2 : tie.Need-head-word-requires-2
 head-word-requires-2 c κs = search needs
 
+-- head_word(file, 9) as usize
 cast-t5 : tie.Need-cast-t5
 cast-t5 c = search needs
 

@@ -13,15 +13,19 @@ use Rattle.hour.proofs.price.Tie as tie
 area-few : (c : tie.Start) → c .args .a < 8
 area-few c = omega (arith, c .pre .0 .hour-kept .areas-most, c .pre .1)
 
+-- 4 * a
 mul-whole-word : tie.Need-mul-whole-word
 mul-whole-word c = omega (arith, area-few (c .before))
 
+-- 16 + 4 * a
 add-whole-word : tie.Need-add-whole-word
 add-whole-word c = omega (arith, area-few (c .before))
 
+-- blocks::whole_word(file, 16 + 4 * a)
 whole-word-requires : tie.Need-whole-word-requires
 whole-word-requires c κs = head-inside (c .before .pre .0) (16 + 4 * c .before .args .a) (omega (arith, area-few (c .before)))
 
+-- blocks::whole_word(file, 16 + 4 * a) as usize
 cast-zone : tie.Need-cast-zone
 cast-zone c = omega arith
 
@@ -39,9 +43,11 @@ module _ (c : tie.After-whole-word) where
       let ranges = start .pre .0 .hour-kept in
       omega (arith, zone-is, ranges .area-kept (start .args .a) (start .pre .1) .zone-there, ranges .zones-most)
 
+-- 12 + zone
 add-whole-word-2 : tie.Need-add-whole-word-2
 add-whole-word-2 c = omega (arith, zone-few c)
 
+-- blocks::whole_word(file, 12 + zone)
 whole-word-requires-2 : tie.Need-whole-word-requires-2
 whole-word-requires-2 c κs = head-inside (start c .pre .0) (12 + c .whole-word .result) (omega (arith, zone-few c))
 

@@ -33,12 +33,15 @@ loop-holds c = none-filled (c .before .pre .0 .hour-kept .areas-most)
 price-requires : tie.Need-price-requires Inv-loop μ-loop
 price-requires c κs = let s = start (c .before) in (s .pre .0, omega (arith, s .pre .1))
 
+-- the offset of prices[a]
 mul-prices : tie.Need-mul-prices Inv-loop μ-loop
 mul-prices c = omega (arith, few (c .before .before), start (c .before .before) .pre .1)
 
+-- prices[a] = price(file, a)
 array-set-from-prices : tie.Need-array-set-from-prices Inv-loop μ-loop
 array-set-from-prices c = omega (arith, few (c .before .before), start (c .before .before) .pre .1)
 
+-- a += 1
 add-a : tie.Need-add-a Inv-loop μ-loop
 add-a c = omega arith
 

@@ -22,12 +22,15 @@ loop-holds c = (omega arith, sym (replacing-none _ _))
 empty-line-requires : tie.Need-empty-line-requires Inv-loop μ-loop
 empty-line-requires c κs = tt
 
+-- the offset of lines[m]
 mul-t6 : tie.Need-mul-t6 Inv-loop μ-loop
 mul-t6 c = omega (arith, written-length _ _ _ _ (c .before .before .loop .inv .1) (omega arith))
 
+-- lines[m] = formula::posting::empty_line()
 slice-set-from-lines : tie.Need-slice-set-from-lines Inv-loop μ-loop
 slice-set-from-lines c = omega (arith, written-length _ _ _ _ (c .before .before .loop .inv .1) (omega arith))
 
+-- m += 1
 add-m : tie.Need-add-m Inv-loop μ-loop
 add-m c = omega arith
 
@@ -37,6 +40,7 @@ loop-less c = omega arith
 loop-again : tie.Need-loop-again Inv-loop μ-loop
 loop-again c = (omega arith, written-next _ _ _ _ (c .before .before .loop .inv .1) _ (omega arith) (c .empty-line .ensures))
 
+-- lines: &mut [Line]
 same-length : tie.Need-same-length Inv-loop μ-loop
 same-length c = written-length _ _ _ _ (c .before .loop .inv .1) (omega arith)
 

@@ -60,9 +60,11 @@ module _ (c : tie.After-entering) where
   abbrev shared : Num
   shared = result (start read .pre .share-is) (share-under (start read .pre .kept .hour-kept) (i read) (start read .pre .there))
 
+-- formula::deviation::entering(kind, deviation) + share
 add-result : tie.Need-add-result
 add-result c = fits (entered c :+ shared c) tt
 
+-- price * (formula::deviation::entering(kind, deviation) + share)
 mul-result : tie.Need-mul-result
 mul-result c = fits (priced c :* (entered c :+ shared c)) tt
 

@@ -22,9 +22,11 @@ abbrev μ-loop : tie.MeasureT-loop
 loop-holds : tie.Need-loop-holds Inv-loop μ-loop
 loop-holds c = none-filled (c .pre .1)
 
+-- the offset of lines[m]
 mul-charge-of : tie.Need-mul-charge-of Inv-loop μ-loop
 mul-charge-of c = omega arith
 
+-- lines[m]
 shared-slice-copy-out-charge-of : tie.Need-shared-slice-copy-out-charge-of Inv-loop μ-loop
 shared-slice-copy-out-charge-of c = omega arith
 
@@ -32,12 +34,15 @@ charge-of-requires : tie.Need-charge-of-requires Inv-loop μ-loop
 unfolding emptyLine
 charge-of-requires c κs = let t = c .before .before in t .before .pre .2 (t .loop .m) (omega arith)
 
+-- the offset of charges[m]
 mul-t10 : tie.Need-mul-t10 Inv-loop μ-loop
 mul-t10 c = omega (arith, place-there (c .before .before .before .loop .inv) (omega arith))
 
+-- charges[m] = formula::posting::charge_of(lines[m])
 slice-set-from-charges : tie.Need-slice-set-from-charges Inv-loop μ-loop
 slice-set-from-charges c = place-there (c .before .before .before .loop .inv) (omega arith)
 
+-- m += 1
 add-m : tie.Need-add-m Inv-loop μ-loop
 add-m c = omega arith
 
@@ -48,6 +53,7 @@ loop-again : tie.Need-loop-again Inv-loop μ-loop
 unfolding emptyLine
 loop-again c = next-filled (c .before .before .before .loop .inv) (omega arith) (read-back (sfits-of (c .charge-of .ok)) ∙ c .charge-of .ensures)
 
+-- charges: &mut [i64]
 same-length : tie.Need-same-length Inv-loop μ-loop
 same-length c = filled-length (c .before .loop .inv)
 

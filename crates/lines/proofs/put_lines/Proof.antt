@@ -116,21 +116,27 @@ module _ (c : tie.After-area-of Inv-loop μ-loop) where
   price-is : getD (headed (at turn) .prices) (c .area-of .result) (pos 0) ≡ price hour (areaOf hour (i turn))
   price-is = head-price (start (at turn) .pre .0) (c .area-of .result) area-there ∙ ap (price hour) (c .area-of .ensures)
 
+-- the offset of head.prices[area]
 mul-grains : tie.Need-mul-grains Inv-loop μ-loop
 mul-grains c = omega (arith, area-few c)
 
+-- head.prices[area]
 element-copy-out-grains : tie.Need-element-copy-out-grains Inv-loop μ-loop
 element-copy-out-grains c = area-few c
 
+-- the offset of deviations[i]
 mul-grains-2 : tie.Need-mul-grains-2 Inv-loop μ-loop
 mul-grains-2 c = omega (arith, in-deviations (turn (c .before)))
 
+-- deviations[i]
 shared-slice-copy-out-grains : tie.Need-shared-slice-copy-out-grains Inv-loop μ-loop
 shared-slice-copy-out-grains c = in-deviations (turn (c .before))
 
+-- the offset of shares[i]
 mul-grains-3 : tie.Need-mul-grains-3 Inv-loop μ-loop
 mul-grains-3 c = omega (arith, in-shares (turn (c .before .before)))
 
+-- shares[i]
 shared-slice-copy-out-grains-2 : tie.Need-shared-slice-copy-out-grains-2 Inv-loop μ-loop
 shared-slice-copy-out-grains-2 c = in-shares (turn (c .before .before))
 
@@ -168,6 +174,7 @@ post-line-requires c κs =
     let t = turn (areaed read) in
     can-post (kept (at t)) (old (at t)) (i t) (there t) (posted (at t)) (member-is read) (grains-is read) (start (at t) .pre .2)
 
+-- i += 1
 add-i : tie.Need-add-i Inv-loop μ-loop
 add-i c = omega arith
 
@@ -183,6 +190,7 @@ loop-again c =
           ∙ next-lines (kept (at t)) before (i t) (there t) (at t .loop .inv .1 before e) (member-is read) (grains-is read),
     )
 
+-- lines: &mut [Line]
 same-length : tie.Need-same-length Inv-loop μ-loop
 same-length c = as-long (c .before)
 

@@ -26,12 +26,15 @@ ufe-figures-requires c κs = (start c .pre .1, tallied c)
 area-without-demand-requires : tie.Need-area-without-demand-requires
 area-without-demand-requires c κs = (start (c .before) .pre .1, tallied (c .before), c .ufe-figures .ensures)
 
+-- Found::At(a)
 enum-known-a : tie.Need-enum-known-a
 enum-known-a c = search needs
 
+-- answer::refused(Answer::BadArea(a))
 refused-requires : tie.Need-refused-requires
 refused-requires c κs = tt
 
+-- return answer::refused(Answer::BadArea(a))
 returns : tie.Need-returns
 returns c =
     let searched = c .before .before .before .before in
@@ -40,6 +43,7 @@ returns c =
     rw (c .refused .ensures)
     (record { says = λ b l. area-refused (s .args .file .now) b (s .pre .0) (s .pre .1 .kept) broken })
 
+-- no Found::At(a)
 enum-told : tie.Need-enum-told
 enum-told c = search needs
 
@@ -48,6 +52,7 @@ enum-told c = search needs
 too-short-requires : tie.Need-too-short-requires
 too-short-requires c κs = tt
 
+-- answer::refused(Answer::TooShort)
 refused-requires-2 : tie.Need-refused-requires-2
 refused-requires-2 c κs = tt
 
@@ -65,6 +70,7 @@ module _ (c : tie.After-too-short) where
   areas-pass : badArea (hourIn (begun .args .file .now)) ≡ none
   areas-pass = sym (searched .area-without-demand .ensures) ∙ ap foundAt (c .before .enum-told .given .1)
 
+-- return answer::refused(Answer::TooShort)
 returns-2 : tie.Need-returns-2
 returns-2 c =
     let t = c .before .before in
@@ -74,6 +80,7 @@ returns-2 c =
           (sym (t .too-short .ensures) ∙ c .before .if1 .taken);
     })
 
+-- Settled { answer: Answer::Accepted, ufe: figures }
 returns-3 : tie.Need-returns-3
 returns-3 c =
     let t = c .before in

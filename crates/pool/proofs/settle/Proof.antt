@@ -24,6 +24,7 @@ use Rattle.pool.proofs.settle.Proof.Tie as tie
 examine-requires : tie.Need-examine-requires
 examine-requires c κs = tt
 
+-- let Answer::Accepted = examined
 enum-told : tie.Need-enum-told
 enum-told c = search needs
 
@@ -41,6 +42,7 @@ module _ (c : tie.After-examine) where
   abbrev lent : Buffers
   lent = buffers (start .args .charges .now) (start .args .shares .now) (start .args .deviations .now) (start .args .lines .now)
 
+-- return answer::refused(examined)
 returns : tie.Need-returns
 returns c =
     let e = c .before .before in
@@ -77,9 +79,11 @@ module _ (c : tie.After-answered) where
   said : Says (file whole) (lent whole) (c .answered .result)
   said = c .answered .ensures .says (lent whole) (record { of-charges = refl; of-lines = refl; of-shares = refl; of-deviations = refl })
 
+-- let Answer::Accepted = answer
 enum-told-2 : tie.Need-enum-told-2
 enum-told-2 c = search needs
 
+-- return settled
 returns-2 : tie.Need-returns-2
 returns-2 c =
     let a = c .before in
@@ -144,18 +148,23 @@ put-charges-requires c κs =
 abbrev charged : tie.After-charges → tie.After-put-charges
 charged c = c .before
 
+-- lines: &mut [Line]
 same-length : tie.Need-same-length
 same-length c = search needs
 
+-- charges: &mut [i64]
 same-length-2 : tie.Need-same-length-2
 same-length-2 c = search needs
 
+-- shares: &mut [i64]
 same-length-3 : tie.Need-same-length-3
 same-length-3 c = search needs
 
+-- deviations: &mut [i64]
 same-length-4 : tie.Need-same-length-4
 same-length-4 c = search needs
 
+-- settled, at the end
 returns-3 : tie.Need-returns-3
 returns-3 c =
     let q = charged c in

@@ -17,18 +17,22 @@ use Rattle.pool.proofs.settle_unlined.Proof.Tie as tie
 empty-line-requires : tie.Need-empty-line-requires
 empty-line-requires c κs = tt
 
+-- &mut lines
 slice-aggregate-settle : tie.Need-slice-aggregate-settle
 slice-aggregate-settle c = search needs
 
 settle-requires : tie.Need-settle-requires
 settle-requires c κs = tt
 
+-- charges: &mut [i64]
 same-length : tie.Need-same-length
 same-length c = search needs
 
+-- shares: &mut [i64]
 same-length-2 : tie.Need-same-length-2
 same-length-2 c = search needs
 
+-- deviations: &mut [i64]
 same-length-3 : tie.Need-same-length-3
 same-length-3 c = search needs
 

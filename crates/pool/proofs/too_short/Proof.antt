@@ -4,14 +4,17 @@ use borrow.Author.Tests.{lt-ltb, le-ltb}
 use Rattle.pool.proofs.too_short.Statement.{statement}
 use Rattle.pool.proofs.too_short.Tie as tie
 
+-- if charges < members { return true; }
 returns : tie.Need-returns
 returns c = let a = c .before .args in rw (lt-ltb (a .charges) (a .head .members) (omega arith))
 
+-- if lines < members { return true; }
 returns-2 : tie.Need-returns-2
 returns-2 c =
     let a = c .before .before .args in
     rw (le-ltb (a .charges) (a .head .members) (omega arith), lt-ltb (a .lines) (a .head .members) (omega arith))
 
+-- if shares < records { return true; }
 returns-3 : tie.Need-returns-3
 returns-3 c =
     let a = c .before .before .before .args in
@@ -21,6 +24,7 @@ returns-3 c =
       lt-ltb (a .shares) (a .head .records) (omega arith),
     )
 
+-- deviations < records
 returns-4 : tie.Need-returns-4
 returns-4 c =
     let a = c .before .before .before .args in

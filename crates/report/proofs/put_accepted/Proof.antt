@@ -28,6 +28,7 @@ line-1 c =
 head-word-requires : tie.Need-head-word-requires
 head-word-requires c κs = search needs
 
+-- hour::head_word(file, 8) as u64
 cast-hour : tie.Need-cast-hour
 cast-hour c = search needs
 
@@ -50,6 +51,7 @@ put-members-requires c κs =
       omega (arith, line-1 p .next-is, p .put-first-line .kept .0, line, kept .members-most, s .pre .1),
     )
 
+-- out: &mut [u8]
 same-length : tie.Need-same-length
 same-length c = search needs
 

@@ -11,15 +11,18 @@ use Rattle.report.proofs.put_answered.Tie as tie
 no-other : OneOf (1 ∷ 2 ∷ 3 ∷ 4 ∷ 5 ∷ 6 ∷ 7 ∷ 8 ∷ 9 ∷ 10 ∷ 11 ∷ []) 0 → ⊥
 no-other = miss (1 ∷ 2 ∷ 3 ∷ 4 ∷ 5 ∷ 6 ∷ 7 ∷ 8 ∷ 9 ∷ 10 ∷ 11 ∷ []) 0 tt
 
+-- let Answer::Accepted = answer
 enum-told : tie.Need-enum-told
 enum-told c = search needs
 
 put-refused-requires : tie.Need-put-refused-requires
 put-refused-requires c κs = search needs
 
+-- out, at the first return
 same-length : tie.Need-same-length
 same-length c = search needs
 
+-- return put_refused(answer, out)
 returns : tie.Need-returns
 returns c =
     let p = c .before .before in
@@ -32,9 +35,11 @@ put-accepted-requires c κs =
     let s = t .before .before .before .before in
     (s .pre .0 .charged (t .enum-told .given .1), s .pre .1)
 
+-- out, at the end
 same-length-2 : tie.Need-same-length-2
 same-length-2 c = search needs
 
+-- put_accepted(file, charges, out)
 returns-2 : tie.Need-returns-2
 returns-2 c =
     let p = c .before .before in

@@ -49,11 +49,13 @@ loop-holds c =
     let s = c .before .before in
     (omega arith, head-members (s .pre .0), put-none (hourIn (s .args .file .now)) (s .args .out .now) (s .args .at))
 
+-- the offset of charges[m]
 mul-put-member : tie.Need-mul-put-member Inv-loop μ-loop
 mul-put-member c =
     let s = c .before .before .before .before .before in
     omega (arith, s .pre .0 .kept .hour-kept .members-most, c .before .before .loop .inv .1)
 
+-- charges[m]
 shared-slice-copy-out-put-member : tie.Need-shared-slice-copy-out-put-member Inv-loop μ-loop
 shared-slice-copy-out-put-member c =
     let s = c .before .before .before .before .before in
@@ -70,6 +72,7 @@ put-member-requires c κs =
       rw (held (s .pre .1) (l .m) there) (omega (arith, charge-under (s .pre .0 .kept .hour-kept) (l .m) .under)),
     )
 
+-- m += 1
 add-m : tie.Need-add-m Inv-loop μ-loop
 add-m c = omega (arith, c .before .before .before .before .before .before .loop .inv .0)
 
@@ -87,6 +90,7 @@ loop-again c =
       put-as (next-line h (l .m)) (put-on (l .inv .2) (rw (held (s .pre .1) (l .m) there) at (c .before .before .put-member .ensures))),
     )
 
+-- out: &mut [u8]
 same-length : tie.Need-same-length Inv-loop μ-loop
 same-length c = put-length (c .before .loop .inv .2)
 

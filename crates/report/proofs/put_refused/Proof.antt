@@ -13,6 +13,7 @@ place-of-requires c κs = search needs
 put-refusal-requires : tie.Need-put-refusal-requires
 put-refusal-requires c κs = search needs
 
+-- out: &mut [u8]
 same-length : tie.Need-same-length
 same-length c = search needs
 

@@ -4,15 +4,18 @@ use Rattle.report.proofs.Settled.{answered}
 use Rattle.report.proofs.settle_charges.Statement.{statement}
 use Rattle.report.proofs.settle_charges.Tie as tie
 
+-- &mut shares
 slice-aggregate-settle-unlined : tie.Need-slice-aggregate-settle-unlined
 slice-aggregate-settle-unlined c = search needs
 
+-- &mut deviations
 slice-aggregate-settle-unlined-2 : tie.Need-slice-aggregate-settle-unlined-2
 slice-aggregate-settle-unlined-2 c = search needs
 
 settle-unlined-requires : tie.Need-settle-unlined-requires
 settle-unlined-requires c κs = tt
 
+-- charges: &mut [i64]
 same-length : tie.Need-same-length
 same-length c = search needs
 

@@ -11,19 +11,23 @@ use Rattle.printing.proofs.Putting.{put-first}
 use Rattle.report.proofs.statement.Statement.{statement}
 use Rattle.report.proofs.statement.Tie as tie
 
+-- return 0
 returns : tie.Need-returns
 unfolding stated
 returns c = let s = c .before .before .before in rw (lt-ltb (length (s .args .out .now)) 615 (omega (arith, c .if1 .taken))) (refl, refl)
 
+-- &mut charges
 slice-aggregate-put-settled : tie.Need-slice-aggregate-put-settled
 slice-aggregate-put-settled c = search needs
 
 put-settled-requires : tie.Need-put-settled-requires
 put-settled-requires c κs = search needs
 
+-- out: &mut [u8]
 same-length : tie.Need-same-length
 same-length c = search needs
 
+-- put_settled(file, &mut charges, out)
 returns-2 : tie.Need-returns-2
 unfolding stated
 returns-2 c =

@@ -31,33 +31,43 @@ module _ (c : tie.At-loop Inv-loop μ-loop) where
 loop-holds : tie.Need-loop-holds Inv-loop μ-loop
 loop-holds c = (omega arith, sym (sum-none _), sym (replacing-none _ (c .args .rests .now)), sym (replacing-none _ (c .args .out .now)))
 
+-- the offset of demands[i]
 mul-product : tie.Need-mul-product Inv-loop μ-loop
 mul-product c = omega arith
 
+-- demands[i]
 shared-slice-read-product : tie.Need-shared-slice-read-product Inv-loop μ-loop
 shared-slice-read-product c = omega arith
 
+-- demands[i] * size
 mul-product-2 : tie.Need-mul-product-2 Inv-loop μ-loop
 mul-product-2 c = omega (arith, c .before .before .before .pre .products-fit (c .before .before .loop .i) (omega arith))
 
+-- product / t
 div-whole : tie.Need-div-whole Inv-loop μ-loop
 div-whole c = c .before .before .before .pre .some
 
+-- the offset of out[i]
 mul-out : tie.Need-mul-out Inv-loop μ-loop
 mul-out c = omega arith
 
+-- out[i] = whole
 slice-write-out : tie.Need-slice-write-out Inv-loop μ-loop
 slice-write-out c = omega (arith, out-kept (c .before .before), c .before .before .before .pre .room)
 
+-- product % t
 rem-rests : tie.Need-rem-rests Inv-loop μ-loop
 rem-rests c = c .before .before .before .pre .some
 
+-- the offset of rests[i]
 mul-rests : tie.Need-mul-rests Inv-loop μ-loop
 mul-rests c = omega arith
 
+-- rests[i] = product % t
 slice-write-rests : tie.Need-slice-write-rests Inv-loop μ-loop
 slice-write-rests c = omega (arith, rests-kept (c .before .before), c .before .before .before .pre .places)
 
+-- handed += whole
 add-handed : tie.Need-add-handed Inv-loop μ-loop
 add-handed c =
     let start = c .before .before .before in
@@ -69,6 +79,7 @@ add-handed c =
       start .fits .size,
     )
 
+-- i += 1
 add-i : tie.Need-add-i Inv-loop μ-loop
 add-i c = omega arith
 
@@ -85,12 +96,15 @@ loop-again c =
       rw (a .inv .3, whole-is (start .pre) (a .i)) (replacing-next _ (a .i) (start .args .out .now) (omega (arith, start .pre .room))),
     )
 
+-- size - handed
 sub-result : tie.Need-sub-result Inv-loop μ-loop
 sub-result c = omega (arith, handed-within (c .before .before .pre) (c .before .loop .i) (omega arith))
 
+-- rests: &mut [u64]
 same-length : tie.Need-same-length Inv-loop μ-loop
 same-length c = rests-kept (c .before)
 
+-- out: &mut [u64]
 same-length-2 : tie.Need-same-length-2 Inv-loop μ-loop
 same-length-2 c = out-kept (c .before)
 

@@ -39,26 +39,33 @@ loop-holds c = (omega arith, none-yet (c .before .before .pre))
 largest-requires : tie.Need-largest-requires Inv-loop μ-loop
 largest-requires c κs = some-place (c .before .before .before .before .before .pre) (c .before .before .loop .inv .1) (omega arith)
 
+-- the offset of rests[best]
 mul-rests : tie.Need-mul-rests Inv-loop μ-loop
 mul-rests c = omega (arith, best-in c, start c .good .0 .1)
 
+-- rests[best] = 0
 slice-write-rests : tie.Need-slice-write-rests Inv-loop μ-loop
 slice-write-rests c = in-rests c
 
+-- the offset of out[best]
 mul-out : tie.Need-mul-out Inv-loop μ-loop
 mul-out c = mul-rests c
 
+-- out[best]
 slice-read-out : tie.Need-slice-read-out Inv-loop μ-loop
 slice-read-out c = in-out (c .before)
 
+-- out[best] + 1
 add-out : tie.Need-add-out Inv-loop μ-loop
 add-out c =
     let after = c .before in
     omega (arith, grows (start after .pre) (turn after .loop .inv .1) (after .largest .result) (after .largest .ensures) (omega arith))
 
+-- out[best] += 1
 slice-write-out : tie.Need-slice-write-out Inv-loop μ-loop
 slice-write-out c = in-out (c .before)
 
+-- k += 1
 add-k : tie.Need-add-k Inv-loop μ-loop
 add-k c = omega arith
 
@@ -72,9 +79,11 @@ loop-again c =
       handed-one (start after .pre) (turn after .loop .inv .1) (after .largest .result) (after .largest .ensures) (omega arith),
     )
 
+-- rests: &mut [u64]
 same-length : tie.Need-same-length Inv-loop μ-loop
 same-length c = rests-length (c .before .before .before .before .pre) (c .before .loop .inv .1)
 
+-- out: &mut [u64]
 same-length-2 : tie.Need-same-length-2 Inv-loop μ-loop
 same-length-2 c = out-length (c .before .before .before .before .pre) (c .before .loop .inv .1)
 

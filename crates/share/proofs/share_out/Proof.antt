@@ -12,9 +12,11 @@ hand-out-requires c κs =
     let d = c .before .before .before .before .before .before in
     can-hand-out (d .before .before .before .before .before .before .pre) (d .divide .ensures)
 
+-- rests: &mut [u64]
 same-length : tie.Need-same-length
 same-length c = search needs
 
+-- out: &mut [u64]
 same-length-2 : tie.Need-same-length-2
 same-length-2 c = search needs
 

@@ -14,9 +14,11 @@ total-requires c κs = c .before .before .pre .sum-fits
 clear-requires : tie.Need-clear-requires
 clear-requires c κs = search needs
 
+-- out, at the first return
 same-length : tie.Need-same-length
 same-length c = search needs
 
+-- the first return: t == 0
 returns : tie.Need-returns
 returns c =
     let start = c .before .before .before .before .before .before .before .before in
@@ -24,9 +26,11 @@ returns c =
     c .before .before .clear .ensures
     ∙ nothing-shared (start .pre) (added .result) (added .ensures) (c .before .before .before .before .if1 .taken)
 
+-- &mut rests[..n]
 array-borrow-prefix-rests : tie.Need-array-borrow-prefix-rests
 array-borrow-prefix-rests c = omega (arith, c .before .before .before .before .pre .few)
 
+-- the length of &mut rests[..n]
 slice-aggregate-share-out : tie.Need-slice-aggregate-share-out
 slice-aggregate-share-out c =
     let start = c .before .before .before .before .before in
@@ -39,9 +43,11 @@ share-out-requires c κs =
     can-divide (start .pre) (added .result) (added .ensures) (c .before .before .if1 .left) _
     (length-take-le (length (start .args .demands .now)) _ (start .pre .few))
 
+-- out, at the end
 same-length-2 : tie.Need-same-length-2
 same-length-2 c = search needs
 
+-- the end: the demands are shared out
 returns-2 : tie.Need-returns-2
 returns-2 c = search needs
 

@@ -39,18 +39,23 @@ loop-holds : tie.Need-loop-holds Inv-loop μ-loop
 unfolding firstBelow
 loop-holds c = (omega arith, refl)
 
+-- the offset of t.demand[a]
 mul-if1 : tie.Need-mul-if1 Inv-loop μ-loop
 mul-if1 c = omega (arith, few c)
 
+-- t.demand[a]
 element-copy-out-if1 : tie.Need-element-copy-out-if1 Inv-loop μ-loop
 element-copy-out-if1 c = omega (arith, few c)
 
+-- the offset of ufe[a]
 mul-if2 : tie.Need-mul-if2 Inv-loop μ-loop
 mul-if2 c = omega (arith, few (c .before .before))
 
+-- ufe[a]
 array-copy-out-if2 : tie.Need-array-copy-out-if2 Inv-loop μ-loop
 array-copy-out-if2 c = omega (arith, few (c .before .before))
 
+-- return Found::At(a)
 returns : tie.Need-returns Inv-loop μ-loop
 unfolding badArea
 returns c =
@@ -61,6 +66,7 @@ returns c =
     let broken = nobody-demands (start at .pre .1) (start at .pre .2) (at .loop .a) there (demanded .if1 .taken) (c .if2 .taken) in
     sym (first-hit (noDemand h) (at .loop .a) (Record.areas h) (at .loop .inv .1) broken there)
 
+-- a += 1
 add-a : tie.Need-add-a Inv-loop μ-loop
 add-a c = omega arith
 
@@ -78,6 +84,7 @@ loop-again c =
     (c .if1 .came) in
     (omega arith, first-next (noDemand (hourIn (start at .args .file .now))) (at .loop .a) (at .loop .inv .1) whole)
 
+-- Found::Nothing
 returns-2 : tie.Need-returns-2 Inv-loop μ-loop
 unfolding badArea
 returns-2 c =

@@ -76,6 +76,7 @@ module _ (c : tie.After-accounted Inv-loop μ-loop) where
 post-requires : tie.Need-post-requires Inv-loop μ-loop
 post-requires c κs = let r = c .before in has-room (up-to (turn r)) (area-is r) (demand-is r) (energy-is r)
 
+-- i += 1
 add-i : tie.Need-add-i Inv-loop μ-loop
 add-i c = omega arith
 

@@ -38,12 +38,15 @@ loop-holds c = none-filled (c .before .pre .0 .kept .hour-kept .areas-most)
 ufe-of-requires : tie.Need-ufe-of-requires Inv-loop μ-loop
 ufe-of-requires c κs = (start (c .before) .pre .1, omega (arith, counted (c .before)))
 
+-- the offset of ufe[a]
 mul-ufe : tie.Need-mul-ufe Inv-loop μ-loop
 mul-ufe c = omega (arith, few (c .before .before), counted (c .before .before))
 
+-- ufe[a] = ufe_of(file, t, a)
 array-set-from-ufe : tie.Need-array-set-from-ufe Inv-loop μ-loop
 array-set-from-ufe c = omega (arith, few (c .before .before), counted (c .before .before))
 
+-- a += 1
 add-a : tie.Need-add-a Inv-loop μ-loop
 add-a c = omega arith
 

@@ -14,27 +14,35 @@ use Rattle.tally.proofs.Tallies.{energy-under, ufe-is}
 use Rattle.tally.proofs.ufe_of.Statement.{statement}
 use Rattle.tally.proofs.ufe_of.Tie as tie
 
+-- 4 * a, of the tie in
 mul-head-word : tie.Need-mul-head-word
 mul-head-word c = omega arith
 
+-- 17 + 4 * a
 add-head-word : tie.Need-add-head-word
 add-head-word c = omega arith
 
+-- hour::head_word(file, 17 + 4 * a)
 head-word-requires : tie.Need-head-word-requires
 head-word-requires c κs = tt
 
+-- hour::head_word(file, 17 + 4 * a) as i64
 cast-tie-in : tie.Need-cast-tie-in
 cast-tie-in c = omega arith
 
+-- 4 * a, of the tie out
 mul-head-word-2 : tie.Need-mul-head-word-2
 mul-head-word-2 c = omega arith
 
+-- 18 + 4 * a
 add-head-word-2 : tie.Need-add-head-word-2
 add-head-word-2 c = omega arith
 
+-- hour::head_word(file, 18 + 4 * a)
 head-word-requires-2 : tie.Need-head-word-requires-2
 head-word-requires-2 c κs = tt
 
+-- hour::head_word(file, 18 + 4 * a) as i64
 cast-tie-out : tie.Need-cast-tie-out
 cast-tie-out c = omega arith
 
@@ -59,18 +67,23 @@ module _ (c : tie.After-head-word2) where
   abbrev whole : Num
   whole = # (pos 10000) :* ties :+ at (energy-under (start .pre .0) (start .args .a) (start .pre .1))
 
+-- tie_in - tie_out
 sub-result : tie.Need-sub-result
 sub-result c = fits (ties c) tt
 
+-- 10000 * (tie_in - tie_out)
 mul-result : tie.Need-mul-result
 mul-result c = fits (# (pos 10000) :* ties c) tt
 
+-- the offset of t.energy[a]
 mul-result-2 : tie.Need-mul-result-2
 mul-result-2 c = search needs
 
+-- t.energy[a]
 element-copy-out-result : tie.Need-element-copy-out-result
 element-copy-out-result c = search needs
 
+-- 10000 * (tie_in - tie_out) + t.energy[a]
 add-result : tie.Need-add-result
 add-result c = fits (whole (c .before)) tt
 

@@ -35,12 +35,15 @@ loop-holds c = none-filled (c .before .pre .1)
 deviation-of-requires : tie.Need-deviation-of-requires Inv-loop μ-loop
 deviation-of-requires c κs = (start (c .before) .pre .0 .kept, omega (arith, counted (c .before)))
 
+-- the offset of out[i]
 mul-t8 : tie.Need-mul-t8 Inv-loop μ-loop
 mul-t8 c = omega (arith, filled-length (turn c .loop .inv), counted (turn c))
 
+-- out[i] = deviation_of(file, i)
 slice-set-from-out : tie.Need-slice-set-from-out Inv-loop μ-loop
 slice-set-from-out c = place-there (turn c .loop .inv) (omega (arith, counted (turn c)))
 
+-- i += 1
 add-i : tie.Need-add-i Inv-loop μ-loop
 add-i c = omega arith
 
@@ -51,6 +54,7 @@ loop-again : tie.Need-loop-again Inv-loop μ-loop
 loop-again c = next-filled (turn c .loop .inv) (omega (arith, counted (turn c)))
     (read-back (sfits-of (c .deviation-of .ok)) ∙ c .deviation-of .ensures)
 
+-- out: &mut [i64]
 same-length : tie.Need-same-length Inv-loop μ-loop
 same-length c = filled-length (c .before .loop .inv)
 

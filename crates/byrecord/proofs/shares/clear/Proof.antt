@@ -16,12 +16,15 @@ abbrev μ-loop : tie.MeasureT-loop
 loop-holds : tie.Need-loop-holds Inv-loop μ-loop
 loop-holds c = none-filled (c .pre)
 
+-- the offset of out[i]
 mul-out : tie.Need-mul-out Inv-loop μ-loop
 mul-out c = omega (arith, filled-length (c .before .loop .inv))
 
+-- out[i] = 0
 slice-set-of-out : tie.Need-slice-set-of-out Inv-loop μ-loop
 slice-set-of-out c = place-there (c .before .loop .inv) (omega arith)
 
+-- i += 1
 add-i : tie.Need-add-i Inv-loop μ-loop
 add-i c = omega arith
 
@@ -31,6 +34,7 @@ loop-less c = omega arith
 loop-again : tie.Need-loop-again Inv-loop μ-loop
 loop-again c = next-filled (c .before .loop .inv) (omega arith) refl
 
+-- out: &mut [i64]
 same-length : tie.Need-same-length Inv-loop μ-loop
 same-length c = filled-length (c .before .loop .inv)
 

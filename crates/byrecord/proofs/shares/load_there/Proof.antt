@@ -27,6 +27,7 @@ kind-in-requires c κs = part-length (own (c .before .before))
 is-load-requires : tie.Need-is-load-requires
 is-load-requires c κs = tt
 
+-- return formula::entry::is_load(hour::kind_in(words))
 returns : tie.Need-returns
 unfolding inArea
 returns c =
@@ -35,6 +36,7 @@ returns c =
     rw (in-area part (tested .area-in .ensures) (c .before .before .if1 .taken)) (
     c .is-load .ensures ∙ ap isLoad (c .before .kind-in .ensures ∙ part-kind part))
 
+-- false
 returns-2 : tie.Need-returns-2
 unfolding inArea
 returns-2 c = rw (elsewhere (own (c .before .before)) (c .before .area-in .ensures) (c .if1 .left))

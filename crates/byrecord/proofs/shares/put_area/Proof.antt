@@ -50,6 +50,7 @@ put-share-requires c κs =
       λ t. rw (inv .counted) (pre .small (turn c .loop .i) there t),
     )
 
+-- i += 1
 add-i : tie.Need-add-i Inv-loop μ-loop
 add-i c = omega arith
 
@@ -61,6 +62,7 @@ loop-again c =
     let put = c .before .put-share .ensures in
     next-share (turn (asked c) .loop .inv) (record-there (asked c)) (put .0) (put .1)
 
+-- out: &mut [i64]
 same-length : tie.Need-same-length Inv-loop μ-loop
 same-length c = filled-length (c .before .loop .inv .filled)
 

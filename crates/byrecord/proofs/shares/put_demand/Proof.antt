@@ -29,18 +29,23 @@ demand-of-requires c κs = let begun = start (c .before) in (begun .pre .0, begu
 cast-demands : tie.Need-cast-demands
 cast-demands c = omega arith
 
+-- the offset of demands[loads]
 mul-demands : tie.Need-mul-demands
 mul-demands c = omega (arith, start (c .before .before) .pre .2)
 
+-- demands[loads] = hour::demand_of(file, i) as u64
 slice-write-demands : tie.Need-slice-write-demands
 slice-write-demands c = start (c .before .before) .pre .2
 
+-- loads + 1
 add-result : tie.Need-add-result
 add-result c = omega (arith, start (c .before .before) .pre .2)
 
+-- demands: &mut [u64]
 same-length : tie.Need-same-length
 same-length c = let begun = start (c .before .before) in length-set (begun .args .demands .now) (begun .args .loads) (c .demand-of .result)
 
+-- return loads + 1
 returns : tie.Need-returns
 returns c =
     let tested = c .before .before in
@@ -51,6 +56,7 @@ returns c =
           (c .demand-of .ensures ∙ load-demands _ (begun .args .a) (begun .args .i) t)),
     )
 
+-- loads
 returns-2 : tie.Need-returns-2
 returns-2 c =
     let f : load (c .before) ≡ false = sym (c .before .load-there .ensures) ∙ c .if1 .left in

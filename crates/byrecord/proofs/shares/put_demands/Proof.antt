@@ -37,6 +37,7 @@ module _ (c : tie.After-put-demand-arg Inv-loop μ-loop) where
 put-demand-requires : tie.Need-put-demand-requires Inv-loop μ-loop
 put-demand-requires c κs = (start (turn c) .pre .0, record-there c, place-next (turn c .loop .inv) (below c))
 
+-- i += 1
 add-i : tie.Need-add-i Inv-loop μ-loop
 add-i c = omega (arith, below (asked c))
 
@@ -48,6 +49,7 @@ loop-again c =
     let put = c .before .before .put-demand .ensures in
     next-demand (turn (asked c) .loop .inv) (record-there (asked c)) (put .0) (put .1)
 
+-- demands: &mut [u64]
 same-length : tie.Need-same-length Inv-loop μ-loop
 same-length c = room-kept (c .before .loop .inv)
 

@@ -27,9 +27,11 @@ module _ (c : tie.After-load-there) where
   loads-there : c .load-there .result ≡ true → load ≡ true
   loads-there t = sym (c .load-there .ensures) ∙ t
 
+-- the offset of sizes[loads]
 mul-with-sign-of : tie.Need-mul-with-sign-of
 mul-with-sign-of c = omega (arith, start (c .before) .pre .3)
 
+-- sizes[loads]
 shared-slice-read-with-sign-of : tie.Need-shared-slice-read-with-sign-of
 shared-slice-read-with-sign-of c = start (c .before .before) .pre .3
 
@@ -37,18 +39,23 @@ with-sign-of-requires : tie.Need-with-sign-of-requires
 with-sign-of-requires c κs =
     let tested = c .before .before in start tested .pre .4 (loads-there tested (c .before .if1 .taken))
 
+-- the offset of out[i]
 mul-t13 : tie.Need-mul-t13
 mul-t13 c = omega (arith, start (c .before .before .before) .pre .2)
 
+-- out[i] = sign::with_sign_of(figure, sizes[loads])
 slice-set-from-out : tie.Need-slice-set-from-out
 slice-set-from-out c = start (c .before .before .before) .pre .2
 
+-- loads + 1
 add-result : tie.Need-add-result
 add-result c = omega (arith, start (c .before .before .before) .pre .3)
 
+-- out: &mut [i64]
 same-length : tie.Need-same-length
 same-length c = let begun = start (c .before .before .before) in length-set (begun .args .out .now) (begun .args .i) _
 
+-- return loads + 1
 returns : tie.Need-returns
 returns c =
     let tested = c .before .before .before in
@@ -61,6 +68,7 @@ returns c =
           ∙ ap (λ u. withSignOf u (getD (begun .args .sizes .now) (begun .args .loads) 0)) (read-back (begun .fits .figure)))),
     )
 
+-- loads
 returns-2 : tie.Need-returns-2
 returns-2 c =
     let f : load (c .before) ≡ false = sym (c .before .load-there .ensures) ∙ c .if1 .left in

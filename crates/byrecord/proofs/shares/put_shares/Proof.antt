@@ -23,6 +23,7 @@ start c = c .before .before .before
 array-borrow-prefix-demands : tie.Need-array-borrow-prefix-demands
 array-borrow-prefix-demands c = few (start (c .before))
 
+-- the length of &mut demands[..n]
 slice-aggregate-share-areas : tie.Need-slice-aggregate-share-areas
 slice-aggregate-share-areas c = sym (length-take-le _ _ (few (start (c .before .before))))
 
@@ -30,6 +31,7 @@ slice-aggregate-share-areas c = sym (length-take-le _ _ (few (start (c .before .
 array-borrow-prefix-sizes : tie.Need-array-borrow-prefix-sizes
 array-borrow-prefix-sizes c = few (start (c .before .before))
 
+-- the length of &mut sizes[..n]
 slice-aggregate-share-areas-2 : tie.Need-slice-aggregate-share-areas-2
 slice-aggregate-share-areas-2 c = sym (length-take-le _ _ (few (start (c .before .before .before))))
 
@@ -46,6 +48,7 @@ share-areas-requires c κs =
 abbrev cleared : tie.After-share-areas → tie.After-clear
 cleared c = c .before .before .before .before .before
 
+-- out: &mut [i64]
 same-length : tie.Need-same-length
 same-length c = let shared = c .before .before .before in shared .share-areas .kept .1 .1 .1 .1 .1 .0 ∙ cleared shared .clear .kept .0
 

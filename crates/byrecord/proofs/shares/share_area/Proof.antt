@@ -17,6 +17,7 @@ use Rattle.byrecord.proofs.Areas.{nothing-to-write, Asked, loads-fit, s
 use Rattle.byrecord.proofs.shares.share_area.Statement.{statement}
 use Rattle.byrecord.proofs.shares.share_area.Tie as tie
 
+-- the first return: an area without UFE
 returns : tie.Need-returns
 returns c = nothing-to-write (c .before .before .before .before .pre) (c .if1 .taken)
 
@@ -45,9 +46,11 @@ module _ (c : tie.After-put-demands) where
 abbrev asking : tie.After-shares-arg2 → tie.After-put-demands
 asking c = c .before .before .before .before .before
 
+-- &demands[..loads]
 slice-reshare-prefix-shares : tie.Need-slice-reshare-prefix-shares
 slice-reshare-prefix-shares c = loads-fit (asked (c .before .before))
 
+-- the length of &demands[..loads]
 slice-aggregate-shares : tie.Need-slice-aggregate-shares
 slice-aggregate-shares c =
     let asking = c .before .before .before in sym (length-take-le (loads asking) (put asking) (loads-fit (asked asking)))
@@ -92,15 +95,19 @@ put-area-requires c κs = sized (asked (asked-at (answered c))) (shared (answere
 abbrev engine : tie.After-out → tie.After-shares
 engine c = answered (c .before .before)
 
+-- demands: &mut [u64]
 same-length : tie.Need-same-length
 same-length c = asked-at (engine c) .put-demands .kept .1 .1 .0
 
+-- sizes: &mut [u64]
 same-length-2 : tie.Need-same-length-2
 same-length-2 c = engine c .shares .kept .1 .1 .0
 
+-- out: &mut [i64]
 same-length-3 : tie.Need-same-length-3
 same-length-3 c = c .before .put-area .kept .1 .1 .1 .1 .0
 
+-- the end: an area with UFE
 returns-2 : tie.Need-returns-2
 returns-2 c =
     let begun = start (asked-at (engine c)) in

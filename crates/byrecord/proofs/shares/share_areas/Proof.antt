@@ -24,9 +24,11 @@ start c = c .before .before .before .before
 abbrev turn : tie.After-share-area-arg4 Inv-loop μ-loop → tie.At-loop Inv-loop μ-loop
 turn c = c .before .before .before .before .before
 
+-- the offset of figures[a]
 mul-share-area : tie.Need-mul-share-area Inv-loop μ-loop
 mul-share-area c = omega (arith, area-place (start (c .before) .pre .0) (c .before .loop .a) (omega arith))
 
+-- figures[a]
 array-copy-out-share-area : tie.Need-array-copy-out-share-area Inv-loop μ-loop
 array-copy-out-share-area c = area-place (start (c .before) .pre .0) (c .before .loop .a) (omega arith)
 
@@ -35,6 +37,7 @@ share-area-requires c κs =
     rw (read-back (sfits-of (c .before .before .before .share-area-arg .given)))
     (shared-so-far (start (turn c) .pre .0) (turn c .loop .inv) (omega arith))
 
+-- a += 1
 add-a : tie.Need-add-a Inv-loop μ-loop
 add-a c = omega arith
 
@@ -48,12 +51,15 @@ loop-again c =
     let kept = shared .share-area .kept .1 .1 .1 in
     next-area (start at .pre .0) (at .loop .inv) (omega arith) (shared .share-area .ensures) (kept .0) (kept .1 .0)
 
+-- demands: &mut [u64]
 same-length : tie.Need-same-length Inv-loop μ-loop
 same-length c = c .before .loop .inv .demands-room ∙ sym (start (c .before) .pre .0 .demands-room)
 
+-- sizes: &mut [u64]
 same-length-2 : tie.Need-same-length-2 Inv-loop μ-loop
 same-length-2 c = c .before .loop .inv .sizes-room ∙ sym (start (c .before) .pre .0 .sizes-room)
 
+-- out: &mut [i64]
 same-length-3 : tie.Need-same-length-3 Inv-loop μ-loop
 same-length-3 c = same-room (start (c .before) .pre .0) (c .before .loop .inv)
 

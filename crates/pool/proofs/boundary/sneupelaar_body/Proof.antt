@@ -21,6 +21,7 @@ module _ (c : tie.After-body) where
   abbrev block : ℕ
   block = c .before .before .args .block
 
+-- return Part { from: 0, length: 0 }
 returns : tie.Need-returns
 returns c =
     let b = c .before in
@@ -35,14 +36,17 @@ module _ (c : tie.Else1) where
       × (block asked < blocks (file asked))
   found = one-there (file asked) (block asked) (ap length (asked .body .ensures)) (c .if1 .left)
 
+-- 512 * block
 mul-t6 : tie.Need-mul-t6
 unfolding blocks
 mul-t6 c = omega (arith, found c .1)
 
+-- 512 * block + 32
 add-t7 : tie.Need-add-t7
 unfolding blocks
 add-t7 c = omega (arith, found c .1)
 
+-- Part { from: 512 * block + 32, length: length }
 returns-2 : tie.Need-returns-2
 returns-2 c = handed-out (file (asked c)) (block (asked c)) (found c .0)
 

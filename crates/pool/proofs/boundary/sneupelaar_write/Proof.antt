@@ -23,6 +23,7 @@ place-of-requires c κs = tt
 same-cents : (c : tie.Start) → toZ w64 (ofZ w64 (c .args .cents)) ≡ c .args .cents
 same-cents c = search needs
 
+-- field: &mut [u8]
 same-length : tie.Need-same-length
 same-length c = search needs
 
