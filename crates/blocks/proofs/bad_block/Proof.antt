@@ -64,10 +64,12 @@ block-requires : tie.Need-block-requires Inv-loop μ-loop
 unfolding blocks
 block-requires c κs = omega arith
 
+-- n as u32
 cast-block-bad : tie.Need-cast-block-bad Inv-loop μ-loop
 unfolding blocks
 cast-block-bad c = omega arith
 
+-- b as u32
 cast-block-bad-2 : tie.Need-cast-block-bad-2 Inv-loop μ-loop
 unfolding blocks
 cast-block-bad-2 c = omega arith
@@ -75,6 +77,7 @@ cast-block-bad-2 c = omega arith
 block-bad-requires : tie.Need-block-bad-requires Inv-loop μ-loop
 block-bad-requires c κs = c .before .before .before .before .before .pre .0
 
+-- return Found::At(b)
 returns : tie.Need-returns Inv-loop μ-loop
 returns c =
     let turn = turn-of (c .before) in
@@ -82,6 +85,7 @@ returns c =
     let there = c .before .before .before .loop-test .taken in
     sym (over-all turn ∙ first-hit (bad (layout turn) (file turn) (n turn)) (turn .loop .b) (n turn) (turn .loop .inv) broken there)
 
+-- b += 1
 add-b : tie.Need-add-b Inv-loop μ-loop
 add-b c = omega arith
 
@@ -93,6 +97,7 @@ loop-again c =
     let turn = turn-of (c .before) in
     first-next (bad (layout turn) (file turn) (n turn)) (turn .loop .b) (turn .loop .inv) (sym (told (c .before)) ∙ c .if1 .left)
 
+-- Found::Nothing
 returns-2 : tie.Need-returns-2 Inv-loop μ-loop
 returns-2 c =
     let turn = c .before in

@@ -57,6 +57,7 @@ block-requires c κs = omega arith
 sum-of-requires : tie.Need-sum-of-requires Inv-loop μ-loop
 sum-of-requires c κs = tt
 
+-- return Found::At(b)
 returns : tie.Need-returns Inv-loop μ-loop
 returns c =
     let turn = turn-of (c .before) in
@@ -64,6 +65,7 @@ returns c =
     let there = c .before .before .before .loop-test .taken in
     sym (over-all turn ∙ first-hit (bad (file turn)) (turn .loop .b) _ (turn .loop .inv) broken there)
 
+-- b += 1
 add-b : tie.Need-add-b Inv-loop μ-loop
 add-b c = omega arith
 
@@ -75,6 +77,7 @@ loop-again c =
     let turn = turn-of (c .before) in
     first-next (bad (file turn)) (turn .loop .b) (turn .loop .inv) (ap not (eq-eqb _ _ (sym (sum-is (c .before)) ∙ c .if1 .left)))
 
+-- Found::Nothing
 returns-2 : tie.Need-returns-2 Inv-loop μ-loop
 returns-2 c = sym (over-all (c .before) ∙ first-less (bad (file (c .before))) _ _ (c .before .loop .inv) (c .loop-test .left))
 

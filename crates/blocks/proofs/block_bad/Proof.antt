@@ -47,21 +47,26 @@ rest-told c =
 word-requires : tie.Need-word-requires
 word-requires c κs = tt
 
+-- held as usize
 cast-past : tie.Need-cast-past
 cast-past c = omega arith
 
+-- layout.words * (held as usize)
 mul-past : tie.Need-mul-past
 mul-past c = omega (arith, few (c .before))
 
+-- 8 + layout.words * (held as usize)
 add-past : tie.Need-add-past
 add-past c = omega (arith, few (c .before))
 
 front-bad-requires : tie.Need-front-bad-requires
 front-bad-requires c κs = c .before .before .before .pre
 
+-- return true
 returns : tie.Need-returns
 returns c = sym (as-read (c .before) ∙ front-broken _ _ _ _ _ (sym (c .before .front-bad .ensures) ∙ c .if1 .taken))
 
+-- return false
 returns-2 : tie.Need-returns-2
 returns-2 c =
     let front = c .before .before in
@@ -70,15 +75,19 @@ returns-2 c =
 first-not-zero-requires : tie.Need-first-not-zero-requires
 first-not-zero-requires c κs = tt
 
+-- Found::At(_)
 enum-told : tie.Need-enum-told
 enum-told c = c .match .keys1
 
+-- Found::Nothing
 enum-told-2 : tie.Need-enum-told-2
 enum-told-2 c = c .match .keys2
 
+-- Found::At(_) => true
 returns-3 : tie.Need-returns-3
 returns-3 c = sym (rest-told (c .before .before) ∙ ap (λ (f : Found). isBroken (foundAt f)) (c .enum-told .given .1))
 
+-- Found::Nothing => false
 returns-4 : tie.Need-returns-4
 returns-4 c = sym (rest-told (c .before .before) ∙ ap (λ (f : Found). isBroken (foundAt f)) (c .enum-told2 .given .1))
 

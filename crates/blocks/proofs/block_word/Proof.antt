@@ -10,18 +10,22 @@ use Rattle.blocks.proofs.block_word.Tie as tie
 count-requires : tie.Need-count-requires
 count-requires c κs = tt
 
+-- return 0, where count(file) < b
 returns : tie.Need-returns
 unfolding blocks blockWord
 returns c = let at = c .before .before .before .args in sym (word-past (at .file .now) (128 * at .b + at .w) (omega arith))
 
+-- return 0, where file.len() <= w
 returns-2 : tie.Need-returns-2
 unfolding blockWord
 returns-2 c = let at = c .before .before .before .before .args in sym (word-past (at .file .now) (128 * at .b + at .w) (omega arith))
 
+-- 128 * b
 mul-word : tie.Need-mul-word
 unfolding blocks
 mul-word c = omega arith
 
+-- 128 * b + w
 add-word : tie.Need-add-word
 unfolding blocks
 add-word c = omega arith
@@ -29,6 +33,7 @@ add-word c = omega arith
 word-requires : tie.Need-word-requires
 word-requires c κs = tt
 
+-- word(file, 128 * b + w)
 returns-3 : tie.Need-returns-3
 unfolding blockWord
 returns-3 c = c .word .ensures

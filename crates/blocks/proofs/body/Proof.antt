@@ -32,18 +32,22 @@ module _ (c : tie.Else2) where
 length-bad-requires : tie.Need-length-bad-requires
 length-bad-requires c κs = tt
 
+-- &file[..0], where length_bad(layout, file)
 slice-aggregate-result : tie.Need-slice-aggregate-result
 slice-aggregate-result c = omega arith
 
+-- return &file[..0], where length_bad(layout, file)
 returns : tie.Need-returns
 returns c = sym (body-empty-bad _ _ _ (sym (c .before .before .length-bad .ensures) ∙ c .before .if1 .taken))
 
 count-requires : tie.Need-count-requires
 count-requires c κs = tt
 
+-- &file[..0], where count(file) <= b
 slice-aggregate-result-2 : tie.Need-slice-aggregate-result-2
 slice-aggregate-result-2 c = omega arith
 
+-- return &file[..0], where count(file) <= b
 returns-2 : tie.Need-returns-2
 returns-2 c = sym (body-empty-past _ _ _ (omega arith))
 
@@ -51,6 +55,7 @@ whole-body-requires : tie.Need-whole-body-requires
 unfolding blocks
 whole-body-requires c κs = omega arith
 
+-- whole_body(file, b)
 returns-3 : tie.Need-returns-3
 unfolding body
 returns-3 c = let tested = c .before in c .whole-body .ensures ∙ simp (length-good tested, block-there tested)

@@ -5,12 +5,15 @@ use lib.ListN.{List·getD-eq-default}
 use Rattle.blocks.proofs.byte.Statement.{statement}
 use Rattle.blocks.proofs.byte.Tie as tie
 
+-- part[i]
 shared-slice-read-result : tie.Need-shared-slice-read-result
 shared-slice-read-result c = omega arith
 
+-- return part[i]
 returns : tie.Need-returns
 returns c = refl
 
+-- 0, where part.len() <= i
 returns-2 : tie.Need-returns-2
 returns-2 c = sym (List·getD-eq-default (c .before .args .part .now) 0 (c .if1 .left))
 

@@ -4,27 +4,35 @@ use Rattle.rules.specs.HourFile.{word}
 use Rattle.blocks.proofs.cut_word.Statement.{statement}
 use Rattle.blocks.proofs.cut_word.Tie as tie
 
+-- 4 * k
 mul-at : tie.Need-mul-at
 mul-at c = omega arith
 
+-- byte(part, at)
 byte-requires : tie.Need-byte-requires
 byte-requires c κs = tt
 
+-- at + 1
 add-byte : tie.Need-add-byte
 add-byte c = omega arith
 
+-- byte(part, at + 1)
 byte-requires-2 : tie.Need-byte-requires-2
 byte-requires-2 c κs = tt
 
+-- at + 2
 add-byte-2 : tie.Need-add-byte-2
 add-byte-2 c = omega arith
 
+-- byte(part, at + 2)
 byte-requires-3 : tie.Need-byte-requires-3
 byte-requires-3 c κs = tt
 
+-- at + 3
 add-byte-3 : tie.Need-add-byte-3
 add-byte-3 c = omega arith
 
+-- byte(part, at + 3)
 byte-requires-4 : tie.Need-byte-requires-4
 byte-requires-4 c κs = tt
 

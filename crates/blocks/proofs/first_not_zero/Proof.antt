@@ -35,6 +35,7 @@ loop-holds c = (omega arith, none-below _ _ (λ w l. rw (lt-leb _ _ l)))
 word-requires : tie.Need-word-requires Inv-loop μ-loop
 word-requires c κs = tt
 
+-- return Found::At(w)
 returns : tie.Need-returns Inv-loop μ-loop
 returns c =
     let turn = c .before .before .before in
@@ -44,6 +45,7 @@ returns c =
     (rw (le-leb _ _ (turn .loop .inv .0), is-not))
     (c .before .before .loop-test .taken))
 
+-- w += 1
 add-w : tie.Need-add-w Inv-loop μ-loop
 add-w c = omega arith
 
@@ -57,6 +59,7 @@ loop-again c =
     let is = eq-eqb (word (block turn) w) 0 (sym (c .before .word .ensures) ∙ c .if1 .left) in
     (omega arith, first-next (not-zero (block turn) (from turn)) w (turn .loop .inv .1) (rw (le-leb _ _ (turn .loop .inv .0), is)))
 
+-- Found::Nothing
 returns-2 : tie.Need-returns-2 Inv-loop μ-loop
 returns-2 c = sym (first-less _ _ 128 (c .before .loop .inv .1) (c .loop-test .left))
 

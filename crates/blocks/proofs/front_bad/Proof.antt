@@ -34,6 +34,7 @@ loop-holds c = refl
 block-word-bad-requires : tie.Need-block-word-bad-requires Inv-loop μ-loop
 block-word-bad-requires c κs = c .before .before .before .pre
 
+-- return true
 returns : tie.Need-returns Inv-loop μ-loop
 unfolding firstBroken
 returns c =
@@ -41,6 +42,7 @@ returns c =
     let broken = sym (c .before .block-word-bad .ensures) ∙ c .if1 .taken in
     sym (ap isBroken (first-hit (bad-here turn) (turn .loop .w) 7 (turn .loop .inv) broken (omega arith)))
 
+-- w += 1
 add-w : tie.Need-add-w Inv-loop μ-loop
 add-w c = omega arith
 
@@ -52,6 +54,7 @@ loop-again c =
     let turn = c .before .before .before in
     first-next (bad-here turn) (turn .loop .w) (turn .loop .inv) (sym (c .before .block-word-bad .ensures) ∙ c .if1 .left)
 
+-- false
 returns-2 : tie.Need-returns-2 Inv-loop μ-loop
 unfolding firstBroken
 returns-2 c = sym (ap isBroken (first-less (bad-here (c .before)) _ 7 (c .before .loop .inv) (omega arith)))

@@ -15,14 +15,17 @@ over most n whole = split (ltb most (n / 512))
     (λ t. let l = ltb-true most (n / 512) t in t ∙ sym (lt-ltb (512 * most) n (omega arith)))
     (λ f. let l = ltb-false most (n / 512) f in f ∙ sym (le-ltb (512 * most) n (omega arith)))
 
+-- return true, where n == 0
 returns : tie.Need-returns
 unfolding lengthBad
 returns c = simp (eq-eqb _ _ (c .if1 .taken))
 
+-- return true, where n % 512 != 0
 returns-2 : tie.Need-returns-2
 unfolding lengthBad
 returns-2 c = simp (ne-eqb _ _ (c .before .if1 .left), ne-eqb _ _ (c .if2 .taken))
 
+-- layout.blocks < n / 512
 returns-3 : tie.Need-returns-3
 unfolding lengthBad
 returns-3 c =

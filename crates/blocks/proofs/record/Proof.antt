@@ -38,12 +38,15 @@ module _ (c : tie.After-whole-body) where
   ends : from + size ≤ 480
   ends = omega (arith, ends-inside (at .pre .0) (at .args .i))
 
+-- 4 * layout.words
 mul-size : tie.Need-mul-size
 mul-size c = omega (arith, few-to-a-record (start c .pre .0))
 
+-- i / full
 div-whole-body : tie.Need-div-whole-body
 div-whole-body c = omega (arith, start c .pre .0 .some-records)
 
+-- 1 + i / full
 add-whole-body : tie.Need-add-whole-body
 unfolding blocks
 add-whole-body c = omega (arith, start c .pre .1 .block-there)
@@ -52,21 +55,27 @@ whole-body-requires : tie.Need-whole-body-requires
 unfolding blocks
 whole-body-requires c κs = omega (arith, start c .pre .1 .block-there)
 
+-- i % full
 rem-from : tie.Need-rem-from
 rem-from c = omega (arith, at c .pre .0 .some-records)
 
+-- size * (i % full)
 mul-from : tie.Need-mul-from
 mul-from c = omega (arith, ends c)
 
+-- from + size
 add-to : tie.Need-add-to
 add-to c = omega (arith, ends c)
 
+-- &own[from..to]: to - from
 sub-result : tie.Need-sub-result
 sub-result c = omega arith
 
+-- &own[from..to]: from <= to
 part-result-start : tie.Need-part-result-start
 part-result-start c = omega arith
 
+-- &own[from..to]: to <= own.len()
 part-result-end : tie.Need-part-result-end
 part-result-end c = omega (arith, ends c, own-length c)
 

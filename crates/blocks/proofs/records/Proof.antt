@@ -18,30 +18,37 @@ few c = mul-le-mul-right (c .before .count .result - 2) (few-to-a-block (c .befo
 count-requires : tie.Need-count-requires
 count-requires c κs = tt
 
+-- return 0
 returns : tie.Need-returns
 unfolding recordCount
 returns c = simp (ap (λ (n : ℕ). leb n 1) (sym (c .before .count .ensures)) ∙ le-leb _ _ (c .if1 .taken))
 
+-- n - 2
 sub-result : tie.Need-sub-result
 sub-result c = omega arith
 
+-- layout.records * (n - 2)
 mul-result : tie.Need-mul-result
 unfolding blocks
 mul-result c = omega (arith, few (c .before))
 
+-- n - 1
 sub-block-word : tie.Need-sub-block-word
 sub-block-word c = omega arith
 
 block-word-requires : tie.Need-block-word-requires
 block-word-requires c κs = tt
 
+-- block_word(file, n - 1, 2) as usize
 cast-result : tie.Need-cast-result
 cast-result c = omega arith
 
+-- layout.records * (n - 2) + (block_word(file, n - 1, 2) as usize)
 add-result : tie.Need-add-result
 unfolding blocks
 add-result c = omega (arith, few (c .before .before))
 
+-- layout.records * (n - 2) + (block_word(file, n - 1, 2) as usize)
 returns-2 : tie.Need-returns-2
 unfolding recordCount
 returns-2 c =

@@ -35,6 +35,7 @@ moved w r few e = split (ltb w 2147483648)
 wrapping-add-u32-requires : tie.Need-wrapping-add-u32-requires
 wrapping-add-u32-requires c κs = tt
 
+-- std::num::wrapping_add_u32(w, 2147483648) as i64
 cast-result : tie.Need-cast-result
 cast-result c = omega arith
 
@@ -46,6 +47,7 @@ less c =
     let sum = c .wrapping-add-u32 .result in
     local (i64-is {n = sum} (omega (arith, sum-few c))) (u-upto (upto-pos sum 4294967296 (omega (arith, sum-few c)))) :- # (pos 2147483648)
 
+-- (std::num::wrapping_add_u32(w, 2147483648) as i64) - 2147483648
 sub-result : tie.Need-sub-result
 sub-result c = fits (less c) tt
 

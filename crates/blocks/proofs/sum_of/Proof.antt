@@ -28,6 +28,7 @@ word-requires c κs = tt
 added-requires : tie.Need-added-requires Inv-loop μ-loop
 added-requires c κs = tt
 
+-- w += 1
 add-w : tie.Need-add-w Inv-loop μ-loop
 add-w c = omega arith
 

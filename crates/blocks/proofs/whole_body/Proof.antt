@@ -9,24 +9,31 @@ use Rattle.blocks.proofs.whole_body.Tie as tie
 gap : (b : ℕ) → (512 * b + 512) - (512 * b + 32) ≡ 480
 gap b = omega arith
 
+-- 512 * b
 mul-from : tie.Need-mul-from
 mul-from c = omega arith
 
+-- 512 * b + 32
 add-from : tie.Need-add-from
 add-from c = omega arith
 
+-- 512 * b
 mul-to : tie.Need-mul-to
 mul-to c = omega arith
 
+-- 512 * b + 512
 add-to : tie.Need-add-to
 add-to c = omega arith
 
+-- &file[from..to]: to - from
 sub-result : tie.Need-sub-result
 sub-result c = omega arith
 
+-- &file[from..to]: from <= to
 part-result-start : tie.Need-part-result-start
 part-result-start c = omega arith
 
+-- &file[from..to]: to <= file.len()
 part-result-end : tie.Need-part-result-end
 part-result-end c = omega arith
 

@@ -62,9 +62,11 @@ told-here c =
 block-requires : tie.Need-block-requires Inv-loop μ-loop
 block-requires c κs = omega arith
 
+-- blocks::word(head, 10)
 word-requires : tie.Need-word-requires Inv-loop μ-loop
 word-requires c κs = tt
 
+-- blocks::word(head, 11)
 word-requires-2 : tie.Need-word-requires-2 Inv-loop μ-loop
 word-requires-2 c κs = tt
 
@@ -74,6 +76,7 @@ loop-holds c = (omega arith, none-below _ 9 (λ w l. head-any _ _ w _ l))
 head-word-bad-requires : tie.Need-head-word-bad-requires Inv-loop μ-loop
 head-word-bad-requires c κs = tt
 
+-- return Found::At(w)
 returns : tie.Need-returns Inv-loop μ-loop
 unfolding badHead firstBroken
 returns c =
@@ -81,6 +84,7 @@ returns c =
     let broken = sym (told-here (c .before)) ∙ c .if1 .taken in
     sym (first-hit (bad (file turn)) (turn .loop .w) 128 (turn .loop .inv .1) broken (omega arith))
 
+-- w += 1
 add-w : tie.Need-add-w Inv-loop μ-loop
 add-w c = omega arith
 
@@ -95,6 +99,7 @@ loop-again c =
 first-not-zero-requires : tie.Need-first-not-zero-requires Inv-loop μ-loop
 first-not-zero-requires c κs = tt
 
+-- blocks::first_not_zero(head, 48)
 returns-2 : tie.Need-returns-2 Inv-loop μ-loop
 unfolding badHead firstBroken
 returns-2 c =

@@ -59,6 +59,7 @@ hourly-requires c κs = tt
 length-bad-requires : tie.Need-length-bad-requires
 length-bad-requires c κs = tt
 
+-- return Answer::BadLength
 returns : tie.Need-returns
 unfolding verdict fileRows tableRows badLength
 returns c = simp (sym (length-told (c .before)) ∙ c .if1 .taken)
@@ -66,15 +67,18 @@ returns c = simp (sym (length-told (c .before)) ∙ c .if1 .taken)
 bad-sum-requires : tie.Need-bad-sum-requires
 bad-sum-requires c κs = tt
 
+-- Found::At(b) = blocks::bad_sum(file)
 enum-known-b : tie.Need-enum-known-b
 enum-known-b c = c .match .keys1
 
+-- return Answer::BadSum(b)
 returns-2 : tie.Need-returns-2
 unfolding verdict fileRows tableRows badLength
 returns-2 c =
     let searched = c .before .before .before in
     simp (length-good (searched .before), sym (searched .bad-sum .ensures) ∙ ap foundAt (c .before .b .given .1))
 
+-- Found::Nothing = blocks::bad_sum(file)
 enum-told : tie.Need-enum-told
 enum-told c = c .match .keys2
 
@@ -83,9 +87,11 @@ bad-block-requires c κs =
     let whole = length-is-whole hourly _ (length-good (row-1 c)) in
     (rw (in-hand (row-1 c)) hourly-fits, omega (arith, whole .most, whole .all-blocks))
 
+-- Found::At(b) = blocks::bad_block(layout, file)
 enum-known-b-2 : tie.Need-enum-known-b-2
 enum-known-b-2 c = c .match2 .keys1
 
+-- return Answer::BadBlock(b)
 returns-3 : tie.Need-returns-3
 unfolding verdict fileRows tableRows badLength
 returns-3 c =
@@ -93,6 +99,7 @@ returns-3 c =
     let sums = searched .before in
     simp (length-good (row-1 sums), sums-good sums, sym (blocks-told searched) ∙ ap foundAt (c .before .b2 .given .1))
 
+-- Found::Nothing = blocks::bad_block(layout, file)
 enum-told-2 : tie.Need-enum-told-2
 enum-told-2 c = c .match2 .keys2
 
@@ -104,6 +111,7 @@ examine-hour-requires c κs =
       few-records = few-records hourly (file length) (blocks-good c);
     }
 
+-- examine_hour(file)
 returns-4 : tie.Need-returns-4
 unfolding verdict fileRows tableRows badLength
 returns-4 c =

@@ -20,31 +20,38 @@ bad-head-requires c κs =
     let whole = length-is-whole hourly _ (c .before .pre .length-good) in
     omega (arith, whole .all-blocks, whole .at-least-one)
 
+-- Found::At(w) = bad_head(file)
 enum-known-w : tie.Need-enum-known-w
 enum-known-w c = c .match .keys1
 
+-- return Answer::BadHead(w)
 returns : tie.Need-returns
 unfolding verdict fileRows tableRows
 returns c = simp (sym (c .before .before .before .bad-head .ensures) ∙ ap foundAt (c .before .w .given .1))
 
+-- Found::Nothing = bad_head(file)
 enum-told : tie.Need-enum-told
 enum-told c = c .match .keys2
 
 first-fault-requires : tie.Need-first-fault-requires
 first-fault-requires c κs = c .before .before .before .before .pre
 
+-- Fault::Word(i, _) = first_fault(file)
 enum-known-i : tie.Need-enum-known-i
 enum-known-i c = c .match2 .keys1
 
+-- return Answer::BadRecord(i)
 returns-2 : tie.Need-returns-2
 unfolding verdict fileRows tableRows
 returns-2 c =
     let searched = c .before .before .before in
     simp (head-good (searched .before), fault-record _ _ _ (sym (searched .first-fault .ensures) ∙ ap faultAt (c .before .i .given .1)))
 
+-- Fault::Nowhere = first_fault(file)
 enum-told-2 : tie.Need-enum-told-2
 enum-told-2 c = c .match2 .keys2
 
+-- Answer::Accepted
 returns-3 : tie.Need-returns-3
 unfolding verdict fileRows tableRows
 returns-3 c =

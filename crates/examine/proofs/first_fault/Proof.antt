@@ -88,9 +88,11 @@ module _ (turn : tie.At-rows Inv-loop μ-loop Inv-rows μ-rows) where
         let word-first : badWord h at ≡ some w = first-hit (word-bad file at) w 12 passed (sym (told w m) ∙ broken) m in
         fault-at h at w (first-hit (record-bad file) at (h .count) (turn .rows .inv) (ap isBroken word-first) (there l)) word-first
 
+-- hour::head_word(file, 9)
 head-word-requires : tie.Need-head-word-requires Inv-loop μ-loop Inv-rows μ-rows
 head-word-requires c κs = tt
 
+-- hour::head_word(file, 11)
 head-word-requires-2 : tie.Need-head-word-requires-2 Inv-loop μ-loop Inv-rows μ-rows
 head-word-requires-2 c κs = tt
 
@@ -118,6 +120,7 @@ loop-holds c = refl
 record-word-bad-requires : tie.Need-record-word-bad-requires Inv-loop μ-loop Inv-rows μ-rows
 record-word-bad-requires c κs = tt
 
+-- w += 1
 add-w : tie.Need-add-w Inv-loop μ-loop Inv-rows μ-rows
 add-w c = omega arith
 
@@ -134,6 +137,7 @@ loop-again c =
     let kept = sym (here w (c .before .before .loop-test .taken)) ∙ sym (c .before .record-word-bad .ensures) ∙ c .if1 .left in
     first-next (word-bad (file turn) (at turn)) w (inner .loop .inv) kept
 
+-- i += 1
 add-i : tie.Need-add-i Inv-loop μ-loop Inv-rows μ-rows
 add-i c = omega arith
 
@@ -148,6 +152,7 @@ rows-again c =
     let whole = first-less (word-bad (file turn) (at turn)) _ 12 (inner .loop .inv) (omega arith) in
     first-next (record-bad (file turn)) (at turn) (turn .rows .inv) (ap isBroken whole)
 
+-- return Fault::Word(i, w)
 -- the loops were left by the label; had they run out, no record would be left
 returns : tie.Need-returns Inv-loop μ-loop Inv-rows μ-rows
 returns c =
@@ -160,6 +165,7 @@ returns c =
     sym (told ∙ ap (λ (w : ℕ). some (at turn, w)) (sym (left .7))))
     (c .before .rows-test .came)
 
+-- Fault::Nowhere
 returns-2 : tie.Need-returns-2 Inv-loop μ-loop Inv-rows μ-rows
 unfolding badRecord
 returns-2 c =

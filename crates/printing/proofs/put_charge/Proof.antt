@@ -12,21 +12,26 @@ use Rattle.printing.proofs.Putting.{put-as, part-put}
 use Rattle.printing.proofs.put_charge.Statement.{statement}
 use Rattle.printing.proofs.put_charge.Tie as tie
 
+-- at + 14
 add-end : tie.Need-add-end
 add-end c = search needs
 
+-- &mut out[at..end]: end - at
 sub-write : tie.Need-sub-write
 sub-write c = search needs
 
+-- &mut out[at..end]: at <= end
 part-write-start : tie.Need-part-write-start
 part-write-start c = search needs
 
+-- &mut out[at..end]: end <= out.len()
 part-write-end : tie.Need-part-write-end
 part-write-end c = search needs
 
 write-requires : tie.Need-write-requires
 write-requires c κs = search needs
 
+-- out: &mut [u8]
 same-length : tie.Need-same-length
 same-length c = search needs
 

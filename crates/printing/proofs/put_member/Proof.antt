@@ -38,27 +38,35 @@ kept-length : (c : tie.After-put-charge) →
     length (c .put-charge .last .0) ≡ length (c .before .before .before .before .before .args .out .now)
 kept-length c = put-length (charge-put c) ∙ simp length-set
 
+-- amount::decimal::digit(member as u64 / 10)
 digit-requires : tie.Need-digit-requires
 digit-requires c κs = search needs
 
+-- out[at]
 slice-write-out : tie.Need-slice-write-out
 slice-write-out c = search needs
 
+-- amount::decimal::digit(member as u64)
 digit-requires-2 : tie.Need-digit-requires-2
 digit-requires-2 c κs = search needs
 
+-- at + 1
 add-out : tie.Need-add-out
 add-out c = search needs
 
+-- out[at + 1]
 slice-write-out-2 : tie.Need-slice-write-out-2
 slice-write-out-2 c = simp length-set (omega (arith, c .before .before .before .pre .0))
 
+-- at + 2
 add-out-2 : tie.Need-add-out-2
 add-out-2 c = search needs
 
+-- out[at + 2]
 slice-write-out-3 : tie.Need-slice-write-out-3
 slice-write-out-3 c = simp length-set (omega (arith, c .before .before .before .pre .0))
 
+-- at + 3
 add-put-charge : tie.Need-add-put-charge
 add-put-charge c = search needs
 
@@ -67,6 +75,7 @@ put-charge-requires c κs =
     let s = c .before .before .before .before in
     (simp length-set (omega (arith, s .pre .0)), omega (arith, ap natAbs (read-back (s .fits .cents)), s .pre .2))
 
+-- b"\n"
 slice-aggregate-put-bytes : tie.Need-slice-aggregate-put-bytes
 slice-aggregate-put-bytes c = search needs
 
@@ -76,6 +85,7 @@ put-bytes-requires c κs =
     let s = p .before .before .before .before .before in
     omega (arith, charge-put p .next-is, kept-length p, field-has-width (replicate 14 32) (s .args .cents), s .pre .0)
 
+-- out: &mut [u8]
 same-length : tie.Need-same-length
 same-length c = let b = c .before .before in put-length (b .put-bytes .ensures) ∙ kept-length (b .before .before .before .before .before)
 

@@ -6,24 +6,30 @@ use Rattle.printing.proofs.Putting.{put-on, put-count-on}
 use Rattle.printing.proofs.put_refusal.Statement.{statement}
 use Rattle.printing.proofs.put_refusal.Tie as tie
 
+-- b"refused "
 slice-aggregate-put-count : tie.Need-slice-aggregate-put-count
 slice-aggregate-put-count c = search needs
 
+-- put_count(out, 0, b"refused ", number)
 put-count-requires : tie.Need-put-count-requires
 put-count-requires c κs = search needs
 
+-- b" at "
 slice-aggregate-put-count-2 : tie.Need-slice-aggregate-put-count-2
 slice-aggregate-put-count-2 c = search needs
 
+-- put_count(out, after_number, b" at ", place)
 put-count-requires-2 : tie.Need-put-count-requires-2
 put-count-requires-2 c κs = search needs
 
+-- b"\n"
 slice-aggregate-put-bytes : tie.Need-slice-aggregate-put-bytes
 slice-aggregate-put-bytes c = search needs
 
 put-bytes-requires : tie.Need-put-bytes-requires
 put-bytes-requires c κs = search needs
 
+-- out: &mut [u8]
 same-length : tie.Need-same-length
 same-length c = search needs
 

@@ -8,21 +8,27 @@ use Rattle.sign.proofs.size_of.Tie as tie
 less : (c : tie.Then1) → OneLess (c .before .args .z)
 less c = one-less (c .before .args .z) (c .before .fits .z) (c .if1 .taken)
 
+-- -1 - z
 sub-result : tie.Need-sub-result
 sub-result c = less c .less-fits
 
+-- (-1 - z) as u64
 cast-result : tie.Need-cast-result
 cast-result c = less c .casts
 
+-- (-1 - z) as u64 + 1
 add-result : tie.Need-add-result
 add-result c = let l = less c in record { fits = omega (arith, l .size-is, l .size-fits .fits) }
 
+-- return (-1 - z) as u64 + 1
 returns : tie.Need-returns
 returns c = less c .size-is
 
+-- z as u64
 cast-result-2 : tie.Need-cast-result-2
 cast-result-2 c = none-less (c .before .args .z) (c .before .fits .z) (c .if1 .left)
 
+-- z as u64
 returns-2 : tie.Need-returns-2
 returns-2 c = search needs
 

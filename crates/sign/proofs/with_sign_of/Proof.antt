@@ -15,22 +15,27 @@ module _ (c : tie.Start) where
   abbrev size : Num
   size = local (i64-is (c .pre)) (u-upto in-range)
 
+-- if z < 0 { -(size as i64) }
 returns : tie.Need-returns
 returns c =
     let s = c .before in
     stored (# (pos 0) :- size s) tt ∙ +ℤ-idl _ ∙ sym (with-sign-below (s .args .z) (s .args .size) (below-0 (s .fits .z) (c .if1 .taken)))
 
+-- else { size as i64 }
 returns-2 : tie.Need-returns-2
 returns-2 c =
     let s = c .before in
     stored (size s) tt ∙ sym (with-sign-from-0 (s .args .z) (s .args .size) (from-0 (s .fits .z) (c .if1 .left)))
 
+-- size as i64, where z < 0
 cast-result : tie.Need-cast-result
 cast-result c = fits (at0 (in-range (c .before))) tt
 
+-- -(size as i64)
 sub-result : tie.Need-sub-result
 sub-result c = fits (# (pos 0) :- size (c .before)) tt
 
+-- else { size as i64 }
 cast-result-2 : tie.Need-cast-result-2
 cast-result-2 c = fits (at0 (in-range (c .before))) tt
 

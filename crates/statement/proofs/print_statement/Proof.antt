@@ -6,15 +6,18 @@ use Rattle.report.proofs.Promised.{count-within}
 use Rattle.statement.proofs.print_statement.Statement.{statement}
 use Rattle.statement.proofs.print_statement.Tie as tie
 
+-- &mut text
 slice-aggregate-statement : tie.Need-slice-aggregate-statement
 slice-aggregate-statement c = search needs
 
 statement-requires : tie.Need-statement-requires
 statement-requires c κs = search needs
 
+-- &text[..length]
 array-share-prefix-text : tie.Need-array-share-prefix-text
 array-share-prefix-text c = count-within (record { count-is = c .before .statement .ensures .0; out-is = c .before .statement .ensures .1 })
 
+-- &text[..length]
 slice-aggregate-print : tie.Need-slice-aggregate-print
 slice-aggregate-print c = sym (length-take-le _ _ (array-share-prefix-text (c .before)))
 

@@ -10,6 +10,7 @@ use Rattle.wordrules.proofs.block_rule.Tie as tie
 mark-rule-requires : tie.Need-mark-rule-requires
 mark-rule-requires c κs = search needs
 
+-- return mark_rule(layout, b)
 returns : tie.Need-returns
 unfolding blockRule
 returns c = c .mark-rule .ensures ∙ rw (c .before .if1 .taken)
@@ -17,6 +18,7 @@ returns c = c .mark-rule .ensures ∙ rw (c .before .if1 .taken)
 only-requires : tie.Need-only-requires
 only-requires c κs = search needs
 
+-- return only(b)
 returns-2 : tie.Need-returns-2
 unfolding blockRule
 returns-2 c = c .only .ensures ∙ rw (c .before .if2 .taken)
@@ -24,10 +26,12 @@ returns-2 c = c .only .ensures ∙ rw (c .before .if2 .taken)
 count-rule-requires : tie.Need-count-rule-requires
 count-rule-requires c κs = search needs
 
+-- return count_rule(layout, n, b)
 returns-3 : tie.Need-returns-3
 unfolding blockRule
 returns-3 c = c .count-rule .ensures ∙ rw (c .before .if3 .taken)
 
+-- return ZERO
 returns-4 : tie.Need-returns-4
 unfolding blockRule
 returns-4 c = rw block-words (simp (
@@ -37,6 +41,7 @@ returns-4 c = rw block-words (simp (
   lt-ltb _ _ (c .if4 .taken),
 ))
 
+-- return Rule::Any
 returns-5 : tie.Need-returns-5
 unfolding blockRule
 returns-5 c = rw (c .if5 .taken)
@@ -44,6 +49,7 @@ returns-5 c = rw (c .if5 .taken)
 past-rule-requires : tie.Need-past-rule-requires
 past-rule-requires c κs = search needs
 
+-- past_rule(layout, held, b, w)
 returns-6 : tie.Need-returns-6
 unfolding blockRule
 returns-6 c =

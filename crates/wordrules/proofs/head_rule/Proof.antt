@@ -6,6 +6,7 @@ use Rattle.rules.specs.Ranges.{headRule}
 use Rattle.wordrules.proofs.head_rule.Statement.{statement}
 use Rattle.wordrules.proofs.head_rule.Tie as tie
 
+-- return Rule::Any
 returns : tie.Need-returns
 unfolding headRule
 returns c = simp (lt-ltb _ _ (c .if1 .taken))
@@ -13,10 +14,12 @@ returns c = simp (lt-ltb _ _ (c .if1 .taken))
 counts-rule-requires : tie.Need-counts-rule-requires
 counts-rule-requires c κs = search needs
 
+-- return counts_rule(w)
 returns-2 : tie.Need-returns-2
 unfolding headRule
 returns-2 c = c .counts-rule .ensures ∙ simp (le-ltb _ _ (c .before .before .if1 .left), lt-ltb _ _ (c .before .if2 .taken))
 
+-- return Rule::AtMostInSize(1000000)
 returns-3 : tie.Need-returns-3
 unfolding headRule
 returns-3 c = simp (
@@ -26,6 +29,7 @@ returns-3 c = simp (
   lt-ltb _ _ (c .if4 .taken),
 )
 
+-- return ZERO
 returns-4 : tie.Need-returns-4
 unfolding headRule
 returns-4 c = simp (
@@ -38,6 +42,7 @@ returns-4 c = simp (
 area-rule-requires : tie.Need-area-rule-requires
 area-rule-requires c κs = search needs
 
+-- return area_rule(zones, (w - 16) % 4)
 returns-5 : tie.Need-returns-5
 unfolding headRule
 returns-5 c =
@@ -51,6 +56,7 @@ returns-5 c =
       lt-ltb _ _ (c .before .if6 .taken),
     )
 
+-- ZERO, where w < 48
 returns-6 : tie.Need-returns-6
 unfolding headRule
 returns-6 c =
@@ -63,6 +69,7 @@ returns-6 c =
       le-ltb _ _ (c .if6 .left),
     )
 
+-- ZERO, where 48 <= w
 returns-7 : tie.Need-returns-7
 unfolding headRule
 returns-7 c = simp (

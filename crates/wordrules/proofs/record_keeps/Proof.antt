@@ -24,14 +24,17 @@ module _ (c : tie.After-uses) where
 within-requires : tie.Need-within-requires
 within-requires c κs = tt
 
+-- return within(1, 5, v)
 returns : tie.Need-returns
 unfolding recordRule
 returns c = c .within .ensures ∙ rw (c .before .if1 .taken)
 
+-- return v < members
 returns-2 : tie.Need-returns-2
 unfolding recordRule keeps
 returns-2 c = rw (c .if2 .taken)
 
+-- return v < areas
 returns-3 : tie.Need-returns-3
 unfolding recordRule keeps
 returns-3 c = rw (c .if3 .taken)
@@ -45,6 +48,7 @@ generator-rule-requires c κs = tt
 keeps-requires : tie.Need-keeps-requires
 keeps-requires c κs = tt
 
+-- return keeps(generator_rule(w), v)
 returns-4 : tie.Need-returns-4
 returns-4 c =
     let at = c .before .before .before in
@@ -52,6 +56,7 @@ returns-4 c =
     ∙ ap (λ (r : Rule). keeps r (at .before .before .before .before .args .v))
     (c .before .generator-rule .ensures ∙ sym (as-used at ∙ rw (c .before .before .if4 .taken)))
 
+-- v == 0
 returns-5 : tie.Need-returns-5
 returns-5 c =
     let at = c .before in

@@ -7,14 +7,17 @@ use Rattle.rules.proofs.RuleTables.{generator-uses, load-uses, export-uses, kin
 use Rattle.wordrules.proofs.uses.Statement.{statement}
 use Rattle.wordrules.proofs.uses.Tie as tie
 
+-- return w < 11
 returns : tie.Need-returns
 unfolding kindOf
 returns c = rw (c .if1 .taken) (sym (generator-uses _))
 
+-- return w < 8, where kind == 2
 returns-2 : tie.Need-returns-2
 unfolding kindOf
 returns-2 c = rw (c .if2 .taken) (sym (load-uses _))
 
+-- return w < 8, where kind == 3
 returns-3 : tie.Need-returns-3
 unfolding kindOf rulesOf
 returns-3 c = rw (c .if3 .taken) (sym (load-uses (c .before .before .before .args .w)))
@@ -22,14 +25,17 @@ returns-3 c = rw (c .if3 .taken) (sym (load-uses (c .before .before .before .arg
 import-uses-requires : tie.Need-import-uses-requires
 import-uses-requires c κs = search needs
 
+-- return import_uses(w)
 returns-4 : tie.Need-returns-4
 unfolding kindOf
 returns-4 c = c .import-uses .ensures ∙ rw (c .before .if4 .taken)
 
+-- return w < 6
 returns-5 : tie.Need-returns-5
 unfolding kindOf
 returns-5 c = rw (c .if5 .taken) (sym (export-uses _))
 
+-- false
 returns-6 : tie.Need-returns-6
 unfolding rulesOf keeps
 returns-6 c =

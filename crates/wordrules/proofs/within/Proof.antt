@@ -4,10 +4,12 @@ use Rattle.rules.specs.Ranges.{keeps}
 use Rattle.wordrules.proofs.within.Statement.{statement}
 use Rattle.wordrules.proofs.within.Tie as tie
 
+-- return false
 returns : tie.Need-returns
 unfolding keeps
 returns c = simp (lt-leb _ _ (c .if1 .taken))
 
+-- v <= most
 returns-2 : tie.Need-returns-2
 unfolding keeps
 returns-2 c = simp (le-leb _ _ (c .if1 .left))

@@ -15,54 +15,68 @@ told : (r : Entry) → EntryKept r → (k : Kind) → r .kind ≡ k → (d : ℤ
 unfolding deviation
 told r kept k e d f = stored (result (f ∙ sym (ap (deviationAs r) e)) (deviation-under kept)) tt
 
+-- Kind::Generator => generator_deviation(r)
 returns : tie.Need-returns
 returns c = told _ (c .before .before .before .pre) _ (c .before .enum-told .given .1) _ (c .generator-deviation .ensures)
 
+-- Kind::RealTimeLoad => load_deviation(r)
 returns-2 : tie.Need-returns-2
 returns-2 c = told _ (c .before .before .before .pre) _ (c .before .enum-told2 .given .1) _ (c .load-deviation .ensures)
 
+-- Kind::ProfileLoad => load_deviation(r)
 returns-3 : tie.Need-returns-3
 returns-3 c = told _ (c .before .before .before .pre) _ (c .before .enum-told3 .given .1) _ (c .load-deviation2 .ensures)
 
+-- Kind::Import => import_deviation(r)
 returns-4 : tie.Need-returns-4
 returns-4 c = told _ (c .before .before .before .pre) _ (c .before .enum-told4 .given .1) _ (c .import-deviation .ensures)
 
+-- Kind::Export => export_deviation(r)
 returns-5 : tie.Need-returns-5
 returns-5 c = told _ (c .before .before .before .pre) _ (c .before .enum-told5 .given .1) _ (c .export-deviation .ensures)
 
+-- Kind::Unknown => 0
 returns-6 : tie.Need-returns-6
 returns-6 c = told _ (c .before .before .pre) _ (c .enum-told6 .given .1) _ refl
 
+-- Kind::Generator
 enum-told : tie.Need-enum-told
 enum-told c = c .match .keys1
 
 generator-deviation-requires : tie.Need-generator-deviation-requires
 generator-deviation-requires c κs = c .before .before .pre
 
+-- Kind::RealTimeLoad
 enum-told-2 : tie.Need-enum-told-2
 enum-told-2 c = c .match .keys2
 
+-- Kind::RealTimeLoad => load_deviation(r)
 load-deviation-requires : tie.Need-load-deviation-requires
 load-deviation-requires c κs = c .before .before .pre
 
+-- Kind::ProfileLoad
 enum-told-3 : tie.Need-enum-told-3
 enum-told-3 c = c .match .keys3
 
+-- Kind::ProfileLoad => load_deviation(r)
 load-deviation-requires-2 : tie.Need-load-deviation-requires-2
 load-deviation-requires-2 c κs = c .before .before .pre
 
+-- Kind::Import
 enum-told-4 : tie.Need-enum-told-4
 enum-told-4 c = c .match .keys4
 
 import-deviation-requires : tie.Need-import-deviation-requires
 import-deviation-requires c κs = c .before .before .pre
 
+-- Kind::Export
 enum-told-5 : tie.Need-enum-told-5
 enum-told-5 c = c .match .keys5
 
 export-deviation-requires : tie.Need-export-deviation-requires
 export-deviation-requires c κs = c .before .before .pre
 
+-- Kind::Unknown
 enum-told-6 : tie.Need-enum-told-6
 enum-told-6 c = c .match .keys6
 

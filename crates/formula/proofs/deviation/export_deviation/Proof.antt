@@ -24,12 +24,15 @@ returns : tie.Need-returns
 unfolding exportDeviation
 returns c = stored (# (pos 10000) :* energy (at-j c)) tt
 
+-- r.s - r.a
 sub-result : tie.Need-sub-result
 sub-result c = fits (short (at-sa c)) tt
 
+-- r.s - r.a - r.j
 sub-result-2 : tie.Need-sub-result-2
 sub-result-2 c = fits (energy (at-j c)) tt
 
+-- 10000 * (r.s - r.a - r.j)
 mul-result : tie.Need-mul-result
 mul-result c = fits (# (pos 10000) :* energy (at-j c)) tt
 

@@ -47,39 +47,50 @@ returns : tie.Need-returns
 unfolding generatorUnavailable generatorDeviation
 returns c = stored (produced (at-end c) :- unavailable c) tt
 
+-- r.s * r.f
 mul-result : tie.Need-mul-result
 mul-result c = let k = at-sf c .pre in fits (S k :* F k) tt
 
+-- r.a - r.j
 sub-result : tie.Need-sub-result
 sub-result c = let k = at-aj c .pre in fits (A k :- J k) tt
 
+-- (r.a - r.j) * r.h
 mul-result-2 : tie.Need-mul-result-2
 mul-result-2 c = fits (adjusted (at-h c .pre)) tt
 
+-- 10000 * r.n
 mul-result-3 : tie.Need-mul-result-3
 mul-result-3 c = fits (ancillary (at-n c .pre)) tt
 
+-- (r.a - r.j) * r.h - 10000 * r.n
 sub-result-2 : tie.Need-sub-result-2
 sub-result-2 c = let k = at-n c .pre in fits (adjusted k :- ancillary k) tt
 
+-- r.s * r.f - ((r.a - r.j) * r.h - 10000 * r.n)
 sub-result-3 : tie.Need-sub-result-3
 sub-result-3 c = fits (produced (at-n c)) tt
 
+-- r.m - r.a
 sub-least : tie.Need-sub-least
 sub-least c = let k = at-ma c .pre in fits (M k :- A k) tt
 
+-- r.o - r.n
 sub-least-2 : tie.Need-sub-least-2
 sub-least-2 c = let k = at-on c .pre in fits (O k :- N k) tt
 
+-- r.m - r.a - (r.o - r.n)
 sub-least-3 : tie.Need-sub-least-3
 sub-least-3 c = fits (room (at-on c)) tt
 
 least-requires : tie.Need-least-requires
 least-requires c κs = tt
 
+-- 10000 * least(0, r.m - r.a - (r.o - r.n))
 mul-result-4 : tie.Need-mul-result-4
 mul-result-4 c = fits (unavailable c) tt
 
+-- r.s * r.f - ((r.a - r.j) * r.h - 10000 * r.n) - 10000 * least(0, r.m - r.a - (r.o - r.n))
 sub-result-4 : tie.Need-sub-result-4
 sub-result-4 c = fits (produced (at-end c) :- unavailable c) tt
 

@@ -26,21 +26,27 @@ returns : tie.Need-returns
 unfolding importDeviation
 returns c = stored (brought (at-n c) :+ ancillary (at-n c .pre)) tt
 
+-- r.s * r.f
 mul-result : tie.Need-mul-result
 mul-result c = let k = at-sf c .pre in fits (S k :* F k) tt
 
+-- r.a - r.j
 sub-result : tie.Need-sub-result
 sub-result c = let k = at-aj c .pre in fits (A k :- J k) tt
 
+-- (r.a - r.j) * r.h
 mul-result-2 : tie.Need-mul-result-2
 mul-result-2 c = fits (adjusted (at-h c .pre)) tt
 
+-- r.s * r.f - (r.a - r.j) * r.h
 sub-result-2 : tie.Need-sub-result-2
 sub-result-2 c = fits (brought (at-h c)) tt
 
+-- 10000 * r.n
 mul-result-3 : tie.Need-mul-result-3
 mul-result-3 c = fits (ancillary (at-n c .pre)) tt
 
+-- r.s * r.f - (r.a - r.j) * r.h + 10000 * r.n
 add-result : tie.Need-add-result
 add-result c = fits (brought (at-n c) :+ ancillary (at-n c .pre)) tt
 

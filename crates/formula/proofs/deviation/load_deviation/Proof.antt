@@ -47,27 +47,34 @@ returns : tie.Need-returns
 unfolding loadUnavailable loadDeviation
 returns c = stored (# (pos 10000) :* energy c) tt
 
+-- r.a - r.j
 sub-result : tie.Need-sub-result
 sub-result c = let k = at-aj c .pre in fits (A k :- J k) tt
 
+-- (r.a - r.j) + r.n
 add-result : tie.Need-add-result
 add-result c = fits (taken (at-n c)) tt
 
+-- r.s - ((r.a - r.j) + r.n)
 sub-result-2 : tie.Need-sub-result-2
 sub-result-2 c = fits (S (at-s c .pre) :- taken (at-s c)) tt
 
+-- r.o - r.n
 sub-most : tie.Need-sub-most
 sub-most c = let k = at-on c .pre in fits (O k :- N k) tt
 
+-- (r.o - r.n) - r.a
 sub-most-2 : tie.Need-sub-most-2
 sub-most-2 c = fits (owed (at-a c)) tt
 
 most-requires : tie.Need-most-requires
 most-requires c κs = tt
 
+-- r.s - ((r.a - r.j) + r.n) - most(0, (r.o - r.n) - r.a)
 sub-result-3 : tie.Need-sub-result-3
 sub-result-3 c = fits (energy c) tt
 
+-- 10000 * (r.s - ((r.a - r.j) + r.n) - most(0, (r.o - r.n) - r.a))
 mul-result : tie.Need-mul-result
 mul-result c = fits (# (pos 10000) :* energy c) tt
 

@@ -18,26 +18,32 @@ unknown (suc (suc (suc (suc zero)))) a b c d e = absurd (d refl)
 unknown (suc (suc (suc (suc (suc zero))))) a b c d e = absurd (e refl)
 unknown (suc (suc (suc (suc (suc (suc k)))))) a b c d e = refl
 
+-- 1 => Kind::Generator
 returns : tie.Need-returns
 unfolding kindOf
 returns c = rw (c .match .keys1)
 
+-- 2 => Kind::RealTimeLoad
 returns-2 : tie.Need-returns-2
 unfolding kindOf
 returns-2 c = rw (c .match .keys2)
 
+-- 3 => Kind::ProfileLoad
 returns-3 : tie.Need-returns-3
 unfolding kindOf
 returns-3 c = rw (c .match .keys3)
 
+-- 4 => Kind::Import
 returns-4 : tie.Need-returns-4
 unfolding kindOf
 returns-4 c = rw (c .match .keys4)
 
+-- 5 => Kind::Export
 returns-5 : tie.Need-returns-5
 unfolding kindOf
 returns-5 c = rw (c .match .keys5)
 
+-- _ => Kind::Unknown
 returns-6 : tie.Need-returns-6
 returns-6 c =
     let none = c .match .rest in

@@ -15,9 +15,11 @@ returns : tie.Need-returns
 unfolding lineWith
 returns c = let s = c .before .before .before in rw (sum-stored (amount-fits (c .before)) (s .fits .grains) (s .pre .amount-fits))
 
+-- l.amount + grains
 add-t3 : tie.Need-add-t3
 add-t3 c = let s = c .before .before in sum-fits (amount-fits c) (s .fits .grains) (s .pre .amount-fits)
 
+-- l.records + 1
 add-t4 : tie.Need-add-t4
 add-t4 c = record { fits = c .before .before .before .pre .records-fit }
 

@@ -17,15 +17,19 @@ abbrev μ-loop : tie.MeasureT-loop
 loop-holds : tie.Need-loop-holds Inv-loop μ-loop
 loop-holds c = (omega arith, refl, paste-zero (c .args .out .now) (c .args .at) (c .args .text .now))
 
+-- text[i]
 shared-slice-read-out : tie.Need-shared-slice-read-out Inv-loop μ-loop
 shared-slice-read-out c = omega arith
 
+-- out[at + i]: at + i
 add-out : tie.Need-add-out Inv-loop μ-loop
 add-out c = omega arith
 
+-- out[at + i]
 slice-write-out : tie.Need-slice-write-out Inv-loop μ-loop
 slice-write-out c = omega arith
 
+-- i += 1
 add-i : tie.Need-add-i Inv-loop μ-loop
 add-i c = omega arith
 
@@ -43,9 +47,11 @@ loop-again c =
           ∙ sym (ap (paste (s .out .now) (s .at) (s .text .now)) (add-one (l .i))),
     )
 
+-- at + i, after the loop
 add-result : tie.Need-add-result Inv-loop μ-loop
 add-result c = omega arith
 
+-- out: &mut [u8]
 same-length : tie.Need-same-length Inv-loop μ-loop
 same-length c = c .before .loop .inv .1
 

@@ -15,6 +15,7 @@ put-number-requires c κs =
     let s = p .before .before .before .before in
     omega (arith, decimal-at-most-20 (s .args .number), s .pre, p .put-bytes .ensures .next-is, p .put-bytes .kept .0)
 
+-- out: &mut [u8]
 same-length : tie.Need-same-length
 same-length c = search needs
 

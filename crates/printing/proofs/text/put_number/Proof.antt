@@ -11,12 +11,14 @@ use Rattle.printing.proofs.text.put_number.Tie as tie
 digits-requires : tie.Need-digits-requires
 digits-requires c κs = search needs
 
+-- at + amount::decimal::digits(number)
 add-end : tie.Need-add-end
 add-end c = search needs
 
 put-digits-requires : tie.Need-put-digits-requires
 put-digits-requires c κs = search needs
 
+-- out: &mut [u8]
 same-length : tie.Need-same-length
 same-length c = search needs
 

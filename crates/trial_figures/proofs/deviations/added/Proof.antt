@@ -5,12 +5,15 @@ use borrow.Author.Needs.{needs}
 use Rattle.trial_figures.proofs.deviations.added.Statement.{statement}
 use Rattle.trial_figures.proofs.deviations.added.Tie as tie
 
+-- deviation(r)
 deviation-requires : tie.Need-deviation-requires
 deviation-requires c κs = search needs
 
+-- deviation(without)
 deviation-requires-2 : tie.Need-deviation-requires-2
 deviation-requires-2 c κs = search needs
 
+-- deviation(r) - deviation(without)
 sub-result : tie.Need-sub-result
 sub-result c =
     let whole = result (c .before .deviation .ensures) (deviation-under (c .before .before .pre)) in

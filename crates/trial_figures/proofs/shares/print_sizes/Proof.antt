@@ -15,15 +15,18 @@ abbrev μ-loop : tie.MeasureT-loop
 loop-holds : tie.Need-loop-holds Inv-loop μ-loop
 loop-holds c = omega arith
 
+-- b" "
 slice-aggregate-print : tie.Need-slice-aggregate-print Inv-loop μ-loop
 slice-aggregate-print c = search needs
 
 print-requires : tie.Need-print-requires Inv-loop μ-loop
 print-requires c κs = tt
 
+-- sizes[i], its offset
 mul-with-sign-of : tie.Need-mul-with-sign-of Inv-loop μ-loop
 mul-with-sign-of c = omega arith
 
+-- sizes[i]
 shared-slice-read-with-sign-of : tie.Need-shared-slice-read-with-sign-of Inv-loop μ-loop
 shared-slice-read-with-sign-of c = omega arith
 
@@ -35,6 +38,7 @@ with-sign-of-requires c κs =
 print-signed-requires : tie.Need-print-signed-requires Inv-loop μ-loop
 print-signed-requires c κs = tt
 
+-- i += 1
 add-i : tie.Need-add-i Inv-loop μ-loop
 add-i c = omega arith
 

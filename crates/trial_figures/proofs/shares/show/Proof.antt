@@ -12,15 +12,19 @@ use Rattle.trial_figures.proofs.Shown.{small-take}
 use Rattle.trial_figures.proofs.shares.show.Statement.{statement}
 use Rattle.trial_figures.proofs.shares.show.Tie as tie
 
+-- &demands[..n]
 array-share-prefix-demands : tie.Need-array-share-prefix-demands
 array-share-prefix-demands c = search needs
 
+-- &demands[..n]
 slice-aggregate-show-into : tie.Need-slice-aggregate-show-into
 slice-aggregate-show-into c = sym (length-take-le _ _ (array-share-prefix-demands (c .before)))
 
+-- &mut sizes[..n]
 array-borrow-prefix-sizes : tie.Need-array-borrow-prefix-sizes
 array-borrow-prefix-sizes c = search needs
 
+-- &mut sizes[..n]
 slice-aggregate-show-into-2 : tie.Need-slice-aggregate-show-into-2
 slice-aggregate-show-into-2 c = sym (length-take-le _ _ (array-borrow-prefix-sizes (c .before)))
 

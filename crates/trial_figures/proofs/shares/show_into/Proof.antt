@@ -7,21 +7,26 @@ use Rattle.trial_figures.proofs.Shown.{small-fits, shareable, share-fit
 use Rattle.trial_figures.proofs.shares.show_into.Statement.{statement}
 use Rattle.trial_figures.proofs.shares.show_into.Tie as tie
 
+-- b"U "
 slice-aggregate-print : tie.Need-slice-aggregate-print
 slice-aggregate-print c = search needs
 
+-- print(b"U ")
 print-requires : tie.Need-print-requires
 print-requires c κs = search needs
 
 print-signed-requires : tie.Need-print-signed-requires
 print-signed-requires c κs = search needs
 
+-- b" over D"
 slice-aggregate-print-2 : tie.Need-slice-aggregate-print-2
 slice-aggregate-print-2 c = search needs
 
+-- print(b" over D")
 print-requires-2 : tie.Need-print-requires-2
 print-requires-2 c κs = search needs
 
+-- print_sizes(0, demands)
 print-sizes-requires : tie.Need-print-sizes-requires
 print-sizes-requires c κs = let start = c .before .before .before .before .before .before .before in
     small-fits (start .args .demands .now) (start .pre .0)
@@ -40,12 +45,15 @@ shares-requires : tie.Need-shares-requires
 shares-requires c κs = let s = start c in
     shareable (s .args .demands .now) (s .pre .0) (s .pre .1) (c .before .size-of .result) (size-most c) (s .args .sizes .now) (s .pre .3)
 
+-- b":"
 slice-aggregate-print-3 : tie.Need-slice-aggregate-print-3
 slice-aggregate-print-3 c = search needs
 
+-- print(b":")
 print-requires-3 : tie.Need-print-requires-3
 print-requires-3 c κs = search needs
 
+-- print_sizes(u, sizes)
 print-sizes-requires-2 : tie.Need-print-sizes-requires-2
 print-sizes-requires-2 c κs = let d = c .before .before .before .before .before .before in
     let s = start d in
@@ -53,12 +61,15 @@ print-sizes-requires-2 c κs = let d = c .before .before .before .before .before
     share-fits (s .args .demands .now) (s .pre .0) (s .pre .1) (d .before .size-of .result) (size-most d) (s .args .sizes .now) (s .pre .3) _
     (shared .shares .ensures)
 
+-- b"\n"
 slice-aggregate-print-4 : tie.Need-slice-aggregate-print-4
 slice-aggregate-print-4 c = search needs
 
+-- print(b"\n")
 print-requires-4 : tie.Need-print-requires-4
 print-requires-4 c κs = search needs
 
+-- sizes: &mut [u64]
 same-length : tie.Need-same-length
 same-length c = search needs
 
