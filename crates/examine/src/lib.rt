@@ -10,7 +10,7 @@ ghost use Rattle.rules.specs.HourFile as HourFile;
 ghost use Rattle.rules.specs.HourFile.{hourly};
 ghost use Rattle.rules.specs.Ranges as Ranges;
 ghost use Rattle.rules.specs.Refusals as Refusals;
-ghost use Rattle.rules.specs.Refusals.{foundAt};
+ghost use Rattle.rules.specs.Inner.Searched.{foundAt};
 ghost use Rattle.examine.specs.Fault.{faultAt};
 ghost use Rattle.examine.specs.Whole.{BlocksWhole};
 use rules::Answer;

@@ -8,17 +8,9 @@ use Rattle.whole.specs.Below.{sumBelow}
 use Rattle.rules.specs.declared.Layout.{Layout}
 use Rattle.rules.specs.Record.{Hour}
 
--- ---- layouts: what one kind of file lays down
-
--- the first release's hour file
+-- what the first release's hour file lays down
 abbrev pub hourly : Layout
-hourly =
-    record { first = 1; other = 2; blocks = 26; records = 10; words = 12 }
-
--- the file of ten-minute settlement
-abbrev pub tenMinutes : Layout
-tenMinutes =
-    record { first = 3; other = 4; blocks = 17; records = 4; words = 30 }
+hourly = record { first = 1; other = 2; blocks = 26; records = 10; words = 12 }
 
 -- ---- words and blocks
 

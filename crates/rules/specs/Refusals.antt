@@ -11,8 +11,6 @@ use Rattle.whole.specs.Below.{firstBelow}
 use Rattle.rules.specs.declared.Answer.{Answer}
 use Rattle.rules.specs.declared.Answer.the-variants.{Accepted, BadLength, BadSum, BadBlock, BadHead, BadRecord, BadArea, BadAmount}
 use Rattle.rules.specs.declared.Answer.the-variants.{OutOfRange, TooNarrow, NotAnAmount, TooShort}
-use Rattle.rules.specs.declared.Found.{Found}
-use Rattle.rules.specs.declared.Found.the-variants.{At, Nothing}
 use Rattle.rules.specs.Record.{Hour, members, zones, areas}
 use Rattle.rules.specs.Ufe.{ufe, demands}
 use Rattle.rules.specs.Charge.{amount}
@@ -54,11 +52,6 @@ numberOf a = verdictOf a .number
 
 abbrev pub placeOf : Answer → ℕ
 placeOf a = verdictOf a .place
-
--- where a search found something
-abbrev pub foundAt : Found → Option ℕ
-foundAt (At i) = some i
-foundAt Nothing = none
 
 -- ---- a row: its number, and the place at which it is broken, if it is
 
@@ -174,6 +167,4 @@ writeRows width z =
 
 -- reading checks 10
 unfoldable pub readRows : List ℕ → List Row
-readRows field =
-    row 10 (notAnAmount field)
-    ∷ []
+readRows field = row 10 (notAnAmount field) ∷ []

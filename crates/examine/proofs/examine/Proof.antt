@@ -7,7 +7,8 @@ use Prim.Native.Nat.{ℕ}
 use native.Mathlib.Omega.{arith}
 use Rattle.rules.specs.declared.Layout.{Layout}
 use Rattle.rules.specs.HourFile.{hourly, lengthBad}
-use Rattle.rules.specs.Refusals.{foundAt, verdict, badLength, badSum, badBlock, tableRows, fileRows}
+use Rattle.rules.specs.Refusals.{verdict, badLength, badSum, badBlock, tableRows, fileRows}
+use Rattle.rules.specs.Inner.Searched.{foundAt}
 use Rattle.rules.proofs.Layouts.{hourly-fits}
 use Rattle.rules.proofs.Words.{length-is-whole}
 use Rattle.rules.proofs.Faults.{few-records}

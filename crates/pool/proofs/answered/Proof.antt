@@ -2,7 +2,8 @@
 use mathlib.Core.Path.{_≡_, sym, _∙_, ap}
 use mathlib.Core.Option.{none}
 use borrow.Author.Needs.{needs}
-use Rattle.rules.specs.Refusals.{foundAt, badArea}
+use Rattle.rules.specs.Refusals.{badArea}
+use Rattle.rules.specs.Inner.Searched.{foundAt}
 use Rattle.hour.specs.Hour.{hourIn}
 use Rattle.tally.specs.Posted.{Tallied}
 use Rattle.pool.proofs.Answers.{area-refused, some-short, all-pass}
