@@ -125,7 +125,7 @@ impl Cursor {
         Number::Found(run.value, Cursor { at: run.next })
     }
 
-    // A point and two digits.
+    // A point and two digits. The second is looked at first: where it stands, the first does too, and nothing is asked twice.
     pub fn cents(self, field: &[u8]) -> Number
         ensures { λ r. ⌜ numberPart r ≡ centsAt (now (field .entry)) (self .at) ⌝ }
     {

@@ -15,7 +15,7 @@ pub fn last_digit(number: u64, tenth: u64) -> u8
 }
 
 // The digits before `end`: digit by digit from the right, each time a tenth of what is left, until nothing is left. Hands back the
-// place of the first.
+// place of the first. The text is an array and no slice, since the compiler makes a loop of the recursion only then.
 pub fn write_digits(text: &mut [u8; 20], end: usize, left: u64) -> usize
     requires { ⌜ (length (decimal left) ≤ end) × (end ≤ 20) ⌝ }
     ensures first { λ r. ⌜ r ≡ end - length (decimal left) ⌝ }

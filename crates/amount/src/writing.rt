@@ -25,9 +25,9 @@ pub fn write_amount(text: &mut [u8; 20], cents: i64) -> usize
     text[17] = b'.';
     text[18] = text::last_digit(tenth, dollars);
     text[19] = text::last_digit(size, tenth);
-    let first = text::write_digits(text, 17, dollars);
-    text[first - 1] = sign_byte(cents);
-    21 - first
+    let at = text::write_digits(text, 17, dollars) - 1;
+    text[at] = sign_byte(cents);
+    20 - at
 }
 
 // Blanks before `end`.
@@ -43,7 +43,7 @@ fn put_blanks(field: &mut [u8], end: usize)
 }
 
 // A text at the right end of the field: its last 14 bytes, which hold every amount, with blanks before them; in a narrower field as many
-// as it has room for.
+// as there is room for. `write` has seen that the others are blanks.
 pub fn put(field: &mut [u8], text: &[u8; 20])
     requires { ⌜ length (now text) ≡ 20 ⌝ }
     ensures { λ r. ⌜

@@ -100,11 +100,11 @@ element-write-text-3 c = search needs
 write-digits-requires : tie.Need-write-digits-requires
 write-digits-requires c κs = omega (arith, few (c .before .before .before))
 
+sub-at : tie.Need-sub-at
+sub-at c = omega (arith, c .write-digits .ensures .0, few (c .before .before .before .before))
+
 sign-byte-requires : tie.Need-sign-byte-requires
 sign-byte-requires c κs = search needs
-
-sub-text : tie.Need-sub-text
-sub-text c = omega (arith, c .before .write-digits .ensures .0, few (c .before .before .before .before .before))
 
 element-write-text-4 : tie.Need-element-write-text-4
 element-write-text-4 c = search needs
@@ -141,8 +141,8 @@ write-amount-spec =
     last-digit-requires-2
     element-write-text-3
     write-digits-requires
+    sub-at
     sign-byte-requires
-    sub-text
     element-write-text-4
     sub-result
     returns)
