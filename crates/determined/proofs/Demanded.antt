@@ -4,13 +4,14 @@ use mathlib.Core.Path.{_≡_, sym, _∙_, ap}
 use mathlib.Core.List.{List}
 use Prim.Native.Nat.{ℕ, _≤_}
 use lib.IntN.{ℤ}
-use lib.ListN.{length, take}
+use lib.ListN.{length, take, drop}
 use contract.Lifetimes.{Lfts}
 use denote.Ref.{now}
 use Rattle.rules.specs.declared.Answer.the-variants.{Accepted}
 use Rattle.rules.specs.declared.Line.{Line}
 use Rattle.rules.specs.Refusals.{Verdict, refusedAt, verdictOf}
-use Rattle.rules.specs.Settling.{Buffers, Settlement, settle as settling}
+use Rattle.rules.specs.HourFile.{hourly, body}
+use Rattle.rules.specs.Settling.{Buffers, Settlement, settle as settling, write as writing, read as reading}
 use Rattle.rules.specs.Statement as Statement
 use Rattle.rules.specs.Inner.Kept.{FileKept}
 use Rattle.rules.proofs.Rows.{settle-verdict, settle-changes-nothing}
@@ -29,6 +30,9 @@ use Rattle.examine.proofs.examine.Reads as examine
 use Rattle.pool.proofs.Port.settle.Reads as settle
 use Rattle.pool.proofs.settle_unlined.Reads as settle-unlined
 use Rattle.pool.proofs.Port.sneupelaar_settle.Reads as sneupelaar-settle
+use Rattle.pool.proofs.boundary.sneupelaar_write.Reads as sneupelaar-write
+use Rattle.pool.proofs.boundary.sneupelaar_read.Reads as sneupelaar-read
+use Rattle.pool.proofs.boundary.sneupelaar_body.Reads as sneupelaar-body
 use Rattle.report.proofs.statement.Reads as statement
 
 -- ---- settling
@@ -84,7 +88,21 @@ pub read-is-written : (κs μs : Lfts 1) → Gives (read.Post κs) (λ a x s. x 
 read-is-written κs μs a x s p accepts b y t q same width = RoundTrips.read-is-written (now (a .0)) _ _ (x .amount) y
     (record { verdict-is = ap verdictOf (sym accepts) ∙ p .0; amount-is = p .1 }) width (rw same at (write-promises μs b y t q))
 
+-- the same for C, with the answer as its number and place
+pub sneupelaar-write-promises : (κs : Lfts 1) → Gives (sneupelaar-write.Post κs) (λ a x s.
+    record { verdict = refusedAt (x .number) (x .place); field = now (s .1 .0) } ≡ writing (now (a .1 .0)) (a .0))
+sneupelaar-write-promises κs a x s p = p
+
+pub sneupelaar-read-promises : (κs : Lfts 1) → Gives (sneupelaar-read.Post κs) (λ a x s.
+    record { verdict = refusedAt (x .number) (x .place); amount = x .amount } ≡ reading (now (a .0)))
+sneupelaar-read-promises κs a x s p = p
+
 -- ---- the file and its statement
+
+-- the bytes at the place that is handed out are the body
+pub sneupelaar-body-promises : (κs : Lfts 1) → Gives (sneupelaar-body.Post κs) (λ a x s.
+    take (x .length) (drop (x .from) (now (a .0))) ≡ body hourly (now (a .0)) (a .1 .0))
+sneupelaar-body-promises κs a x s p = p .1
 
 pub examine-promises : (κs : Lfts 1) → Gives (examine.Post κs) (λ a x s. x ≡ Accepted → FileKept (now (a .0)))
 examine-promises κs a x s p accepts = Examined.accepted-kept (now (a .0)) x p accepts
