@@ -104,13 +104,13 @@ range c = let d = told2 c in let t = told d in
     in-range (text t) (theSign t) (sign-is t) (theDollars d) (dollars-are d) (theCents c) (cents-are c)
 
 start-requires : tie.Need-start-requires
-start-requires c κs = search needs
+start-requires c κs = tt
 
 blanks-requires : tie.Need-blanks-requires
-blanks-requires c κs = search needs
+blanks-requires c κs = tt
 
 sign-requires : tie.Need-sign-requires
-sign-requires c κs = search needs
+sign-requires c κs = tt
 
 enum-known-is-minus : tie.Need-enum-known-is-minus
 enum-known-is-minus c = search needs
@@ -119,7 +119,7 @@ enum-told : tie.Need-enum-told
 enum-told c = search needs
 
 refused-requires : tie.Need-refused-requires
-refused-requires c κs = search needs
+refused-requires c κs = tt
 
 returns : tie.Need-returns
 returns c = let p = c .before .before .before in let s = p .before .before .before .before .args .field .now in
@@ -127,7 +127,7 @@ returns c = let p = c .before .before .before in let s = p .before .before .befo
     (no-sign s (sym (past-blanks p) ∙ ap signPart (c .before .enum-told .given .1)))
 
 dollars-requires : tie.Need-dollars-requires
-dollars-requires c κs = search needs
+dollars-requires c κs = tt
 
 enum-known-dollars : tie.Need-enum-known-dollars
 enum-known-dollars c = search needs
@@ -136,7 +136,7 @@ enum-told-2 : tie.Need-enum-told-2
 enum-told-2 c = search needs
 
 refused-requires-2 : tie.Need-refused-requires-2
-refused-requires-2 c κs = search needs
+refused-requires-2 c κs = tt
 
 returns-2 : tie.Need-returns-2
 returns-2 c = let p = c .before .before .before in let t = p .before in
@@ -144,7 +144,7 @@ returns-2 c = let p = c .before .before .before in let t = p .before in
     (no-dollars (text t) (theSign t) (sign-is t) (sym (p .dollars .ensures) ∙ ap numberPart (c .before .enum-told2 .given .1)))
 
 cents-requires : tie.Need-cents-requires
-cents-requires c κs = search needs
+cents-requires c κs = tt
 
 enum-known-cents : tie.Need-enum-known-cents
 enum-known-cents c = search needs
@@ -153,7 +153,7 @@ enum-told-3 : tie.Need-enum-told-3
 enum-told-3 c = search needs
 
 refused-requires-3 : tie.Need-refused-requires-3
-refused-requires-3 c κs = search needs
+refused-requires-3 c κs = tt
 
 returns-3 : tie.Need-returns-3
 returns-3 c = let p = c .before .before .before in let d = p .before in let t = told d in
@@ -162,7 +162,7 @@ returns-3 c = let p = c .before .before .before in let d = p .before in let t = 
     (sym (p .cents .ensures) ∙ ap numberPart (c .before .enum-told3 .given .1)))
 
 refused-requires-4 : tie.Need-refused-requires-4
-refused-requires-4 c κs = search needs
+refused-requires-4 c κs = tt
 
 returns-4 : tie.Need-returns-4
 returns-4 c = let k = c .before .before .before in let d = told2 k in let t = told d in

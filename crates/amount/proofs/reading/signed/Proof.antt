@@ -35,7 +35,7 @@ returns c =
     rw (not-true (s .args .is-minus) (c .if1 .taken), i64-is {n = s .args .size} (omega arith))
 
 refused-requires : tie.Need-refused-requires
-refused-requires c κs = search needs
+refused-requires c κs = tt
 
 returns-2 : tie.Need-returns-2
 unfolding withMinus

@@ -35,7 +35,7 @@ module _ (f t : List ℕ) (whole : length t ≡ 20) where
       to-the-end = simp (length-append, length-replicate, length-drop) (omega arith)
 
 put-text-requires : tie.Need-put-text-requires
-put-text-requires c κs = search needs
+put-text-requires c κs = omega arith
 
 same-length : tie.Need-same-length
 same-length c = search needs
@@ -46,10 +46,10 @@ returns c =
     in-narrower (s .args .field .now) (s .args .text .now) (s .pre) (omega arith) (c .before .before .put-text .ensures)
 
 put-blanks-requires : tie.Need-put-blanks-requires
-put-blanks-requires c κs = search needs
+put-blanks-requires c κs = omega arith
 
 put-text-requires-2 : tie.Need-put-text-requires-2
-put-text-requires-2 c κs = search needs
+put-text-requires-2 c κs = omega arith
 
 same-length-2 : tie.Need-same-length-2
 same-length-2 c = search needs

@@ -80,19 +80,19 @@ few : (c : tie.After-size-of) → length (decimal (c .size-of .result / 100)) �
 few c = let z = c .before .args .cents in rw (sized c) (omega (arith, text-fits-14 z (c .before .pre .0), text-length z))
 
 size-of-requires : tie.Need-size-of-requires
-size-of-requires c κs = search needs
+size-of-requires c κs = tt
 
 element-write-text : tie.Need-element-write-text
 element-write-text c = search needs
 
 last-digit-requires : tie.Need-last-digit-requires
-last-digit-requires c κs = search needs
+last-digit-requires c κs = omega arith
 
 element-write-text-2 : tie.Need-element-write-text-2
 element-write-text-2 c = search needs
 
 last-digit-requires-2 : tie.Need-last-digit-requires-2
-last-digit-requires-2 c κs = search needs
+last-digit-requires-2 c κs = refl
 
 element-write-text-3 : tie.Need-element-write-text-3
 element-write-text-3 c = search needs
@@ -104,7 +104,7 @@ sub-at : tie.Need-sub-at
 sub-at c = omega (arith, c .write-digits .ensures .0, few (c .before .before .before .before))
 
 sign-byte-requires : tie.Need-sign-byte-requires
-sign-byte-requires c κs = search needs
+sign-byte-requires c κs = tt
 
 element-write-text-4 : tie.Need-element-write-text-4
 element-write-text-4 c = search needs

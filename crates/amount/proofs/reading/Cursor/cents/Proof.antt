@@ -43,7 +43,7 @@ tens : (c : tie.Else3) → let s = c .before .before .before .before .before .be
 tens c = a-digit (c .before .is-digit2 .ensures) (c .if3 .left) (c .before .before .byte-at3 .ensures)
 
 byte-at-requires : tie.Need-byte-at-requires
-byte-at-requires c κs = search needs
+byte-at-requires c κs = tt
 
 returns : tie.Need-returns
 unfolding centsAt
@@ -55,10 +55,10 @@ add-byte-at c = let e = point c in let s = c .before .before .before in
     omega (arith, stands (s .args .field .now) (s .args .self .at) (λ z. omega arith))
 
 byte-at-requires-2 : tie.Need-byte-at-requires-2
-byte-at-requires-2 c κs = search needs
+byte-at-requires-2 c κs = tt
 
 is-digit-requires : tie.Need-is-digit-requires
-is-digit-requires c κs = search needs
+is-digit-requires c κs = tt
 
 returns-2 : tie.Need-returns-2
 unfolding centsAt
@@ -74,10 +74,10 @@ add-byte-at-2 c = let s = c .before .before .before .before .before .before in
     omega (arith, digit-stands (s .args .field .now) (s .args .self .at + 2) (ones c))
 
 byte-at-requires-3 : tie.Need-byte-at-requires-3
-byte-at-requires-3 c κs = search needs
+byte-at-requires-3 c κs = tt
 
 is-digit-requires-2 : tie.Need-is-digit-requires-2
-is-digit-requires-2 c κs = search needs
+is-digit-requires-2 c κs = tt
 
 returns-3 : tie.Need-returns-3
 unfolding centsAt

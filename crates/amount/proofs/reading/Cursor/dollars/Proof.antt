@@ -6,7 +6,6 @@ use mathlib.Core.Bool.{true, not, _||_, or-true}
 use mathlib.Core.List.{List}
 use mathlib.Core.Option.{none, some}
 use native.Mathlib.Omega.{arith}
-use borrow.Author.Needs.{needs}
 use borrow.Author.Tests.{le-leb, lt-leb, eq-eqb, ne-eqb}
 use lib.Dec.{eqb}
 use lib.ListN.{drop, getD}
@@ -37,7 +36,7 @@ module _ (s : List ℕ) (at count : ℕ) (counted : count ≡ min 11 (digitCount
     found h front = rw (all, le-leb 1 count (omega arith), le-leb count 10 most, front)
 
 digits-from-requires : tie.Need-digits-from-requires
-digits-from-requires c κs = search needs
+digits-from-requires c κs = tt
 
 returns : tie.Need-returns
 returns c =
@@ -52,7 +51,7 @@ returns-2 c =
     (c .before .before .digits-from .ensures .0) (c .if2 .taken)
 
 byte-at-requires : tie.Need-byte-at-requires
-byte-at-requires c κs = search needs
+byte-at-requires c κs = tt
 
 returns-3 : tie.Need-returns-3
 returns-3 c =

@@ -1,7 +1,6 @@
 -- `amount::reading::Cursor::sign` meets its contract: a plus, a minus, or none.
 use mathlib.Core.Path.{_≡_, sym, _∙_}
 use native.Mathlib.Omega.{arith}
-use borrow.Author.Needs.{needs}
 use borrow.Author.Tests.{ne-eqb}
 use lib.ListN.{getD}
 use Rattle.rules.specs.Text.{signAt}
@@ -10,7 +9,7 @@ use Rattle.amount.proofs.reading.Cursor.sign.Statement.{statement}
 use Rattle.amount.proofs.reading.Cursor.sign.Tie as tie
 
 byte-at-requires : tie.Need-byte-at-requires
-byte-at-requires c κs = search needs
+byte-at-requires c κs = tt
 
 plus : (c : tie.Then1) → getD (c .before .before .before .args .field .now) (c .before .before .before .args .self .at) 0 ≡ 43
 plus c = sym (c .before .byte-at .ensures) ∙ c .if1 .taken
