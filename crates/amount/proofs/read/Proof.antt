@@ -112,15 +112,19 @@ blanks-requires c κs = tt
 sign-requires : tie.Need-sign-requires
 sign-requires c κs = tt
 
+-- Sign::Found(is_minus, after_sign)
 enum-known-is-minus : tie.Need-enum-known-is-minus
 enum-known-is-minus c = search needs
 
+-- the first else: Sign::Missing
 enum-told : tie.Need-enum-told
 enum-told c = search needs
 
+-- the first reading::refused()
 refused-requires : tie.Need-refused-requires
 refused-requires c κs = tt
 
+-- the first return: no sign
 returns : tie.Need-returns
 returns c = let p = c .before .before .before in let s = p .before .before .before .before .args .field .now in
     answered s (c .refused .result) none (c .refused .ensures)
@@ -129,15 +133,19 @@ returns c = let p = c .before .before .before in let s = p .before .before .befo
 dollars-requires : tie.Need-dollars-requires
 dollars-requires c κs = tt
 
+-- Number::Found(dollars, after_dollars)
 enum-known-dollars : tie.Need-enum-known-dollars
 enum-known-dollars c = search needs
 
+-- the second else: Number::Missing
 enum-told-2 : tie.Need-enum-told-2
 enum-told-2 c = search needs
 
+-- the second reading::refused()
 refused-requires-2 : tie.Need-refused-requires-2
 refused-requires-2 c κs = tt
 
+-- the second return: no dollars
 returns-2 : tie.Need-returns-2
 returns-2 c = let p = c .before .before .before in let t = p .before in
     answered (text t) (c .refused2 .result) none (c .refused2 .ensures)
@@ -146,38 +154,47 @@ returns-2 c = let p = c .before .before .before in let t = p .before in
 cents-requires : tie.Need-cents-requires
 cents-requires c κs = tt
 
+-- Number::Found(cents, after_cents)
 enum-known-cents : tie.Need-enum-known-cents
 enum-known-cents c = search needs
 
+-- the third else: Number::Missing
 enum-told-3 : tie.Need-enum-told-3
 enum-told-3 c = search needs
 
+-- the third reading::refused()
 refused-requires-3 : tie.Need-refused-requires-3
 refused-requires-3 c κs = tt
 
+-- the third return: no cents
 returns-3 : tie.Need-returns-3
 returns-3 c = let p = c .before .before .before in let d = p .before in let t = told d in
     answered (text t) (c .refused3 .result) none (c .refused3 .ensures)
     (no-cents (text t) (theSign t) (sign-is t) (theDollars d) (dollars-are d)
     (sym (p .cents .ensures) ∙ ap numberPart (c .before .enum-told3 .given .1)))
 
+-- the fourth reading::refused()
 refused-requires-4 : tie.Need-refused-requires-4
 refused-requires-4 c κs = tt
 
+-- the fourth return: after_cents.at != field.len()
 returns-4 : tie.Need-returns-4
 returns-4 c = let k = c .before .before .before in let d = told2 k in let t = told d in
     answered (text t) (c .refused4 .result) none (c .refused4 .ensures)
     (something-after (text t) (theSign t) (sign-is t) (theDollars d) (dollars-are d) (theCents k) (cents-are k) (c .before .if1 .taken))
 
+-- 100 * dollars
 mul-signed : tie.Need-mul-signed
 mul-signed c = omega (arith, range (c .before .before))
 
+-- 100 * dollars + cents
 add-signed : tie.Need-add-signed
 add-signed c = omega (arith, range (c .before .before))
 
 signed-requires : tie.Need-signed-requires
 signed-requires c κs = range (c .before .before)
 
+-- reading::signed(is_minus, 100 * dollars + cents)
 returns-5 : tie.Need-returns-5
 returns-5 c = let k = c .before .before .before in let d = told2 k in let t = told d in
     answered (text t) (c .signed .result) (withMinus (theSign t .value) (100 * theDollars d .value + theCents k .value))

@@ -47,6 +47,7 @@ written c =
 size-of-requires : tie.Need-size-of-requires
 size-of-requires c κs = tt
 
+-- Answer::OutOfRange
 returns : tie.Need-returns
 returns c =
     let s = c .before .before .before in
@@ -55,6 +56,7 @@ returns c =
 write-amount-requires : tie.Need-write-amount-requires
 write-amount-requires c κs = search needs
 
+-- Answer::TooNarrow
 returns-2 : tie.Need-returns-2
 returns-2 c =
     let s = c .before .before .before .before .before .before .args in
@@ -66,9 +68,11 @@ put-requires c κs =
     let w = written (c .before .before .before) in
     rw (w .2) (amount-field-width 20 (c .before .before .before .before .before .before .before .before .args .cents) (omega (arith, w .0)))
 
+-- field: &mut [u8]
 same-length : tie.Need-same-length
 same-length c = search needs
 
+-- Answer::Accepted
 returns-3 : tie.Need-returns-3
 returns-3 c =
     let t = c .before .before .before .before .before .before in

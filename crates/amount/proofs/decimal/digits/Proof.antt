@@ -8,6 +8,7 @@ use Rattle.amount.proofs.decimal.digits.Tie as tie
 write-digits-requires : tie.Need-write-digits-requires
 write-digits-requires c κs = omega (arith, decimal-at-most-20 (c .before .args .left))
 
+-- 20 - text::write_digits(&mut text, 20, left)
 sub-result : tie.Need-sub-result
 sub-result c = search needs
 

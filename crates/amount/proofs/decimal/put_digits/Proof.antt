@@ -19,6 +19,7 @@ stored-there d l i e = rw (stored-to-the-end d l i e) (drop-at (take i l) d i (l
 write-digits-requires : tie.Need-write-digits-requires
 write-digits-requires c κs = omega (arith, decimal-at-most-20 (c .before .before .args .left))
 
+-- 20 - first
 sub-put-text : tie.Need-sub-put-text
 sub-put-text c = search needs
 
@@ -29,6 +30,7 @@ put-text-requires c κs =
     let whole : length (w .last .0) ≡ 20 = rw (w .ensures .1) (length-sets (replicate 20 0) (20 - length d) d) in
     omega (arith, w .ensures .0)
 
+-- field: &mut [u8]
 same-length : tie.Need-same-length
 same-length c = search needs
 

@@ -51,6 +51,7 @@ loop-holds : tie.Need-loop-holds Inv-loop μ-loop
 unfolding digitsValue
 loop-holds c = (omega arith, rw (add-zero, zero-add), refl)
 
+-- from + count
 add-byte-at : tie.Need-add-byte-at Inv-loop μ-loop
 add-byte-at c = omega (arith, room (c .before))
 
@@ -68,18 +69,23 @@ small : (c : tie.Else1 Inv-loop μ-loop) → c .before .before .before .before .
 small c = let h = c .before .before .before .before in
     rw (h .loop .inv .2) (at-most-ten (s h) (from h) (h .loop .count) (h .loop .inv .1) (omega arith))
 
+-- 10 * value
 mul-value : tie.Need-mul-value Inv-loop μ-loop
 mul-value c = omega (arith, small c)
 
+-- byte - 48
 sub-value : tie.Need-sub-value Inv-loop μ-loop
 sub-value c = digit-range (c .before .before .byte-at .result) (digit c) .0
 
+-- (byte - 48) as u64
 cast-value : tie.Need-cast-value Inv-loop μ-loop
 cast-value c = omega (arith, digit-range (c .before .before .byte-at .result) (digit c) .1)
 
+-- 10 * value + (byte - 48) as u64
 add-value : tie.Need-add-value Inv-loop μ-loop
 add-value c = omega (arith, small c, digit-range (c .before .before .byte-at .result) (digit c) .1)
 
+-- count += 1
 add-count : tie.Need-add-count Inv-loop μ-loop
 add-count c = omega arith
 
@@ -95,6 +101,7 @@ loop-again c =
       rw (h .loop .inv .2, b .ensures) (sym (value-more (s h) (from h) (h .loop .count))),
     )
 
+-- next: from + count
 add-t12 : tie.Need-add-t12 Inv-loop μ-loop
 add-t12 c = omega (arith, room (c .before))
 

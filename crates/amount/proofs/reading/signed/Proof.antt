@@ -25,9 +25,11 @@ unfolding withMinus
 minus-some zero h = absurd (h refl)
 minus-some (suc n) h = ap some (sym (from-zero (pos (suc n))))
 
+-- size as i64, where !is_minus
 cast-t5 : tie.Need-cast-t5
 cast-t5 c = search needs
 
+-- the first return: !is_minus
 returns : tie.Need-returns
 unfolding withMinus
 returns c =
@@ -37,18 +39,22 @@ returns c =
 refused-requires : tie.Need-refused-requires
 refused-requires c κs = tt
 
+-- return refused()
 returns-2 : tie.Need-returns-2
 unfolding withMinus
 returns-2 c =
     let s = c .before .before .before in
     rw (not-false (s .args .is-minus) (c .before .before .if1 .left), c .before .if2 .taken) (c .refused .ensures)
 
+-- size as i64, of -(size as i64)
 cast-t7 : tie.Need-cast-t7
 cast-t7 c = search needs
 
+-- -(size as i64)
 sub-t8 : tie.Need-sub-t8
 sub-t8 c = fits (minus (c .before .before .args .size) (c .before .before .pre)) tt
 
+-- amount: -(size as i64)
 returns-3 : tie.Need-returns-3
 returns-3 c =
     let s = c .before .before in

@@ -38,15 +38,18 @@ abbrev below : ℕ → In 1 kinds.ps
 below t = and 1 kinds.ps (falls 1 kinds.ps _<_ μ t) reads.Pre
 
 module _ (t : ℕ) where
+  -- end - 1
   sub-at : lts.Need-sub-at (last-digit.Asked, last-digit.Learnt, below t, reads.Post) (at t) reads.Post
   sub-at c = omega (arith, decimal-at-least-1 (c .args .left), c .pre .1 .0)
 
   last-digit-requires : lts.Need-last-digit-requires (last-digit.Asked, last-digit.Learnt, below t, reads.Post) (at t) reads.Post
   last-digit-requires c κs = refl
 
+  -- text[at]
   element-write-text : lts.Need-element-write-text (last-digit.Asked, last-digit.Learnt, below t, reads.Post) (at t) reads.Post
   element-write-text c = omega (arith, decimal-at-least-1 (c .before .args .left), c .before .pre .1 .0, c .before .pre .1 .1)
 
+  -- return at
   returns : lts.Need-returns (last-digit.Asked, last-digit.Learnt, below t, reads.Post) (at t) reads.Post
   returns c = rw (decimal-last (c .before .before .args .left) (c .if1 .taken), c .before .last-digit .ensures) (refl, refl)
 
@@ -56,6 +59,7 @@ module _ (t : ℕ) where
       let more = decimal-length-more (s .args .left) (omega (arith, s .fits .left .fits)) (c .before .if1 .left) in
       (omega (arith, s .pre .0, c .before .if1 .left), (omega (arith, s .pre .1 .0), omega (arith, s .pre .1 .1)))
 
+  -- write_digits(text, at, tenth)
   returns-2 : lts.Need-returns-2 (last-digit.Asked, last-digit.Learnt, below t, reads.Post) (at t) reads.Post
   returns-2 c =
       let s = c .before .before .before .before in

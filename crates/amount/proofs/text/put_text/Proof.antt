@@ -15,9 +15,11 @@ Inv-loop field₀ end text count start first i₀ field i =
 abbrev μ-loop : tie.MeasureT-loop
 μ-loop field₀ end text count start first i₀ field i = count - i
 
+-- end - count
 sub-start : tie.Need-sub-start Inv-loop μ-loop
 sub-start c = c .pre .0
 
+-- 20 - count
 sub-first : tie.Need-sub-first Inv-loop μ-loop
 sub-first c = c .pre .2
 
@@ -25,18 +27,23 @@ loop-holds : tie.Need-loop-holds Inv-loop μ-loop
 loop-holds c = let a = c .args in
     (omega arith, refl, paste-zero (a .field .now) (a .end - a .count) (drop (20 - a .count) (a .text .now)))
 
+-- first + i
 add-field : tie.Need-add-field Inv-loop μ-loop
 add-field c = omega arith
 
+-- text[first + i]
 element-copy-out-field : tie.Need-element-copy-out-field Inv-loop μ-loop
 element-copy-out-field c = omega arith
 
+-- start + i
 add-field-2 : tie.Need-add-field-2 Inv-loop μ-loop
 add-field-2 c = omega arith
 
+-- field[start + i]
 slice-write-field : tie.Need-slice-write-field Inv-loop μ-loop
 slice-write-field c = omega arith
 
+-- i += 1
 add-i : tie.Need-add-i Inv-loop μ-loop
 add-i c = omega arith
 
@@ -57,6 +64,7 @@ loop-again c =
           ∙ sym (ap (paste (a .field .now) start last) (add-one (l .i)))),
     )
 
+-- field: &mut [u8]
 same-length : tie.Need-same-length Inv-loop μ-loop
 same-length c = c .before .loop .inv .1
 

@@ -34,12 +34,15 @@ module _ (f t : List ℕ) (whole : length t ≡ 20) where
       to-the-end : wider + length (drop 6 t) ≡ length (replicate wider 32 ++ drop wider f)
       to-the-end = simp (length-append, length-replicate, length-drop) (omega arith)
 
+-- text::put_text(field, width, text, width)
 put-text-requires : tie.Need-put-text-requires
 put-text-requires c κs = omega arith
 
+-- field: &mut [u8], where width < 14
 same-length : tie.Need-same-length
 same-length c = search needs
 
+-- return, where width < 14
 returns : tie.Need-returns
 returns c =
     let s = c .before .before .before .before .before .before in
@@ -48,12 +51,15 @@ returns c =
 put-blanks-requires : tie.Need-put-blanks-requires
 put-blanks-requires c κs = omega arith
 
+-- text::put_text(field, width, text, 14)
 put-text-requires-2 : tie.Need-put-text-requires-2
 put-text-requires-2 c κs = omega arith
 
+-- field: &mut [u8], at the end
 same-length-2 : tie.Need-same-length-2
 same-length-2 c = search needs
 
+-- text::put_text(field, width, text, 14), at the end
 returns-2 : tie.Need-returns-2
 returns-2 c =
     let s = c .before .before .before .before .before .before .before .before .before .before in

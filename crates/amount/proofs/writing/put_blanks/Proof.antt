@@ -17,9 +17,11 @@ abbrev μ-loop : tie.MeasureT-loop
 loop-holds : tie.Need-loop-holds Inv-loop μ-loop
 loop-holds c = (omega arith, refl, refl)
 
+-- field[at]
 slice-write-field : tie.Need-slice-write-field Inv-loop μ-loop
 slice-write-field c = omega arith
 
+-- at += 1
 add-at : tie.Need-add-at Inv-loop μ-loop
 add-at c = omega arith
 
@@ -35,6 +37,7 @@ loop-again c =
       ap (λ x. set x (l .at) 32) (l .inv .2) ∙ fill-more (l .at) 32 f (omega arith),
     )
 
+-- field: &mut [u8]
 same-length : tie.Need-same-length Inv-loop μ-loop
 same-length c = c .before .loop .inv .1
 

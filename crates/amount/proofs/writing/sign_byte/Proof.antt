@@ -19,9 +19,11 @@ plus : (z : ℤ) → ltZ z (pos 0) ≡ false → 43 ≡ signByte z
 plus (pos n) t = refl
 plus (negsuc n) t = never refl t
 
+-- b'-'
 returns : tie.Need-returns
 returns c = minus (c .before .args .cents) (rw (read-back (c .before .fits .cents)) at (c .if1 .taken))
 
+-- b'+'
 returns-2 : tie.Need-returns-2
 returns-2 c = plus (c .before .args .cents) (rw (read-back (c .before .fits .cents)) at (c .if1 .left))
 

@@ -82,33 +82,41 @@ few c = let z = c .before .args .cents in rw (sized c) (omega (arith, text-fits-
 size-of-requires : tie.Need-size-of-requires
 size-of-requires c κs = tt
 
+-- text[17]
 element-write-text : tie.Need-element-write-text
 element-write-text c = search needs
 
+-- text::last_digit(tenth, dollars)
 last-digit-requires : tie.Need-last-digit-requires
 last-digit-requires c κs = omega arith
 
+-- text[18]
 element-write-text-2 : tie.Need-element-write-text-2
 element-write-text-2 c = search needs
 
+-- text::last_digit(size, tenth)
 last-digit-requires-2 : tie.Need-last-digit-requires-2
 last-digit-requires-2 c κs = refl
 
+-- text[19]
 element-write-text-3 : tie.Need-element-write-text-3
 element-write-text-3 c = search needs
 
 write-digits-requires : tie.Need-write-digits-requires
 write-digits-requires c κs = omega (arith, few (c .before .before .before))
 
+-- text::write_digits(text, 17, dollars) - 1
 sub-at : tie.Need-sub-at
 sub-at c = omega (arith, c .write-digits .ensures .0, few (c .before .before .before .before))
 
 sign-byte-requires : tie.Need-sign-byte-requires
 sign-byte-requires c κs = tt
 
+-- text[at]
 element-write-text-4 : tie.Need-element-write-text-4
 element-write-text-4 c = search needs
 
+-- 20 - at
 sub-result : tie.Need-sub-result
 sub-result c = search needs
 

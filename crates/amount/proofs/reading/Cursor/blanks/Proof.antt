@@ -32,6 +32,7 @@ blank c =
     let e : getD s at 0 ≡ 32 = sym (c .before .byte-at .ensures) ∙ c .if1 .taken in
     (e, stands s at (λ z. omega arith))
 
+-- at += 1
 add-at : tie.Need-add-at Inv-loop μ-loop
 add-at c = omega (arith, blank c .1)
 

@@ -42,24 +42,30 @@ tens : (c : tie.Else3) → let s = c .before .before .before .before .before .be
     isDigit (getD (s .args .field .now) (s .args .self .at + 1) 0) ≡ true
 tens c = a-digit (c .before .is-digit2 .ensures) (c .if3 .left) (c .before .before .byte-at3 .ensures)
 
+-- byte_at(field, at)
 byte-at-requires : tie.Need-byte-at-requires
 byte-at-requires c κs = tt
 
+-- the first return: no b'.'
 returns : tie.Need-returns
 unfolding centsAt
 returns c = let s = c .before .before .before in
     rw (ne-eqb (getD (s .args .field .now) (s .args .self .at) 0) 46 (λ e. c .if1 .taken (c .before .byte-at .ensures ∙ e)))
 
+-- at + 2
 add-byte-at : tie.Need-add-byte-at
 add-byte-at c = let e = point c in let s = c .before .before .before in
     omega (arith, stands (s .args .field .now) (s .args .self .at) (λ z. omega arith))
 
+-- byte_at(field, at + 2)
 byte-at-requires-2 : tie.Need-byte-at-requires-2
 byte-at-requires-2 c κs = tt
 
+-- is_digit(ones)
 is-digit-requires : tie.Need-is-digit-requires
 is-digit-requires c κs = tt
 
+-- the second return: !is_digit(ones)
 returns-2 : tie.Need-returns-2
 unfolding centsAt
 returns-2 c = let s = c .before .before .before .before .before .before in
@@ -69,16 +75,20 @@ returns-2 c = let s = c .before .before .before .before .before .before in
       and-false (isDigit (getD (s .args .field .now) (s .args .self .at + 1) 0)),
     )
 
+-- at + 1
 add-byte-at-2 : tie.Need-add-byte-at-2
 add-byte-at-2 c = let s = c .before .before .before .before .before .before in
     omega (arith, digit-stands (s .args .field .now) (s .args .self .at + 2) (ones c))
 
+-- byte_at(field, at + 1)
 byte-at-requires-3 : tie.Need-byte-at-requires-3
 byte-at-requires-3 c κs = tt
 
+-- is_digit(tens)
 is-digit-requires-2 : tie.Need-is-digit-requires-2
 is-digit-requires-2 c κs = tt
 
+-- the third return: !is_digit(tens)
 returns-3 : tie.Need-returns-3
 unfolding centsAt
 returns-3 c = rw (
@@ -87,29 +97,37 @@ returns-3 c = rw (
   no-digit (c .before .is-digit2 .ensures) (c .if3 .taken) (c .before .before .byte-at3 .ensures),
 )
 
+-- tens - 48
 sub-value : tie.Need-sub-value
 sub-value c = digit-range (c .before .before .byte-at3 .result) (rw (← c .before .before .byte-at3 .ensures) at (tens c)) .0
 
+-- (tens - 48) as u64
 cast-value : tie.Need-cast-value
 cast-value c = search needs
 
+-- 10 * (tens - 48) as u64
 mul-value : tie.Need-mul-value
 mul-value c = search needs
 
+-- ones - 48
 sub-value-2 : tie.Need-sub-value-2
 sub-value-2 c = digit-range (c .before .before .before .before .before .byte-at2 .result)
     (rw (← c .before .before .before .before .before .byte-at2 .ensures) at (ones (c .before .before .before))) .0
 
+-- (ones - 48) as u64
 cast-value-2 : tie.Need-cast-value-2
 cast-value-2 c = search needs
 
+-- 10 * (tens - 48) as u64 + (ones - 48) as u64
 add-value : tie.Need-add-value
 add-value c = search needs
 
+-- at + 3
 add-t9 : tie.Need-add-t9
 add-t9 c = let s = c .before .before .before .before .before .before .before .before .before in
     omega (arith, digit-stands (s .args .field .now) (s .args .self .at + 2) (ones (c .before .before .before)))
 
+-- Number::Found(value, ..)
 returns-4 : tie.Need-returns-4
 unfolding centsAt
 returns-4 c = let s = c .before .before .before .before .before .before .before .before .before in

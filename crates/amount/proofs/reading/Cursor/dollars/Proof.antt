@@ -38,12 +38,14 @@ module _ (s : List ℕ) (at count : ℕ) (counted : count ≡ min 11 (digitCount
 digits-from-requires : tie.Need-digits-from-requires
 digits-from-requires c κs = tt
 
+-- the first return: count == 0
 returns : tie.Need-returns
 returns c =
     let s = c .before .before .before in
     no-digit (s .args .field .now) (s .args .self .at) (c .before .digits-from .result .count) (c .before .digits-from .ensures .0)
     (c .if1 .taken)
 
+-- the second return: 10 < count
 returns-2 : tie.Need-returns-2
 returns-2 c =
     let s = c .before .before .before .before in
@@ -53,6 +55,7 @@ returns-2 c =
 byte-at-requires : tie.Need-byte-at-requires
 byte-at-requires c κs = tt
 
+-- the third return: byte_at(field, at) == b'0'
 returns-3 : tie.Need-returns-3
 returns-3 c =
     let t = c .before .before .before in
@@ -62,6 +65,7 @@ returns-3 c =
     (omega (arith, c .before .before .if3 .taken))
     (sym (c .before .byte-at .ensures) ∙ c .if4 .taken)
 
+-- Number::Found(run.value, ..), where 1 < count
 returns-4 : tie.Need-returns-4
 returns-4 c =
     let t = c .before .before .before in
@@ -72,6 +76,7 @@ returns-4 c =
     (t .if2 .left) (t .before .if1 .left)
     (rw (ne-eqb first 48 (λ e. c .if4 .left (c .before .byte-at .ensures ∙ e))) (or-true (eqb (d .result .count) 1))))
 
+-- Number::Found(run.value, ..), where count is 1
 returns-5 : tie.Need-returns-5
 returns-5 c =
     let t = c .before in

@@ -18,24 +18,29 @@ minus : (c : tie.Then2) →
     getD (c .before .before .before .before .args .field .now) (c .before .before .before .before .args .self .at) 0 ≡ 45
 minus c = sym (c .before .before .byte-at .ensures) ∙ c .if2 .taken
 
+-- at + 1, after b'+'
 add-t6 : tie.Need-add-t6
 add-t6 c = let e = plus c in
     omega (arith, stands (c .before .before .before .args .field .now) (c .before .before .before .args .self .at) (λ z. omega arith))
 
+-- Sign::Found(false, ..)
 returns : tie.Need-returns
 unfolding signAt
 returns c = rw (plus c)
 
+-- at + 1, after b'-'
 add-t8 : tie.Need-add-t8
 add-t8 c = let e = minus c in omega (
   arith,
   stands (c .before .before .before .before .args .field .now) (c .before .before .before .before .args .self .at) (λ z. omega arith),
 )
 
+-- Sign::Found(true, ..)
 returns-2 : tie.Need-returns-2
 unfolding signAt
 returns-2 c = rw (minus c)
 
+-- Sign::Missing
 returns-3 : tie.Need-returns-3
 unfolding signAt
 returns-3 c =
