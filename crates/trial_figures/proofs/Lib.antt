@@ -1,2 +1,2 @@
--- The laws behind the proofs of `figures`.
+-- The laws behind the proofs of `trial_figures`.
 pub mod Shown

@@ -1,2 +1,2 @@
--- What the contracts of `figures` cite.
+-- What the contracts of `trial_figures` cite.
 pub mod Small
