@@ -4,7 +4,7 @@ use mathlib.Core.Path.{_≡_, refl, _∙_}
 use mathlib.Core.Bool.{cond}
 use mathlib.Core.Option.{none}
 use Prim.Native.Nat.{ℕ, _+_, _*_, _≤_, _<_, zero-le}
-use native.Mathlib.Nat.{le-refl, le-trans, mul-le-mul}
+use native.Mathlib.Nat.{le-refl, le-trans}
 use native.Mathlib.Omega.{arith}
 use lib.IntN.{ℤ, pos, natAbs, _-ℤ_, _*ℤ_}
 use lib.Dec.{eqb}
@@ -24,7 +24,6 @@ use Rattle.rules.specs.Record.{Hour, Entry, members, areas, price, zoneO
 use Rattle.rules.specs.Deviation.{unitsPerKWh, generatorUnavailable, generatorDeviation, loadUnavailable, loadDeviation}
 use Rattle.rules.specs.Deviation.{importDeviation, exportDeviation, deviationAs, deviation}
 use Rattle.rules.specs.Ufe.{inArea, ufe, demand, demands}
-use Rattle.rules.specs.Share.{allDemand}
 use Rattle.rules.specs.Charge.{enteringAs, entering, nearestCent, cents, shareOf, grains, amount, charge}
 use Rattle.rules.specs.Inner.Posting.{accountedAs, accounted}
 use Rattle.rules.specs.Refusals.{mostGrains, badAmount}
@@ -126,10 +125,6 @@ module _ {h : Hour} (kept : HourKept h) where
       each i m = cond-ind (inArea h a isLoad i) (demand h i) 0 (λ d. d ≤ 100000) (λ t. kept .record-kept i (omega arith) .demand-most)
           (λ t. zero-le)
 
-  pub demands-most : (a : ℕ) → demands h a ≤ 25000000
-  unfolding demands allDemand
-  demands-most a = demand-running a (h .count) (le-refl (h .count))
-
   energy-at : (i : ℕ) → i < h .count → Under (accounted (entryOf h i)) 2000000000
   energy-at i l = accounted-under (kept .record-kept i l .entry-kept)
 
@@ -192,10 +187,6 @@ module _ {h : Hour} (kept : HourKept h) where
       let own = sum-at (λ j. cond (eqb (areaOf h j) a) (natAbs (shareOf h j)) 0) (h .count) i l in
       let u = ufe-under a (kept .record-kept i l .area-there) in
       record { under = le-trans (rw (eq-eqb a a refl) at own) (le-trans (share-sizes-at-most h a) (u .under)) }
-
-  -- A demand times the size of a UFE is at most 10^17.
-  pub product-most : (i a : ℕ) → i < h .count → a < areas h → demand h i * natAbs (ufe h a) ≤ 100000000000000000
-  product-most i a l m = mul-le-mul (kept .record-kept i l .demand-most) (ufe-under a m .under)
 
   -- ---- grains and amounts
 

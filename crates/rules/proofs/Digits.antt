@@ -220,9 +220,6 @@ unfolding decimal
 decimal-more n h f =
     rw (digits-more 19 n (omega arith), room-changes-nothing 19 20 (n / 10) (omega arith) (omega arith) (omega arith) (omega arith))
 
-pub decimal-length-last : (n : ℕ) → n / 10 ≡ 0 → length (decimal n) ≡ 1
-decimal-length-last n e = rw (decimal-last n e)
-
 pub decimal-length-more : (n : ℕ) → n < 10 ^ 20 → (n / 10 ≡ 0 → ⊥) → length (decimal n) ≡ length (decimal (n / 10)) + 1
 decimal-length-more n h f = rw (decimal-more n h f) (length-append (decimal (n / 10)) (digitByte (n % 10) ∷ []))
 
