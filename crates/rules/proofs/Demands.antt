@@ -54,7 +54,7 @@ pub record Room (h : Hour) (b : Buffers) : Type 0 where
   pub deviations-room : h .count ≤ length (b .deviations)
 
 pub buffers-room : (h : Hour) (b : Buffers) →
-    tooShort h (length (b .charges)) (length (b .lines)) (length (b .shares)) (length (b .deviations)) ≡ none → Room h b
+    tooShort h (length (b .charges)) (length (b .finals)) (length (b .lines)) (length (b .shares)) (length (b .deviations)) ≡ none → Room h b
 unfolding tooShort
 buffers-room h b enough =
     let c = ltb (length (b .charges)) (members h) in

@@ -13,10 +13,10 @@ use borrow.Author.Tests.{eqb-true}
 use Rattle.whole.proofs.Tests.{split, never-some}
 use Rattle.rules.specs.declared.Answer.{Answer}
 use Rattle.rules.specs.declared.Answer.the-variants.{Accepted, BadLength, BadSum, BadBlock, BadHead, BadRecord, BadArea, BadAmount}
-use Rattle.rules.specs.declared.Answer.the-variants.{OutOfRange, TooNarrow, NotAnAmount, TooShort}
+use Rattle.rules.specs.declared.Answer.the-variants.{OutOfRange, TooNarrow, NotAnAmount, TooShort, NoDemand}
 use Rattle.rules.specs.Record.{Hour}
 use Rattle.rules.specs.HourFile.{hourly, hourOf}
-use Rattle.rules.specs.Refusals.{Row, row, Verdict, accepted, refusedAt, verdictOf, verdict, placeZeroIf, badArea, badAmount, tooShort}
+use Rattle.rules.specs.Refusals.{Row, row, Verdict, accepted, refusedAt, verdictOf, verdict, placeZeroIf, badArea, badAmount, noDemand, tooShort}
 use Rattle.rules.specs.Refusals.{tableRows, fileRows, hourRows, writeRows}
 use Rattle.rules.specs.Settling.{Buffers, Settlement, isAccepted, settleRows, filled, ufeFigures, noFigures, settle, write}
 use Rattle.rules.specs.Promises.{Accepts, AllWhole, FirstBrokenRow, OneSettlement}
@@ -123,27 +123,27 @@ module _ (s : List ℕ) where
   settle-numbered b = omega arith
 
   -- the table in parts: 1 to 5, then 6 and 7, then 11
-  pub hour-in-parts : hourRows s ≡ fileRows s ++ row 6 (badArea h) ∷ row 7 (badAmount h) ∷ []
+  pub hour-in-parts : hourRows s ≡ fileRows s ++ row 6 (badArea h) ∷ row 7 (badAmount h) ∷ row 12 (noDemand h) ∷ []
   unfolding hourRows fileRows tableRows
   hour-in-parts = refl
 
   pub file-whole : AllWhole (hourRows s) → AllWhole (fileRows s)
-  file-whole w = whole-parts (fileRows s) (row 6 (badArea h) ∷ row 7 (badAmount h) ∷ []) .0 (rw hour-in-parts at w) .0
+  file-whole w = whole-parts (fileRows s) (row 6 (badArea h) ∷ row 7 (badAmount h) ∷ row 12 (noDemand h) ∷ []) .0 (rw hour-in-parts at w) .0
 
-  module _ (charges lines shares deviations : ℕ) where
-    pub table-in-parts : tableRows s charges lines shares deviations ≡ hourRows s ++ row 11 (tooShort h charges lines shares deviations) ∷ []
+  module _ (charges finals lines shares deviations : ℕ) where
+    pub table-in-parts : tableRows s charges finals lines shares deviations ≡ hourRows s ++ row 11 (tooShort h charges finals lines shares deviations) ∷ []
     unfolding hourRows tableRows
     table-in-parts = refl
 
     -- what rows 1 to 5 refuse, the table refuses alike
-    pub file-decides : (verdict (fileRows s) ≡ accepted → ⊥) → verdict (tableRows s charges lines shares deviations) ≡ verdict (fileRows s)
+    pub file-decides : (verdict (fileRows s) ≡ accepted → ⊥) → verdict (tableRows s charges finals lines shares deviations) ≡ verdict (fileRows s)
     unfolding fileRows tableRows
-    file-decides = refused-first (fileRows s) (row 6 (badArea h) ∷ row 7 (badAmount h) ∷ row 11 (tooShort h charges lines shares deviations) ∷ [])
+    file-decides = refused-first (fileRows s) (row 6 (badArea h) ∷ row 7 (badAmount h) ∷ row 12 (noDemand h) ∷ row 11 (tooShort h charges finals lines shares deviations) ∷ [])
 
-    pub table-whole : AllWhole (tableRows s charges lines shares deviations) →
-        AllWhole (hourRows s) × (tooShort h charges lines shares deviations ≡ none)
+    pub table-whole : AllWhole (tableRows s charges finals lines shares deviations) →
+        AllWhole (hourRows s) × (tooShort h charges finals lines shares deviations ≡ none)
     table-whole w =
-        let parts = whole-parts (hourRows s) (row 11 (tooShort h charges lines shares deviations) ∷ []) .0 (rw table-in-parts at w) in
+        let parts = whole-parts (hourRows s) (row 11 (tooShort h charges finals lines shares deviations) ∷ []) .0 (rw table-in-parts at w) in
         (parts .0, parts .1 .0)
 
 pub write-numbered : (width : ℕ) (z : ℤ) → Numbered (writeRows width z)
@@ -168,8 +168,8 @@ module _ (s : List ℕ) (b : Buffers) where
 
   -- accepted: rows 1 to 7 are whole, and no buffer is too short
   pub settle-whole : Accepts s b → AllWhole (hourRows s)
-      × (tooShort (hourOf hourly s) (length (b .charges)) (length (b .lines)) (length (b .shares)) (length (b .deviations)) ≡ none)
-  settle-whole a = table-whole s (length (b .charges)) (length (b .lines)) (length (b .shares)) (length (b .deviations)) (settle-accepts .0 a)
+      × (tooShort (hourOf hourly s) (length (b .charges)) (length (b .finals)) (length (b .lines)) (length (b .shares)) (length (b .deviations)) ≡ none)
+  settle-whole a = table-whole s (length (b .charges)) (length (b .finals)) (length (b .lines)) (length (b .shares)) (length (b .deviations)) (settle-accepts .0 a)
 
   pub settle-refuses : (n p : ℕ) → (settle s b .verdict ≡ refusedAt (suc n) p) ↔ FirstBrokenRow (settleRows s b) (suc n) p
   settle-refuses n p = let r = refuses-at-first (settleRows s b) n p in
@@ -211,7 +211,7 @@ abbrev answerOf : Verdict → Answer
 answerOf v = let p = v .place in
     getD (
     Accepted ∷ BadLength ∷ BadSum p ∷ BadBlock p ∷ BadHead p ∷ BadRecord p ∷ BadArea p ∷ BadAmount p
-    ∷ OutOfRange ∷ TooNarrow ∷ NotAnAmount ∷ TooShort ∷ []) (v .number) Accepted
+    ∷ OutOfRange ∷ TooNarrow ∷ NotAnAmount ∷ TooShort ∷ NoDemand ∷ []) (v .number) Accepted
 
 told : (a : Answer) → answerOf (verdictOf a) ≡ a
 told Accepted = refl
@@ -226,6 +226,7 @@ told OutOfRange = refl
 told TooNarrow = refl
 told NotAnAmount = refl
 told TooShort = refl
+told NoDemand = refl
 
 -- no two answers have the same number and place
 pub one-answer : (a b : Answer) → verdictOf a ≡ verdictOf b → a ≡ b

@@ -12,10 +12,11 @@ use borrow.Author.Tests.{leb-true, leb-false, lt-ltb, le-ltb, eqb-true, eqb-fals
 use Rattle.whole.proofs.Tests.{split}
 use Rattle.rules.specs.Record.{Hour, hourNumber, members}
 use Rattle.rules.specs.Charge.{charge}
+use Rattle.rules.specs.Neutrality.{final}
 use Rattle.rules.specs.HourFile.{hourly, lengthBad, hourOf, word, blockWord}
 use Rattle.rules.specs.Refusals.{Verdict, accepted, refusedAt, verdict, badLength, tooShort, tableRows, hourRows}
 use Rattle.rules.specs.Settling.{isAccepted}
-use Rattle.rules.specs.Statement.{firstLine, memberLine, memberLines, acceptedLines, refusedLine, statement}
+use Rattle.rules.specs.Statement.{firstLine, column, memberLine, memberLines, acceptedLines, refusedLine, statement}
 use Rattle.rules.specs.Inner.Kept.{HourKept, FileKept}
 use Rattle.rules.proofs.Rows.{accepts-when-whole, hour-numbered, table-in-parts, zero-accepts, refused-first, passed-on}
 use Rattle.rules.proofs.Kept.{passed-kept}
@@ -24,21 +25,23 @@ use Rattle.rules.proofs.Text.{field-has-width}
 
 -- ---- accepted or refused
 
--- an hour that passes rows 1 to 7 keeps its ranges
+-- an hour that passes the rows of a statement keeps its ranges
 pub accepted-kept : (s : List ℕ) → verdict (hourRows s) ≡ accepted → FileKept s
 accepted-kept s e = passed-kept s (accepts-when-whole (hourRows s) (hour-numbered s) .0 e)
 
 -- room for 32 members and 250 records is enough for every hour: row 11 decides nothing
-pub room-for-all : (s : List ℕ) (charges lines shares deviations : ℕ) → 32 ≤ charges → 32 ≤ lines → 250 ≤ shares → 250 ≤ deviations →
-    verdict (tableRows s charges lines shares deviations) ≡ verdict (hourRows s)
+pub room-for-all : (s : List ℕ) (charges finals lines shares deviations : ℕ) → 32 ≤ charges → 32 ≤ finals → 32 ≤ lines →
+    250 ≤ shares → 250 ≤ deviations →
+    verdict (tableRows s charges finals lines shares deviations) ≡ verdict (hourRows s)
 unfolding verdict tooShort
-room-for-all s c l n d pc pl pn pd = ap verdict (table-in-parts s c l n d) ∙ split (isAccepted (verdict (hourRows s)))
+room-for-all s c f l n d pc pf pl pn pd = ap verdict (table-in-parts s c f l n d) ∙ split (isAccepted (verdict (hourRows s)))
     (λ t. let a = zero-accepts (hourRows s) (hour-numbered s) (eqb-true _ _ t) in
     let k = accepted-kept s a .hour-kept in
     let h = hourOf hourly s in
     passed-on (hourRows s) _ (accepts-when-whole (hourRows s) (hour-numbered s) .0 a)
     ∙ rw (
       le-ltb c (members h) (omega (arith, k .members-most)),
+      le-ltb f (members h) (omega (arith, k .members-most)),
       le-ltb l (members h) (omega (arith, k .members-most)),
       le-ltb n (h .count) (omega (arith, k .count-most)),
       le-ltb d (h .count) (omega (arith, k .count-most)),
@@ -56,16 +59,18 @@ module _ (s : List ℕ) where
 
 -- ---- how long it is
 
-pub member-line-length : (m : ℕ) (z : ℤ) → length (memberLine m z) ≡ 18
-unfolding memberLine
-member-line-length m z = rw length-append (omega (arith, field-has-width (replicate 14 32) z))
+pub member-line-length : (m : ℕ) (c f : ℤ) → length (memberLine m c f) ≡ 33
+unfolding memberLine column
+member-line-length m c f =
+    simp length-append (omega (arith, field-has-width (replicate 14 32) c, field-has-width (replicate 14 32) f))
 
 module _ (h : Hour) where
-  pub member-lines-length : (m : ℕ) → length (memberLines h m) ≡ 18 * m
+  pub member-lines-length : (m : ℕ) → length (memberLines h m) ≡ 33 * m
   unfolding memberLines
   member-lines-length zero = refl
   member-lines-length (suc m) =
-      length-append (memberLines h m) (memberLine m (charge h m)) ∙ omega (arith, member-lines-length m, member-line-length m (charge h m))
+      length-append (memberLines h m) (memberLine m (charge h m) (final h m))
+      ∙ omega (arith, member-lines-length m, member-line-length m (charge h m) (final h m))
 
   -- an hour number of 32 bits has at most ten digits, members have two, records three
   pub first-line-most : HourKept h → hourNumber h < 2 ^ 32 → length (firstLine (hourNumber h) (members h) (h .count)) ≤ 39
@@ -77,7 +82,7 @@ module _ (h : Hour) where
     decimal-length-at-most (h .count) 2 (omega (arith, kept .count-most)),
   ))
 
-  pub accepted-lines-most : HourKept h → hourNumber h < 2 ^ 32 → length (acceptedLines h) ≤ 615
+  pub accepted-lines-most : HourKept h → hourNumber h < 2 ^ 32 → length (acceptedLines h) ≤ 1095
   unfolding acceptedLines
   accepted-lines-most kept n = rw length-append
       (omega (arith, first-line-most kept n, member-lines-length (members h), kept .members-most))
@@ -91,8 +96,8 @@ pub hour-number-most : (s : List ℕ) → ((i : ℕ) → getD s i 0 < 256) → h
 unfolding hourOf blockWord word
 hour-number-most s b = omega (arith, b 32, b 33, b 34, b 35)
 
--- No statement of a byte string is longer than 615 bytes: 39 for line 1, and 18 for each of 32 members.
-pub statement-fits : (s : List ℕ) → ((i : ℕ) → getD s i 0 < 256) → length (statement s) ≤ 615
+-- No statement of a byte string is longer than 1,095 bytes: 39 for line 1, and 33 for each of 32 members.
+pub statement-fits : (s : List ℕ) → ((i : ℕ) → getD s i 0 < 256) → length (statement s) ≤ 1095
 statement-fits s b = split (isAccepted (verdict (hourRows s)))
     (λ t. let a = zero-accepts (hourRows s) (hour-numbered s) (eqb-true _ _ t) in
     rw (statement-accepted s a) (accepted-lines-most (hourOf hourly s) (accepted-kept s a .hour-kept) (hour-number-most s b)))

@@ -1,9 +1,10 @@
--- Document 01 as definitions, in the order in which a reader wants them.
+-- Documents 01 and 02 as definitions, in the order in which a reader wants them.
 pub mod Record
 pub mod Deviation
 pub mod Ufe
 pub mod Share
 pub mod Charge
+pub mod Neutrality
 pub mod Text
 pub mod HourFile
 pub mod Ranges
@@ -12,6 +13,7 @@ pub mod Settling
 pub mod Statement
 pub mod Tariff
 pub mod Promises
+pub mod Finals
 pub mod Figures
 pub mod Printed
 pub mod Refused

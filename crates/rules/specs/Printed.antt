@@ -1,4 +1,5 @@
--- The printed case of document 01, "The printed statement": its file, and what settling and the statement say of it.
+-- The printed case of document 01, "The printed statement": its file, and what settling and the
+-- statement say of it. The finals repeat the charges, since N is 0: document 02, A1.
 use Prim.Native.Nat.{ℕ, _-_, _/_, _%_}
 use mathlib.Core.Path.{_≡_}
 use mathlib.Core.List.{List, [], _∷_, _++_}
@@ -31,6 +32,7 @@ printedFile =
 unfoldable pub usedBuffers : Buffers
 usedBuffers = record {
   charges = replicate 3 (pos 9);
+  finals = replicate 3 (pos 4);
   shares = replicate 3 (pos 8);
   deviations = replicate 3 (pos 7);
   lines = replicate 3 (record { amount = pos 6; records = 5 });
@@ -42,6 +44,7 @@ printedSettlement = record {
   ufe = pos 300000 ∷ replicate 7 (pos 0);
   buffers = record {
     charges = pos 500 ∷ negℤ (pos 500) ∷ pos 9 ∷ [];
+    finals = pos 500 ∷ negℤ (pos 500) ∷ pos 4 ∷ [];
     shares = pos 0 ∷ pos 300000 ∷ pos 8 ∷ [];
     deviations = pos 1000000 ∷ pos 1300000 ∷ pos 7 ∷ [];
     lines = record { amount = pos 5000000000; records = 1 }
@@ -52,4 +55,5 @@ printedSettlement = record {
 
 pub record PrintedRight : Type 0 where
   pub settled : settle printedFile usedBuffers ≡ printedSettlement
-  pub stated : statement printedFile ≡ bytes "hour 7 members 2 records 2\n00          +5.00\n01          -5.00\n"
+  pub stated : statement printedFile ≡ 
+      bytes "hour 7 members 2 records 2\n00          +5.00          +5.00\n01          -5.00          -5.00\n"

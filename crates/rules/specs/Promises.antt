@@ -15,6 +15,7 @@ use Rattle.rules.specs.Record.{Hour, members, zones, areas, price, membe
 use Rattle.rules.specs.Ufe.{inArea, ufe, demand, demands}
 use Rattle.rules.specs.Share.{allDemand, wholePart, remainder, unitsLeft}
 use Rattle.rules.specs.Charge.{entering, shareOf, recordsOf, cents, charge, poolTotal}
+use Rattle.rules.specs.Neutrality.{final}
 use Rattle.rules.specs.Text.{bytes, digitByte, amountText, amountField}
 use Rattle.rules.specs.HourFile.{hourly, hourOf}
 use Rattle.rules.specs.Refusals.{Row, row, accepted, refusedAt, verdictOf, verdict, hourRows, writeRows, readRows}
@@ -105,10 +106,11 @@ pub record Demand2 : Type 0 where
       read (write f z .field) ≡ record { verdict = accepted; amount = z }
   pub read-written : (s f : List ℕ) (z : ℤ) → read s ≡ record { verdict = accepted; amount = z } → length f ≡ length s →
       write f z ≡ record { verdict = accepted; field = s }
-  -- the statement shows every charge whole
+  -- the statement shows every charge and every final whole
   pub printed : (s : List ℕ) → verdict (hourRows s) ≡ accepted → let h = hourOf hourly s in (m : ℕ) → m < members h →
-      (length (amountText (charge h m)) ≤ 14)
-      × (memberLine m (charge h m) ≡ digitByte (m / 10) ∷ digitByte (m % 10) ∷ bytes " " ++ amountField 14 (charge h m) ++ bytes "\n")
+      (length (amountText (charge h m)) ≤ 14) × (length (amountText (final h m)) ≤ 14)
+      × (memberLine m (charge h m) (final h m) ≡
+      digitByte (m / 10) ∷ digitByte (m % 10) ∷ bytes " " ++ amountField 14 (charge h m) ++ bytes " " ++ amountField 14 (final h m) ++ bytes "\n")
 
 -- ---- DEMAND 3: the sums come out whole, without fractions. Document 01, "The sums": the exact fraction, and how both are compared
 

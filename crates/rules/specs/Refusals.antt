@@ -1,5 +1,5 @@
 -- The table of refusals: what breaks each row and at which place, and the rows in their order.
--- Document 01, "Refusal numbers and their order".
+-- Document 01, "Refusal numbers and their order"; row 12 is document 02, A1.
 use Prim.Native.Nat.{ℕ}
 use mathlib.Core.Bool.{Bool, true, false, not, cond, _&&_, _||_}
 use mathlib.Core.Option.{Option, none, some, bind}
@@ -10,10 +10,11 @@ use lib.Dec.{ltb, eqb}
 use Rattle.whole.specs.Below.{firstBelow}
 use Rattle.rules.specs.declared.Answer.{Answer}
 use Rattle.rules.specs.declared.Answer.the-variants.{Accepted, BadLength, BadSum, BadBlock, BadHead, BadRecord, BadArea, BadAmount}
-use Rattle.rules.specs.declared.Answer.the-variants.{OutOfRange, TooNarrow, NotAnAmount, TooShort}
+use Rattle.rules.specs.declared.Answer.the-variants.{OutOfRange, TooNarrow, NotAnAmount, TooShort, NoDemand}
 use Rattle.rules.specs.Record.{Hour, members, zones, areas}
 use Rattle.rules.specs.Ufe.{ufe, demands}
 use Rattle.rules.specs.Charge.{amount}
+use Rattle.rules.specs.Neutrality.{neutrality, hourDemand}
 use Rattle.rules.specs.Text.{amountText, amountIn}
 use Rattle.rules.specs.declared.Layout.{Layout}
 use Rattle.rules.specs.HourFile.{hourly, lengthBad, blocks, blockWord, blockSum, hourOf}
@@ -46,6 +47,7 @@ verdictOf OutOfRange = refusedAt 8 0
 verdictOf TooNarrow = refusedAt 9 0
 verdictOf NotAnAmount = refusedAt 10 0
 verdictOf TooShort = refusedAt 11 0
+verdictOf NoDemand = refusedAt 12 0
 
 abbrev pub numberOf : Answer → ℕ
 numberOf a = verdictOf a .number
@@ -118,10 +120,14 @@ module _ (h : Hour) where
   unfoldable pub badAmount : Option ℕ
   badAmount = firstBelow (λ m. ltb mostGrains (natAbs (amount h m))) (members h)
 
-  -- 11: charges or lines shorter than the members, or shares or deviations shorter than the records
-  unfoldable pub tooShort : (charges lines shares deviations : ℕ) → Option ℕ
-  tooShort charges lines shares deviations = placeZeroIf (
-      ltb charges (members h) || ltb lines (members h) || ltb shares (h .count) || ltb deviations (h .count))
+  -- 12: no demand in the hour and N isn't zero
+  unfoldable pub noDemand : Option ℕ
+  noDemand = placeZeroIf (eqb (hourDemand h) 0 && not (eqb (natAbs (neutrality h)) 0))
+
+  -- 11: charges, finals or lines shorter than the members, or shares or deviations shorter than the records
+  unfoldable pub tooShort : (charges finals lines shares deviations : ℕ) → Option ℕ
+  tooShort charges finals lines shares deviations = placeZeroIf (
+      ltb charges (members h) || ltb finals (members h) || ltb lines (members h) || ltb shares (h .count) || ltb deviations (h .count))
 
 -- 8: amount to write out of range
 unfoldable pub outOfRange : ℤ → Option ℕ
@@ -137,9 +143,9 @@ notAnAmount field = nothingRead (amountIn field)
 
 -- ---- THE TABLE: its rows as each call checks them, in order, each with its own test
 
--- settling checks 1 to 7 in number order over the whole file, then 11, by the lengths of the four buffers
-unfoldable pub tableRows : List ℕ → (charges lines shares deviations : ℕ) → List Row
-tableRows s charges lines shares deviations = let h = hourOf hourly s in
+-- settling checks 1 to 7 in number order over the whole file, then 12, then 11, by the lengths of the five buffers
+unfoldable pub tableRows : List ℕ → (charges finals lines shares deviations : ℕ) → List Row
+tableRows s charges finals lines shares deviations = let h = hourOf hourly s in
     row 1 (badLength hourly s)
     ∷ row 2 (badSum s)
     ∷ row 3 (badBlock hourly s)
@@ -147,16 +153,17 @@ tableRows s charges lines shares deviations = let h = hourOf hourly s in
     ∷ row 5 (badRecord h)
     ∷ row 6 (badArea h)
     ∷ row 7 (badAmount h)
-    ∷ row 11 (tooShort h charges lines shares deviations)
+    ∷ row 12 (noDemand h)
+    ∷ row 11 (tooShort h charges finals lines shares deviations)
     ∷ []
 
 -- the statement has no buffers of a caller: the same without 11
 unfoldable pub hourRows : List ℕ → List Row
-hourRows s = take 7 (tableRows s 0 0 0 0)
+hourRows s = take 8 (tableRows s 0 0 0 0 0)
 
 -- 1 to 5 of them: what a file by itself can break
 unfoldable pub fileRows : List ℕ → List Row
-fileRows s = take 5 (tableRows s 0 0 0 0)
+fileRows s = take 5 (tableRows s 0 0 0 0 0)
 
 -- writing checks 8, then 9
 unfoldable pub writeRows : ℕ → ℤ → List Row

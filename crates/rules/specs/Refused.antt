@@ -1,5 +1,5 @@
 -- Refusals of settling as figures: a small file for each row, what settling answers, and that the buffers are what they were.
--- Document 01, "Refusal numbers and their order".
+-- Document 01, "Refusal numbers and their order"; document 02, A1.
 use Prim.Native.Nat.{ℕ, _+_, _-_}
 use mathlib.Core.List.{List, [], _∷_, _++_}
 use lib.ListN.{take, drop, replicate}
@@ -43,7 +43,9 @@ refusals =
     ∷ refused 5 1 (first 1 (plainHead 2) ++ sealed (2 ∷ 1 ∷ 2 ∷ 0 ∷ 0 ∷ 0 ∷ 0 ∷ 5 ∷ replicate 11 0 ++ 6 ∷ []))
     -- two areas: one without ties, and one with a kWh coming in and no load
     ∷ refused 6 1 (first 0 (7 ∷ 2 ∷ 1 ∷ 2 ∷ 5000 ∷ replicate 8 0 ++ 1 ∷ []))
-    -- four members
+    -- an export of a kWh that is not taken, no load, and four members for three places: 12 is looked for before 11
+    ∷ refused 12 0 (first 1 (plainHead 4) ++ sealed (2 ∷ 1 ∷ 1 ∷ 0 ∷ 0 ∷ 0 ∷ 0 ∷ 5 ∷ 0 ∷ 0 ∷ 1 ∷ []))
+    -- four members and no record, so that N is 0
     ∷ refused 11 0 (first 0 (plainHead 4))
     ∷ []
 

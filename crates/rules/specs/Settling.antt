@@ -1,5 +1,5 @@
 -- The complete result of each entry point, refused or accepted: settling an hour, writing an amount, reading one.
--- Document 01, "The sums" (last paragraph), "Text amounts", "Refusal numbers and their order".
+-- Document 01, "The sums" (last paragraph), "Text amounts", "Refusal numbers and their order"; finals: document 02, A1.
 use Prim.Native.Nat.{ℕ}
 use mathlib.Core.Bool.{Bool, cond}
 use mathlib.Core.Option.{Option, none, some}
@@ -13,6 +13,7 @@ use Rattle.rules.specs.Record.{Hour, members, areas, entryOf}
 use Rattle.rules.specs.Deviation.{deviation}
 use Rattle.rules.specs.Ufe.{ufe}
 use Rattle.rules.specs.Charge.{shareOf, amount, recordsOf, charge}
+use Rattle.rules.specs.Neutrality.{final}
 use Rattle.rules.specs.Text.{amountField, amountIn}
 use Rattle.rules.specs.HourFile.{hourly, hourOf}
 use Rattle.rules.specs.Refusals.{Row, Verdict, accepted, refusedAt, verdict, tableRows, writeRows}
@@ -22,16 +23,18 @@ isAccepted v = eqb (v .number) 0
 
 -- ---- settling
 
--- the caller's four buffers
+-- the caller's five buffers
 pub record Buffers : Type 0 where
   pub charges : List ℤ
+  pub finals : List ℤ
   pub shares : List ℤ
   pub deviations : List ℤ
   pub lines : List Line
 
 -- the table's rows for these buffers
 abbrev pub settleRows : List ℕ → Buffers → List Row
-settleRows s b = tableRows s (length (b .charges)) (length (b .lines)) (length (b .shares)) (length (b .deviations))
+settleRows s b =
+    tableRows s (length (b .charges)) (length (b .finals)) (length (b .lines)) (length (b .shares)) (length (b .deviations))
 
 -- nothing posted yet, as of a member without records
 unfoldable pub emptyLine : Line
@@ -41,10 +44,11 @@ emptyLine = record { amount = pos 0; records = 0 }
 unfoldable pub lineOf : Hour → ℕ → Line
 lineOf h m = record { amount = amount h m; records = recordsOf h m }
 
--- one charge and one line a member, one share and one deviation a record; places past those are unchanged
+-- one charge, one final and one line a member, one share and one deviation a record; places past those are unchanged
 unfoldable pub filled : Hour → Buffers → Buffers
 filled h b = record {
   charges = replacingFirst (charge h) (members h) (b .charges);
+  finals = replacingFirst (final h) (members h) (b .finals);
   shares = replacingFirst (shareOf h) (h .count) (b .shares);
   deviations = replacingFirst (λ i. deviation (entryOf h i)) (h .count) (b .deviations);
   lines = replacingFirst (lineOf h) (members h) (b .lines);

@@ -1,4 +1,5 @@
--- The printed statement, byte for byte, of the bytes on standard input. Document 01, "The printed statement".
+-- The printed statement, byte for byte, of the bytes on standard input. Document 01, "The printed statement";
+-- the second column: document 02, A1.
 use Prim.Native.Nat.{ℕ, zero, suc, _/_, _%_}
 use mathlib.Core.Bool.{cond}
 use mathlib.Core.List.{List, [], _∷_, _++_}
@@ -6,6 +7,7 @@ use lib.IntN.{ℤ}
 use lib.ListN.{replicate}
 use Rattle.rules.specs.Record.{Hour, hourNumber, members}
 use Rattle.rules.specs.Charge.{charge}
+use Rattle.rules.specs.Neutrality.{final}
 use Rattle.rules.specs.Text.{bytes, digitByte, decimal}
 use Rattle.rules.specs.HourFile.{hourly, hourOf}
 use Rattle.rules.specs.Refusals.{Verdict, verdict, hourRows}
@@ -16,14 +18,19 @@ unfoldable pub firstLine : (hour memberCount recordCount : ℕ) → List ℕ
 firstLine hour memberCount recordCount =
     bytes "hour " ++ decimal hour ++ bytes " members " ++ decimal memberCount ++ bytes " records " ++ decimal recordCount ++ bytes "\n"
 
--- a member's number in two digits, a blank, the charge in 14 columns
-unfoldable pub memberLine : (member : ℕ) (cents : ℤ) → List ℕ
-memberLine m z = digitByte (m / 10) ∷ digitByte (m % 10) ∷ bytes " " ++ write (replicate 14 32) z .field ++ bytes "\n"
+-- an amount in 14 columns
+unfoldable pub column : ℤ → List ℕ
+column cents = write (replicate 14 32) cents .field
+
+-- a member's number in two digits, a blank, the charge in 14 columns, a blank, the final amount in 14 columns
+unfoldable pub memberLine : (member : ℕ) (charge final : ℤ) → List ℕ
+memberLine m charge final =
+    digitByte (m / 10) ∷ digitByte (m % 10) ∷ bytes " " ++ column charge ++ bytes " " ++ column final ++ bytes "\n"
 
 -- a line a member in order: those of the first members
 unfoldable pub memberLines : Hour → ℕ → List ℕ
 memberLines h zero = []
-memberLines h (suc m) = memberLines h m ++ memberLine m (charge h m)
+memberLines h (suc m) = memberLines h m ++ memberLine m (charge h m) (final h m)
 
 -- of an hour that is accepted: line 1, then a line a member
 unfoldable pub acceptedLines : Hour → List ℕ

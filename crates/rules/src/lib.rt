@@ -65,6 +65,7 @@ pub enum Answer {
     TooNarrow,
     NotAnAmount,
     TooShort,
+    NoDemand,
 }
 
 // What settling answers beside the buffers it fills: the UFE of each area, 0 past the areas.

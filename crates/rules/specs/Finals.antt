@@ -1,0 +1,75 @@
+-- What is asked of the finals, as statements about the definitions: they add up to nothing, and the sheet tells them.
+-- Document 02, A1.
+use Prim.Native.Nat.{ℕ, _+_, _*_, _<_}
+use mathlib.Core.Path.{_≡_}
+use mathlib.Core.List.{List}
+use lib.IntN.{ℤ, pos, natAbs, _-ℤ_, _*ℤ_}
+use lib.ListN.{length, take, drop, getD}
+use Rattle.whole.specs.Below.{totalBelow}
+use Rattle.whole.specs.Signed.{withSignOf}
+use Rattle.rules.specs.Record.{Hour, hourNumber, members}
+use Rattle.rules.specs.Charge.{charge}
+use Rattle.rules.specs.Neutrality.{everyMember, memberDemand, hourDemand, neutrality, final}
+use Rattle.rules.specs.HourFile.{hourly, hourOf}
+use Rattle.rules.specs.Refusals.{accepted, verdict, hourRows, fileRows}
+use Rattle.rules.specs.Settling.{Buffers, settle, read}
+use Rattle.rules.specs.Statement.{firstLine, statement}
+use Rattle.rules.specs.Promises.{Accepts, rankedSize}
+
+-- ---- the finals add up to nothing
+
+-- an hour's figures as somebody gives them: the charge and the final of each member. What is taken off a charge is its share of N
+pub record Neutral (h : Hour) (chargeAt finalAt : ℕ → ℤ) : Type 0 where
+  -- all finals add up to exactly zero
+  pub exact : totalBelow finalAt (members h) ≡ pos 0
+  -- charge minus share; the share a second way, by rank
+  pub final-is : (m : ℕ) → m < members h → let N = totalBelow chargeAt (members h) in
+      finalAt m ≡ chargeAt m -ℤ withSignOf N (rankedSize everyMember (memberDemand h) (members h) (natAbs N) m)
+  -- each share is less than a cent from its exact fraction: the share times T against D×N
+  pub near : (m : ℕ) → m < members h → (hourDemand h ≡ 0 → ⊥) → let N = totalBelow chargeAt (members h) in
+      natAbs ((chargeAt m -ℤ finalAt m) *ℤ pos (hourDemand h) -ℤ pos (memberDemand h m) *ℤ N) < hourDemand h
+  pub none-to-share : (m : ℕ) → m < members h → hourDemand h ≡ 0 → finalAt m ≡ chargeAt m
+
+-- what an accepted settling of this hour leaves in the buffers
+pub record NeutralOutcome (h : Hour) (before after : Buffers) : Type 0 where
+  pub neutral : Neutral h (λ m. getD (after .charges) m (pos 0)) (λ m. getD (after .finals) m (pos 0))
+  pub past-finals : drop (members h) (after .finals) ≡ drop (members h) (before .finals)
+  pub same-length : length (after .finals) ≡ length (before .finals)
+
+pub record Neutrality : Type 0 where
+  pub settled : (s : List ℕ) (b : Buffers) → Accepts s b → NeutralOutcome (hourOf hourly s) b (settle s b .buffers)
+  -- the products stay below 10^19, of every file that passes rows 1 to 5
+  pub products : (s : List ℕ) → verdict (fileRows s) ≡ accepted → let h = hourOf hourly s in (m : ℕ) → m < members h →
+      memberDemand h m * natAbs (neutrality h) < 10000000000000000000
+
+-- ---- the sheet tells charges and finals
+
+-- the 14 columns of a member's charge, and of its final, in the statement of an hour
+module _ (h : Hour) (m : ℕ) (sheet : List ℕ) where
+  unfoldable pub memberPlace : ℕ
+  memberPlace = length (firstLine (hourNumber h) (members h) (h .count)) + 33 * m
+
+  unfoldable pub chargeColumn : List ℕ
+  chargeColumn = take 14 (drop (memberPlace + 3) sheet)
+
+  unfoldable pub finalColumn : List ℕ
+  finalColumn = take 14 (drop (memberPlace + 18) sheet)
+
+-- two files of which the same is to be said: refused alike, or the same hour number and counts, and the same charges and finals
+pub record SameSheet (s t : List ℕ) : Type 0 where
+  pub verdict-is : verdict (hourRows s) ≡ verdict (hourRows t)
+  pub head-is : verdict (hourRows s) ≡ accepted → let h = hourOf hourly s in let g = hourOf hourly t in
+      (hourNumber h ≡ hourNumber g) × (members h ≡ members g) × (h .count ≡ g .count)
+  pub charge-is : verdict (hourRows s) ≡ accepted → let h = hourOf hourly s in (m : ℕ) → m < members h → charge h m ≡ charge (hourOf hourly t) m
+  pub final-is : verdict (hourRows s) ≡ accepted → let h = hourOf hourly s in (m : ℕ) → m < members h → final h m ≡ final (hourOf hourly t) m
+
+abbrev pub AreBytes : List ℕ → Type 0
+AreBytes s = (i : ℕ) → getD s i 0 < 256
+
+pub record Sheet : Type 0 where
+  -- read, each column gives the member's amount
+  pub read-back : (s : List ℕ) → verdict (hourRows s) ≡ accepted → let h = hourOf hourly s in (m : ℕ) → m < members h →
+      (read (chargeColumn h m (statement s)) ≡ record { verdict = accepted; amount = charge h m })
+      × (read (finalColumn h m (statement s)) ≡ record { verdict = accepted; amount = final h m })
+  -- no two different settlements print the same sheet
+  pub tells : (s t : List ℕ) → AreBytes s → AreBytes t → statement s ≡ statement t → SameSheet s t
