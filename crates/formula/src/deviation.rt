@@ -66,7 +66,7 @@ pub fn deviation(r: Entry) -> i64
 
 // A deviation, already worked, as it enters an amount: added for generators and imports, taken off for loads and exports.
 pub fn entering(kind: Kind, deviation: i64) -> i64
-    requires { ⌜ Under deviation 9000000000 ⌝ }
+    requires { ⌜ Under deviation 6000000000 ⌝ }
     ensures { λ e. ⌜ e ≡ enteringAs kind deviation ⌝ }
 {
     match kind {

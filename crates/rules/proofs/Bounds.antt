@@ -6,15 +6,15 @@ use mathlib.Core.Option.{none}
 use Prim.Native.Nat.{ℕ, _+_, _*_, _≤_, _<_, zero-le}
 use native.Mathlib.Nat.{le-refl, le-trans}
 use native.Mathlib.Omega.{arith}
-use lib.IntN.{ℤ, pos, natAbs, _-ℤ_, _*ℤ_}
+use lib.IntN.{ℤ, pos, natAbs, _+ℤ_, _-ℤ_, _*ℤ_}
 use lib.Dec.{eqb}
 use borrow.Author.Tests.{le-ltb, eq-eqb}
 use Rattle.whole.specs.Below.{sumBelow, totalBelow}
-use Rattle.whole.specs.Signed.{Under, Upto, minℤ}
+use Rattle.whole.specs.Signed.{Under, Upto, minℤ, maxℤ}
 use Rattle.whole.proofs.Tests.{cond-ind}
-use Rattle.whole.proofs.Linear.{zr, all1, all4}
-use Rattle.whole.proofs.Ranges.{_u+_, _u-_, _u*_, u-neg, u-lit, u-more, u-le, u-max, u-upto, u-apart, u-zero, u-cond, u-picked}
-use Rattle.whole.proofs.Sums.{sum-ext, sum-mono, sum-prefix, sum-at, sum-add, sum-mul, sum-const, sum-swap, sum-pick}
+use Rattle.whole.proofs.Linear.{zr, all1, all2, all4, all5, all6}
+use Rattle.whole.proofs.Ranges.{_u+_, _u-_, _u*_, u-neg, u-lit, u-more, u-le, u-upto, u-apart, upto-mul, u-zero, u-cond, u-picked}
+use Rattle.whole.proofs.Sums.{sum-ext, sum-mono, sum-prefix, sum-at, sum-add, sum-mul, sum-const, sum-by}
 use Rattle.whole.proofs.Totals.{total-under, total-within}
 use Rattle.whole.proofs.Search.{none-below}
 use Rattle.whole.proofs.Division.{nearest-under}
@@ -33,10 +33,24 @@ use Rattle.rules.proofs.Fair.{share-sizes-at-most}
 
 -- ---- a record
 
--- M and N are not negative, so that only A and O count
-unavailable-under : (M A O N : ℤ) → Upto M 100000 → Upto A 100000 → Upto O 100000 → Upto N 100000 →
-    Under (minℤ (pos 0) (M -ℤ A -ℤ (O -ℤ N))) 200000
-unavailable-under = all4 _ (λ M A O N. simp zr (omega arith))
+-- what N adds, the unavailable energy doesn't add again
+ancillary-under : (M A O N : ℤ) → Upto M 100000 → Upto A 100000 → Upto O 100000 → Upto N 100000 →
+    Under (N -ℤ minℤ (pos 0) (M -ℤ A -ℤ (O -ℤ N))) 200000
+ancillary-under = all4 _ (λ M A O N. simp zr (omega arith))
+
+load-energy-under : (S A J N O : ℤ) → Upto S 100000 → Upto A 100000 → Under J 100000 → Upto N 100000 → Upto O 100000 →
+    Under (S -ℤ ((A -ℤ J) +ℤ N) -ℤ maxℤ (pos 0) ((O -ℤ N) -ℤ A)) 400000
+load-energy-under = all5 _ (λ S A J N O. simp zr (omega arith))
+
+-- S×F and A×H are taken from each other; J×H and the ancillary energy stand apart
+spread-generator : (x A J H n u : ℤ) → x -ℤ ((A -ℤ J) *ℤ H -ℤ n) -ℤ u ≡ x -ℤ A *ℤ H +ℤ J *ℤ H +ℤ (n -ℤ u)
+spread-generator = all6 _ (λ x A J H n u. simp zr (omega arith))
+
+spread-import : (x A J H n : ℤ) → x -ℤ (A -ℤ J) *ℤ H +ℤ n ≡ x -ℤ A *ℤ H +ℤ J *ℤ H +ℤ n
+spread-import = all5 _ (λ x A J H n. simp zr (omega arith))
+
+units-apart : (n u : ℤ) → unitsPerKWh *ℤ n -ℤ unitsPerKWh *ℤ u ≡ unitsPerKWh *ℤ (n -ℤ u)
+units-apart = all2 _ (λ n u. simp zr (omega arith))
 
 -- the bound is reached at both ends of H
 loss-rate-under : (H : ℤ) → Upto H 20000 → Under (unitsPerKWh -ℤ H) 10000
@@ -48,41 +62,43 @@ units-under h = u-lit unitsPerKWh u* h
 module _ {r : Entry} (kept : EntryKept r) where
   open EntryKept kept using (S-in, A-in, J-in, N-in, O-in, M-in, F-in, H-in)
 
-  adjusted-under : Under (r .A -ℤ r .J) 200000
-  adjusted-under = u-upto A-in u- J-in
+  scheduled-less-metered : Under (r .S *ℤ r .F -ℤ r .A *ℤ r .H +ℤ r .J *ℤ r .H) 4000000000
+  scheduled-less-metered = u-apart (upto-mul S-in F-in) (upto-mul A-in H-in) u+ J-in u* u-upto H-in
 
-  generator-under : Under (generatorDeviation r) 9000000000
+  generator-under : Under (generatorDeviation r) 6000000000
   unfolding generatorUnavailable generatorDeviation
-  generator-under =
-      u-upto S-in u* u-upto F-in u- (adjusted-under u* u-upto H-in u- units-under (u-upto N-in))
-      u- units-under (unavailable-under (r .M) (r .A) (r .O) (r .N) M-in A-in O-in N-in)
+  generator-under = rw (
+    spread-generator (r .S *ℤ r .F) (r .A) (r .J) (r .H) (unitsPerKWh *ℤ r .N) (unitsPerKWh *ℤ minℤ (pos 0) (r .M -ℤ r .A -ℤ (r .O -ℤ r .N))),
+    units-apart (r .N) (minℤ (pos 0) (r .M -ℤ r .A -ℤ (r .O -ℤ r .N))),
+  ) (scheduled-less-metered u+ units-under (ancillary-under (r .M) (r .A) (r .O) (r .N) M-in A-in O-in N-in))
 
-  load-under : Under (loadDeviation r) 7000000000
+  load-under : Under (loadDeviation r) 4000000000
   unfolding loadUnavailable loadDeviation
-  load-under = units-under (u-upto S-in u- (adjusted-under u+ u-upto N-in) u- u-max u-zero (u-upto O-in u- u-upto N-in u- u-upto A-in))
+  load-under = units-under (load-energy-under (r .S) (r .A) (r .J) (r .N) (r .O) S-in A-in J-in N-in O-in)
 
-  import-under : Under (importDeviation r) 7000000000
+  import-under : Under (importDeviation r) 5000000000
   unfolding importDeviation
-  import-under = u-upto S-in u* u-upto F-in u- adjusted-under u* u-upto H-in u+ units-under (u-upto N-in)
+  import-under = rw (spread-import (r .S *ℤ r .F) (r .A) (r .J) (r .H) (unitsPerKWh *ℤ r .N))
+      (scheduled-less-metered u+ units-under (u-upto N-in))
 
   export-under : Under (exportDeviation r) 3000000000
   unfolding exportDeviation
   export-under = units-under (u-upto S-in u- u-upto A-in u- J-in)
 
-  deviation-as-under : (k : Kind) → Under (deviationAs r k) 9000000000
+  deviation-as-under : (k : Kind) → Under (deviationAs r k) 6000000000
   deviation-as-under Generator = generator-under
-  deviation-as-under RealTimeLoad = u-more 9000000000 load-under tt
-  deviation-as-under ProfileLoad = u-more 9000000000 load-under tt
-  deviation-as-under Import = u-more 9000000000 import-under tt
-  deviation-as-under Export = u-more 9000000000 export-under tt
+  deviation-as-under RealTimeLoad = u-more 6000000000 load-under tt
+  deviation-as-under ProfileLoad = u-more 6000000000 load-under tt
+  deviation-as-under Import = u-more 6000000000 import-under tt
+  deviation-as-under Export = u-more 6000000000 export-under tt
   deviation-as-under Unknown = u-zero
 
-  -- No deviation is over 9×10^9 units in size, and none as it enters an amount.
-  pub deviation-under : Under (deviation r) 9000000000
+  -- No deviation is over 6×10^9 units in size, and none as it enters an amount.
+  pub deviation-under : Under (deviation r) 6000000000
   unfolding deviation
   deviation-under = deviation-as-under (r .kind)
 
-  entering-as-under : (k : Kind) → Under (enteringAs k (deviation r)) 9000000000
+  entering-as-under : (k : Kind) → Under (enteringAs k (deviation r)) 6000000000
   entering-as-under Generator = deviation-under
   entering-as-under RealTimeLoad = u-neg deviation-under
   entering-as-under ProfileLoad = u-neg deviation-under
@@ -90,7 +106,7 @@ module _ {r : Entry} (kept : EntryKept r) where
   entering-as-under Export = u-neg deviation-under
   entering-as-under Unknown = u-zero
 
-  pub entering-under : Under (entering r) 9000000000
+  pub entering-under : Under (entering r) 6000000000
   unfolding entering
   entering-under = entering-as-under (r .kind)
 
@@ -138,9 +154,7 @@ module _ {h : Hour} (kept : HourKept h) where
 
   -- each record is of one area
   by-area : (f : ℕ → ℕ) → sumBelow (λ a. sumBelow (λ i. cond (eqb (areaOf h i) a) (f i) 0) (h .count)) (areas h) ≡ sumBelow f (h .count)
-  by-area f =
-      sum-swap (λ a i. cond (eqb (areaOf h i) a) (f i) 0) (areas h) (h .count)
-      ∙ sum-ext _ f (h .count) (λ i l. sum-pick (λ a. f i) (areas h) (areaOf h i) (kept .record-kept i l .area-there))
+  by-area f = sum-by f (areaOf h) (areas h) (h .count) (λ i l. kept .record-kept i l .area-there)
 
   -- ---- UFE
 
@@ -194,33 +208,38 @@ module _ {h : Hour} (kept : HourKept h) where
   unfolding price
   price-under a l = kept .price-in (zoneOf h a) (kept .area-kept a l .zone-there)
 
-  grains-within : (i s : ℕ) → i < h .count → Under (shareOf h i) s → Under (grains h i) (1000000 * (9000000000 + s))
+  grains-within : (i s : ℕ) → i < h .count → Under (shareOf h i) s → Under (grains h i) (1000000 * (6000000000 + s))
   unfolding grains
   grains-within i s l u =
       let k = kept .record-kept i l in
       price-under (areaOf h i) (k .area-there) u* (entering-under (k .entry-kept) u+ u)
 
-  pub grains-under : (i : ℕ) → i < h .count → Under (grains h i) 1009000000000000000
+  pub grains-under : (i : ℕ) → i < h .count → Under (grains h i) 1006000000000000000
   grains-under i l = grains-within i 1000000000000 l (share-under i l)
 
-  -- A running sum of a member's grains is at most 3.55×10^18 in size, and so is its exact amount.
-  pub amount-running : (m n : ℕ) → n ≤ h .count →
-      Under (totalBelow (λ i. cond (eqb (memberOf h i) m) (grains h i) (pos 0)) n) 3550000000000000000
-  amount-running m n l = u-le (total-within _ (λ i. (9000000000 + natAbs (shareOf h i)) * 1000000) n each) (omega (
+  grains-own : (i : ℕ) → i < h .count → natAbs (grains h i) ≤ (6000000000 + natAbs (shareOf h i)) * 1000000
+  grains-own i l = le-trans (grains-within i (natAbs (shareOf h i)) l (u-lit (shareOf h i)) .under) (omega arith)
+
+  -- The grains of all records together are at most 2.8×10^18 in size.
+  pub all-grains-most : sumBelow (λ i. natAbs (grains h i)) (h .count) ≤ 2800000000000000000
+  all-grains-most = omega (
     arith,
-    sum-mul (λ i. 9000000000 + natAbs (shareOf h i)) 1000000 n,
-    sum-add (λ i. 9000000000) (λ i. natAbs (shareOf h i)) n,
-    sum-const 9000000000 n,
-    sum-prefix (λ i. natAbs (shareOf h i)) n (h .count) l,
+    sum-mono _ _ (h .count) grains-own,
+    sum-mul (λ i. 6000000000 + natAbs (shareOf h i)) 1000000 (h .count),
+    sum-add (λ i. 6000000000) (λ i. natAbs (shareOf h i)) (h .count),
+    sum-const 6000000000 (h .count),
     all-shares-most,
     kept .count-most,
-  ))
-    where
-      each : (i : ℕ) → i < n → Under (cond (eqb (memberOf h i) m) (grains h i) (pos 0)) ((9000000000 + natAbs (shareOf h i)) * 1000000)
-      each i j =
-          u-cond (eqb (memberOf h i) m) (u-le (grains-within i (natAbs (shareOf h i)) (omega arith) (u-lit (shareOf h i))) (omega arith))
+  )
 
-  pub amount-under : (m : ℕ) → Under (amount h m) 3550000000000000000
+  -- A running sum of a member's grains is at most 2.8×10^18 in size, and so is its exact amount.
+  pub amount-running : (m n : ℕ) → n ≤ h .count →
+      Under (totalBelow (λ i. cond (eqb (memberOf h i) m) (grains h i) (pos 0)) n) 2800000000000000000
+  amount-running m n l = u-le
+      (total-within _ (λ i. natAbs (grains h i)) n (λ i j. u-cond (eqb (memberOf h i) m) (u-lit (grains h i))))
+      (le-trans (sum-prefix (λ i. natAbs (grains h i)) n (h .count) l) all-grains-most)
+
+  pub amount-under : (m : ℕ) → Under (amount h m) 2800000000000000000
   unfolding amount
   amount-under m = amount-running m (h .count) (le-refl (h .count))
 
@@ -229,7 +248,7 @@ module _ {h : Hour} (kept : HourKept h) where
   unfolding badAmount
   row-7-never = none-below _ (members h) (λ m l. le-ltb mostGrains (natAbs (amount h m)) (let u = amount-under m in omega arith))
 
-  -- No charge is over 355,000,000,000 cents in size.
-  pub charge-under : (m : ℕ) → Under (charge h m) 355000000000
+  -- No charge is over 280,000,000,000 cents in size.
+  pub charge-under : (m : ℕ) → Under (charge h m) 280000000000
   unfolding charge cents nearestCent
-  charge-under m = nearest-under (amount h m) 5000000 3550000000000000000 (omega arith) (amount-under m)
+  charge-under m = nearest-under (amount h m) 5000000 2800000000000000000 (omega arith) (amount-under m)

@@ -20,11 +20,12 @@ use Rattle.rules.specs.Record.{Hour, members, zones, areas, memberOf, ar
 use Rattle.rules.specs.Deviation.{deviation}
 use Rattle.rules.specs.Ufe.{ufe, demands}
 use Rattle.rules.specs.Charge.{shareOf, amount, recordsOf, cents, nearestCent, charge}
+use Rattle.rules.specs.Neutrality.{final}
 use Rattle.rules.specs.Text.{bytes, digitByte, amountText, amountField}
 use Rattle.rules.specs.HourFile.{hourly, hourOf}
 use Rattle.rules.specs.Refusals.{badArea, tooShort, tableRows, hourRows}
-use Rattle.rules.specs.Settling.{Buffers, settle, filled, ufeFigures, lineOf, emptyLine}
-use Rattle.rules.specs.Statement.{memberLine}
+use Rattle.rules.specs.Settling.{Buffers, Written, settle, filled, ufeFigures, lineOf, emptyLine}
+use Rattle.rules.specs.Statement.{column, memberLine}
 use Rattle.rules.specs.Inner.Kept.{HourKept}
 use Rattle.rules.specs.Promises.{Accepts, AllWhole, Demand1, ByFormula, allZones, Demand2, FairOutcome, Demand3}
 use Rattle.rules.proofs.Tariff.{deviation-renders, ufe-renders, amount-is-IEC}
@@ -33,11 +34,12 @@ use Rattle.rules.proofs.Rows.{settle-changes-nothing, settle-fills, wri
 use Rattle.rules.proofs.Text.{read-checks, read-accepts, read-refuses, written-read, read-written, text-fits-14, write-accepted-at}
 use Rattle.rules.proofs.Kept.{passed-kept}
 use Rattle.rules.proofs.Bounds.{charge-under}
+use Rattle.rules.proofs.Neutral.{final-under}
 use Rattle.rules.proofs.Fair.{Sound, shares-by-rank, fair-alike}
 
 -- ---- an accepted hour
 
--- what rows 1 to 7 say of an hour
+-- what the rows of the hour say of it
 record Passed (h : Hour) : Type 0 where
   kept : HourKept h
   no-bad-area : badArea h ≡ none
@@ -49,6 +51,7 @@ hour-passed s w = record { kept = passed-kept s w .hour-kept; no-bad-area = w .1
 -- what row 11 says of the buffers
 pub record Room (h : Hour) (b : Buffers) : Type 0 where
   pub charges-room : members h ≤ length (b .charges)
+  pub finals-room : members h ≤ length (b .finals)
   pub lines-room : members h ≤ length (b .lines)
   pub shares-room : h .count ≤ length (b .shares)
   pub deviations-room : h .count ≤ length (b .deviations)
@@ -58,13 +61,16 @@ pub buffers-room : (h : Hour) (b : Buffers) →
 unfolding tooShort
 buffers-room h b enough =
     let c = ltb (length (b .charges)) (members h) in
+    let f = ltb (length (b .finals)) (members h) in
     let l = ltb (length (b .lines)) (members h) in
     let s = ltb (length (b .shares)) (h .count) in
-    let x = neither (c || l || s) (ltb (length (b .deviations)) (h .count)) (no-place _ enough) in
-    let y = neither (c || l) s (x .0) in
-    let z = neither c l (y .0) in
+    let x = neither (c || f || l || s) (ltb (length (b .deviations)) (h .count)) (no-place _ enough) in
+    let y = neither (c || f || l) s (x .0) in
+    let z = neither (c || f) l (y .0) in
+    let w = neither c f (z .0) in
     record {
-      charges-room = ltb-false _ _ (z .0);
+      charges-room = ltb-false _ _ (w .0);
+      finals-room = ltb-false _ _ (w .1);
       lines-room = ltb-false _ _ (z .1);
       shares-room = ltb-false _ _ (y .1);
       deviations-room = ltb-false _ _ (x .1);
@@ -142,22 +148,28 @@ demand1 = record {
 
 -- ---- demand 2
 
--- every charge of an hour that passes rows 1 to 5 is printed whole
-charge-printed : (h : Hour) → HourKept h → (m : ℕ) →
-    (length (amountText (charge h m)) ≤ 14)
-    × (memberLine m (charge h m) ≡ digitByte (m / 10) ∷ digitByte (m % 10) ∷ bytes " " ++ amountField 14 (charge h m) ++ bytes "\n")
+-- an amount in range fills its 14 columns whole
+pub in-its-column : (z : ℤ) → natAbs z ≤ 999999999999 → column z ≡ amountField 14 z
+unfolding column
+in-its-column z in-range = ap (λ (w : Written). w .field) (write-accepted-at (replicate 14 32) z in-range (text-fits-14 z in-range))
+
+-- every charge and every final of an hour that passes rows 1 to 5 is printed whole
+amounts-printed : (h : Hour) → HourKept h → (m : ℕ) → m < members h →
+    (length (amountText (charge h m)) ≤ 14) × (length (amountText (final h m)) ≤ 14)
+    × (memberLine m (charge h m) (final h m) ≡
+    digitByte (m / 10) ∷ digitByte (m % 10) ∷ bytes " " ++ amountField 14 (charge h m) ++ bytes " " ++ amountField 14 (final h m) ++ bytes "\n")
 unfolding memberLine
-charge-printed h kept m =
-    let in-range : natAbs (charge h m) ≤ 999999999999 = let u = charge-under kept m in omega arith in
-    let fits : length (amountText (charge h m)) ≤ 14 = text-fits-14 (charge h m) in-range in
-    (fits, rw (write-accepted-at (replicate 14 32) (charge h m) in-range fits))
+amounts-printed h kept m l =
+    let c : natAbs (charge h m) ≤ 999999999999 = let u = charge-under kept m in omega arith in
+    let f : natAbs (final h m) ≤ 999999999999 = let u = final-under kept m l in omega arith in
+    (text-fits-14 (charge h m) c, text-fits-14 (final h m) f, rw (in-its-column (charge h m) c, in-its-column (final h m) f))
 
 pub demand2 : Demand2
 demand2 = record {
   settled = settled-by-formula;
   written-read = written-read;
   read-written = read-written;
-  printed = λ s e m l. charge-printed (hourOf hourly s) (hour-passed s (accepts-when-whole (hourRows s) (hour-numbered s) .0 e) .kept) m;
+  printed = λ s e m l. amounts-printed (hourOf hourly s) (hour-passed s (accepts-when-whole (hourRows s) (hour-numbered s) .0 e) .kept) m l;
 }
 
 -- ---- demand 3

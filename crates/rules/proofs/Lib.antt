@@ -14,6 +14,7 @@ pub mod Kept
 pub mod Faults
 pub mod Bounds
 pub mod Fair
+pub mod Neutral
 pub mod Demands
 pub mod Stated
 pub mod Starred

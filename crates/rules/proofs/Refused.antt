@@ -3,9 +3,11 @@ use mathlib.Core.Path.{refl}
 use mathlib.Core.Option.{orElse}
 use Rattle.whole.specs.Below
 use Rattle.rules.specs.Record
+use Rattle.rules.specs.Deviation
 use Rattle.rules.specs.Ufe
 use Rattle.rules.specs.Share
 use Rattle.rules.specs.Charge
+use Rattle.rules.specs.Neutrality
 use Rattle.rules.specs.HourFile
 use Rattle.rules.specs.Ranges
 use Rattle.rules.specs.Refusals
@@ -19,5 +21,6 @@ unfolding Below.sumBelow Below.totalBelow Below.firstBelow orElse Record.signed 
     HourFile.lengthBad HourFile.recordCount HourFile.recordWord HourFile.hourOf Ranges.keeps Ranges.firstBroken Ranges.countRule
     Ranges.pastRule Ranges.blockRule Ranges.areaRule Ranges.headRule Ranges.rulesOf Ranges.recordRule Refusals.verdict Refusals.badLength
     Refusals.badSum Refusals.badBlock Refusals.badHead Refusals.badWord Refusals.badRecord Refusals.badArea Refusals.badAmount
-    Refusals.tooShort Refusals.tableRows Settling.settle wordBytes usedBuffers sealed refusals
-refused-right = (refl, (refl, (refl, (refl, (refl, (refl, (refl, (refl, tt))))))))
+    Record.entry Record.memberOf Record.areaOf Record.entryOf Record.price Record.zonePrice Deviation.deviation Deviation.exportDeviation
+    Ufe.inArea Share.shareSize Share.share Charge.entering Charge.shareOf Charge.grains Charge.nearestCent Charge.cents Charge.charge Neutrality.neutrality Neutrality.memberDemand Neutrality.hourDemand Refusals.noDemand Refusals.tooShort Refusals.tableRows Settling.settle wordBytes usedBuffers sealed refusals
+refused-right = (refl, (refl, (refl, (refl, (refl, (refl, (refl, (refl, (refl, tt)))))))))

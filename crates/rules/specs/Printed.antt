@@ -55,5 +55,5 @@ printedSettlement = record {
 
 pub record PrintedRight : Type 0 where
   pub settled : settle printedFile usedBuffers ≡ printedSettlement
-  pub stated : statement printedFile ≡ 
+  pub stated : statement printedFile ≡
       bytes "hour 7 members 2 records 2\n00          +5.00          +5.00\n01          -5.00          -5.00\n"

@@ -91,6 +91,14 @@ u-upto {z} {k} h = size-under z k h
 pub upto-pos : (n k : ℕ) → n ≤ k → Upto (pos n) k
 upto-pos n k h = record { low = le↑ (omega arith); high = le↑ (omega arith) }
 
+upto-product : (a b : ℤ) (m n : ℕ) → Upto a m → Upto b n → Upto (a *ℤ b) (m * n)
+upto-product (pos x) (pos y) m n h k = upto-pos (x * y) (m * n) (mul-le-mul (u-upto h .under) (u-upto k .under))
+upto-product (pos x) (negsuc y) m n h k = absurd (omega (arith, le↓ (k .low)))
+upto-product (negsuc x) b m n h k = absurd (omega (arith, le↓ (h .low)))
+
+pub upto-mul : {a b : ℤ} {m n : ℕ} → Upto a m → Upto b n → Upto (a *ℤ b) (m * n)
+upto-mul {a} {b} {m} {n} h k = upto-product a b m n h k
+
 apart-upto : (a b : ℤ) (k : ℕ) → Upto a k → Upto b k → Under (a -ℤ b) k
 apart-upto = all2 _ (λ a b. simp zr (omega arith))
 

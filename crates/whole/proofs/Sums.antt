@@ -123,6 +123,12 @@ sum-pick f (suc n) x h = split (eqb x n)
     (λ e. let d : x ≡ n = eqb-true x n e in rw (e, sum-past f n x (omega arith), d) (omega arith))
     (λ e. rw (e, sum-pick f n x (omega (arith, eqb-false x n e))) (omega arith))
 
+-- each of m is of one of n
+pub sum-by : (f of : ℕ → ℕ) (n m : ℕ) → ((i : ℕ) → i < m → of i < n) →
+    sumBelow (λ a. sumBelow (λ i. cond (eqb (of i) a) (f i) 0) m) n ≡ sumBelow f m
+sum-by f of n m there =
+    sum-swap (λ a i. cond (eqb (of i) a) (f i) 0) n m ∙ sum-ext _ f m (λ i l. sum-pick (λ a. f i) n (of i) (there i l))
+
 -- a running sum that is kept modulo m, as wrapping adds keep it
 pub wraps-on : (m : ℕ) (f : ℕ → ℕ) (w acc x r : ℕ) → acc ≡ sumBelow f w % m → x ≡ f w → r ≡ (acc + x) % m → r ≡ sumBelow f (w + 1) % m
 wraps-on m f w acc x r a b e = rw sum-add-one (e ∙ ap₂ (λ (p q : ℕ). (p + q) % m) a b ∙ mod-add-mod (sumBelow f w) m (f w))

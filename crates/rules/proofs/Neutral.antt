@@ -1,0 +1,121 @@
+-- The neutrality amount of an hour that keeps its ranges: what the members demand, how large N and the finals are, that the finals add
+-- up to nothing. Document 02, A1.
+use Prim.Native.Nat.{ℕ, _+_, _*_, _/_, _≤_, _<_}
+use native.Mathlib.Nat.{le-refl, le-trans, le-of-eq}
+use native.Mathlib.Omega.{arith}
+use mathlib.Core.Path.{_≡_, refl, sym, _∙_, ap}
+use mathlib.Core.Bool.{Bool, true, false, cond, _&&_}
+use lib.IntN.{ℤ, pos, natAbs, _-ℤ_, _*ℤ_}
+use lib.Dec.{eqb}
+use Rattle.whole.specs.Below.{sumBelow, totalBelow}
+use Rattle.whole.specs.Signed.{Under, withSignOf}
+use Rattle.whole.proofs.Ranges.{_u-_, u-lit, u-le, u-picked, abs-with-sign, u-with-sign}
+use Rattle.whole.proofs.Sums.{sum-ext, sum-mono, sum-prefix, sum-add, sum-mul, sum-const, sum-by}
+use Rattle.whole.proofs.Totals.{total-within}
+use Rattle.whole.proofs.Division.{nearest-within}
+use Rattle.rules.specs.Record.{Hour, members, areas, memberOf, areaOf, entry, entryOf, isLoad}
+use Rattle.rules.specs.Ufe.{inArea, demand, demands}
+use Rattle.rules.specs.Share.{allDemand, shareSize, share}
+use Rattle.rules.specs.Charge.{nearestCent, cents, grains, amount, charge}
+use Rattle.rules.specs.Neutrality.{everyMember, memberDemand, hourDemand, neutrality, neutralityShare, final}
+use Rattle.rules.specs.Inner.Kept.{HourKept}
+use Rattle.rules.specs.Inner.Posting.{demandBy, demandOf}
+use Rattle.rules.proofs.Shares.{size-at-most}
+use Rattle.rules.proofs.Bounds.{all-grains-most, charge-under}
+
+-- ---- demand
+
+one-test : (b c : Bool) (d : ℕ) → cond (b && c) d 0 ≡ cond b (cond c d 0) 0
+one-test true c d = refl
+one-test false c d = refl
+
+module _ {h : Hour} (kept : HourKept h) where
+  -- A member's demand is that of its records.
+  pub member-demand-by-record : (m : ℕ) → memberDemand h m ≡ sumBelow (λ i. cond (eqb (memberOf h i) m) (demandOf h i) 0) (h .count)
+  unfolding memberDemand demandBy entryOf entry
+  member-demand-by-record m =
+      sum-ext _ _ (h .count) (λ i l. one-test (eqb (memberOf h i) m) (isLoad (entryOf h i .kind)) (demand h i))
+
+  area-demand-by-record : (a : ℕ) → demands h a ≡ sumBelow (λ i. cond (eqb (areaOf h i) a) (demandOf h i) 0) (h .count)
+  unfolding demands allDemand inArea demandBy entryOf entry
+  area-demand-by-record a =
+      sum-ext _ _ (h .count) (λ i l. one-test (eqb (areaOf h i) a) (isLoad (entryOf h i .kind)) (demand h i))
+
+  -- The demand in the hour is that of all records, and that of all areas.
+  pub hour-demand-by-record : hourDemand h ≡ sumBelow (demandOf h) (h .count)
+  unfolding hourDemand allDemand
+  hour-demand-by-record =
+      sum-ext _ _ (members h) (λ m l. member-demand-by-record m)
+      ∙ sum-by (demandOf h) (memberOf h) (members h) (h .count) (λ i l. kept .record-kept i l .member-there)
+
+  pub hour-demand-by-area : hourDemand h ≡ sumBelow (demands h) (areas h)
+  hour-demand-by-area = hour-demand-by-record ∙ sym (
+      sum-ext _ _ (areas h) (λ a l. area-demand-by-record a)
+      ∙ sum-by (demandOf h) (areaOf h) (areas h) (h .count) (λ i l. kept .record-kept i l .area-there))
+
+  demand-of-most : (i : ℕ) → i < h .count → demandOf h i ≤ 100000
+  unfolding demandBy entryOf entry
+  demand-of-most i l = let d = kept .record-kept i l .demand-most in cond-most (isLoad (entryOf h i .kind)) (demand h i) d
+    where
+      cond-most : (b : Bool) (d : ℕ) → d ≤ 100000 → cond b d 0 ≤ 100000
+      cond-most true d p = p
+      cond-most false d p = omega arith
+
+  -- At most 25,000,000 kWh are demanded in an hour.
+  pub hour-demand-most : hourDemand h ≤ 25000000
+  hour-demand-most = omega (
+    arith,
+    hour-demand-by-record,
+    sum-mono (demandOf h) (λ i. 100000) (h .count) demand-of-most,
+    sum-const 100000 (h .count),
+    kept .count-most,
+  )
+
+  -- ---- N
+
+  amount-within : (m : ℕ) → natAbs (amount h m) ≤ sumBelow (λ i. cond (eqb (memberOf h i) m) (natAbs (grains h i)) 0) (h .count)
+  unfolding amount
+  amount-within m = total-within _ _ (h .count) (λ i l. u-picked (eqb (memberOf h i) m) (u-lit (grains h i))) .under
+
+  -- All amounts together are at most 2.8×10^18 grains in size.
+  pub all-amounts-most : sumBelow (λ m. natAbs (amount h m)) (members h) ≤ 2800000000000000000
+  all-amounts-most = omega (
+    arith,
+    sum-mono _ _ (members h) (λ m l. amount-within m),
+    sum-by (λ i. natAbs (grains h i)) (memberOf h) (members h) (h .count) (λ i l. kept .record-kept i l .member-there),
+    all-grains-most kept,
+  )
+
+  half-a-cent-more : (m : ℕ) → natAbs (charge h m) * 10000000 ≤ natAbs (amount h m) + 5000000
+  unfolding charge cents nearestCent
+  half-a-cent-more m = rw (abs-with-sign (amount h m) ((natAbs (amount h m) + 5000000) / 10000000))
+      (nearest-within (natAbs (amount h m)) 5000000 (omega arith) .0)
+
+  -- N, and every running sum of charges, is at most 280,000,000,016 cents in size.
+  pub charges-running : (n : ℕ) → n ≤ members h → Under (totalBelow (charge h) n) 280000000016
+  charges-running n l = u-le (total-within (charge h) (λ m. natAbs (charge h m)) n (λ m k. u-lit (charge h m))) (omega (
+    arith,
+    sum-mul (λ m. natAbs (charge h m)) 10000000 n,
+    sum-mono (λ m. natAbs (charge h m) * 10000000) (λ m. natAbs (amount h m) + 5000000) n (λ m k. half-a-cent-more m),
+    sum-add (λ m. natAbs (amount h m)) (λ m. 5000000) n,
+    sum-const 5000000 n,
+    sum-prefix (λ m. natAbs (amount h m)) n (members h) l,
+    all-amounts-most,
+    kept .members-most,
+  ))
+
+  pub neutrality-under : Under (neutrality h) 280000000016
+  unfolding neutrality
+  neutrality-under = charges-running (members h) (le-refl (members h))
+
+  pub neutrality-share-under : (m : ℕ) → m < members h → Under (neutralityShare h m) 280000000016
+  unfolding neutralityShare share
+  neutrality-share-under m l = u-le (u-with-sign (neutrality h) (shareSize everyMember (memberDemand h) (members h) (natAbs (neutrality h)) m))
+      (le-trans (size-at-most everyMember (memberDemand h) (members h) (natAbs (neutrality h)) m l) (neutrality-under .under))
+
+  -- ---- finals
+
+  -- No final is over 560,000,000,016 cents in size, so that its text fits 14 columns.
+  pub final-under : (m : ℕ) → m < members h → Under (final h m) 560000000016
+  unfolding final
+  final-under m l = charge-under kept m u- neutrality-share-under m l
