@@ -18,7 +18,7 @@ use Rattle.rules.specs.Share.{allDemand}
 use Rattle.rules.specs.Charge.{charge}
 use Rattle.rules.specs.Neutrality.{memberDemand, hourDemand, neutrality, final}
 use Rattle.rules.specs.HourFile.{hourly, hourOf}
-use Rattle.rules.specs.Refusals.{noDemand, tableRows, hourRows, fileRows}
+use Rattle.rules.specs.Refusals.{accepted, verdict, noDemand, tableRows, hourRows, fileRows}
 use Rattle.rules.specs.Settling.{Buffers, filled}
 use Rattle.rules.specs.Promises.{AllWhole}
 use Rattle.rules.specs.Finals.{NeutralOutcome, Neutrality}
@@ -26,7 +26,7 @@ use Rattle.rules.specs.Inner.Kept.{HourKept}
 use Rattle.rules.proofs.Rows.{no-place, accepts-when-whole, file-numbered, settle-whole, settle-fills}
 use Rattle.rules.proofs.Kept.{file-kept}
 use Rattle.rules.proofs.Demands.{Room, buffers-room}
-use Rattle.rules.proofs.Neutral.{hour-demand-most, neutrality-under, neutral-alike}
+use Rattle.rules.proofs.Neutral.{hour-demand-by-area, hour-demand-most, neutrality-under, neutral-alike}
 
 -- row 12: where nobody demands anything, N is 0
 shareable : (h : Hour) → noDemand h ≡ none → hourDemand h ≡ 0 → neutrality h ≡ pos 0
@@ -56,11 +56,15 @@ products {h} kept m l =
     let d : memberDemand h m ≤ 25000000 = omega (arith, sum-at (memberDemand h) (members h) m l, hour-demand-most kept) in
     omega (arith, mul-le-mul d (neutrality-under kept .under))
 
+passed : (s : List ℕ) → verdict (fileRows s) ≡ accepted → HourKept (hourOf hourly s)
+passed s e = file-kept s (accepts-when-whole (fileRows s) (file-numbered s) .0 e) .hour-kept
+
 pub neutrality-shared : Neutrality
 neutrality-shared = record {
   settled = λ s b a.
       let h = hourOf hourly s in
       let p = settle-whole s b a in
       rw (settle-fills s b a .0) (filled-neutral h b (buffers-room h b (p .1)) (row-12 s (p .0)));
-  products = λ s e m l. products (file-kept s (accepts-when-whole (fileRows s) (file-numbered s) .0 e) .hour-kept) m l;
+  all-demand = λ s e. hour-demand-by-area (passed s e);
+  products = λ s e m l. products (passed s e) m l;
 }
