@@ -1,4 +1,7 @@
--- The theorems about the definitions: forms of the sums first, then what each demand rests on, then the demands.
+-- The theorems about the definitions: figures first, then forms of the sums, then what each demand rests on, then the demands.
+pub mod Starred
+pub mod Printed
+pub mod Refused
 pub mod Tariff
 pub mod Posting
 pub mod Shares
@@ -18,6 +21,3 @@ pub mod Neutral
 pub mod Demands
 pub mod Finals
 pub mod Stated
-pub mod Starred
-pub mod Printed
-pub mod Refused
