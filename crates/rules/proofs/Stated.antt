@@ -59,10 +59,13 @@ module _ (s : List ℕ) where
 
 -- ---- how long it is
 
+pub column-width : (z : ℤ) → length (column z) ≡ 14
+unfolding column
+column-width z = field-has-width (replicate 14 32) z
+
 pub member-line-length : (m : ℕ) (c f : ℤ) → length (memberLine m c f) ≡ 33
-unfolding memberLine column
-member-line-length m c f =
-    simp length-append (omega (arith, field-has-width (replicate 14 32) c, field-has-width (replicate 14 32) f))
+unfolding memberLine
+member-line-length m c f = simp length-append (omega (arith, column-width c, column-width f))
 
 module _ (h : Hour) where
   pub member-lines-length : (m : ℕ) → length (memberLines h m) ≡ 33 * m
