@@ -17,6 +17,7 @@ pub mod Fair
 pub mod Neutral
 pub mod Demands
 pub mod Stated
+pub mod Sheet
 pub mod Starred
 pub mod Printed
 pub mod Refused
