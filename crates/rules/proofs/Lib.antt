@@ -18,6 +18,7 @@ pub mod Neutral
 pub mod Demands
 pub mod Stated
 pub mod Sheet
+pub mod Told
 pub mod Starred
 pub mod Printed
 pub mod Refused

@@ -1,6 +1,6 @@
 -- The sheet tells charges and finals: each column, read, gives its amount. Document 02, A1.
-use mathlib.Core.Path.{_≡_, refl, sym, _∙_, ap}
-use mathlib.Core.List.{List, [], _∷_, _++_, append-assoc}
+use mathlib.Core.Path.{_≡_, sym, _∙_, ap}
+use mathlib.Core.List.{List, _∷_, _++_, append-assoc}
 use Prim.Native.Nat.{ℕ, zero, suc, _+_, _*_, _/_, _%_, _≤_, _<_}
 use native.Mathlib.Nat.{not-suc-le-zero}
 use native.Mathlib.Omega.{arith}
@@ -14,7 +14,7 @@ use Rattle.rules.specs.Neutrality.{final}
 use Rattle.rules.specs.Text.{digitByte, bytes}
 use Rattle.rules.specs.HourFile.{hourly, hourOf}
 use Rattle.rules.specs.Refusals.{accepted, verdict, hourRows}
-use Rattle.rules.specs.Settling.{Written, write, read}
+use Rattle.rules.specs.Settling.{Written, read}
 use Rattle.rules.specs.Statement.{firstLine, column, memberLine, memberLines, acceptedLines, statement}
 use Rattle.rules.specs.Finals.{memberPlace, chargeColumn, finalColumn}
 use Rattle.rules.proofs.Text.{text-fits-14, write-accepted-at, written-read}
@@ -95,10 +95,13 @@ module _ (h : Hour) where
 -- ---- read, each column gives the member's amount
 
 module _ (s : List ℕ) (e : verdict (hourRows s) ≡ accepted) (m : ℕ) (l : m < members (hourOf hourly s)) where
-  pub charge-read : read (chargeColumn (hourOf hourly s) m (statement s)) ≡ record { verdict = accepted; amount = charge (hourOf hourly s) m }
-  charge-read = let h = hourOf hourly s in rw (statement-accepted s e, charge-column h m l)
+  abbrev h : Hour
+  h = hourOf hourly s
+
+  pub charge-read : read (chargeColumn h m (statement s)) ≡ record { verdict = accepted; amount = charge h m }
+  charge-read = rw (statement-accepted s e, charge-column h m l)
       (column-read (charge h m) (let u = charge-under (accepted-kept s e .hour-kept) m in omega arith))
 
-  pub final-read : read (finalColumn (hourOf hourly s) m (statement s)) ≡ record { verdict = accepted; amount = final (hourOf hourly s) m }
-  final-read = let h = hourOf hourly s in rw (statement-accepted s e, final-column h m l)
+  pub final-read : read (finalColumn h m (statement s)) ≡ record { verdict = accepted; amount = final h m }
+  final-read = rw (statement-accepted s e, final-column h m l)
       (column-read (final h m) (let u = final-under (accepted-kept s e .hour-kept) m l in omega arith))
