@@ -17,13 +17,14 @@ use Rattle.rules.specs.declared.Answer.the-variants.{
   TooNarrow,
   NotAnAmount,
   TooShort,
+  NoDemand,
 }
 use Rattle.rules.specs.Refusals.{verdictOf}
 use Rattle.rules.specs.Settling.{isAccepted}
 
 -- the answers but acceptance, as code that matches tells them apart
-pub no-other : OneOf (1 ∷ 2 ∷ 3 ∷ 4 ∷ 5 ∷ 6 ∷ 7 ∷ 8 ∷ 9 ∷ 10 ∷ 11 ∷ []) 0 → ⊥
-no-other = miss (1 ∷ 2 ∷ 3 ∷ 4 ∷ 5 ∷ 6 ∷ 7 ∷ 8 ∷ 9 ∷ 10 ∷ 11 ∷ []) 0 tt
+pub no-other : OneOf (1 ∷ 2 ∷ 3 ∷ 4 ∷ 5 ∷ 6 ∷ 7 ∷ 8 ∷ 9 ∷ 10 ∷ 11 ∷ 12 ∷ []) 0 → ⊥
+no-other = miss (1 ∷ 2 ∷ 3 ∷ 4 ∷ 5 ∷ 6 ∷ 7 ∷ 8 ∷ 9 ∷ 10 ∷ 11 ∷ 12 ∷ []) 0 tt
 
 -- each has a number
 pub numbered : (a : Answer) → (a ≡ Accepted → ⊥) → isAccepted (verdictOf a) ≡ false
@@ -39,3 +40,4 @@ numbered OutOfRange n = refl
 numbered TooNarrow n = refl
 numbered NotAnAmount n = refl
 numbered TooShort n = refl
+numbered NoDemand n = refl

@@ -21,6 +21,7 @@ pub fn number_of(answer: Answer) -> u64
         Answer::TooNarrow => 9,
         Answer::NotAnAmount => 10,
         Answer::TooShort => 11,
+        Answer::NoDemand => 12,
     }
 }
 
@@ -41,6 +42,7 @@ pub fn place_of(answer: Answer) -> usize
         Answer::TooNarrow => 0,
         Answer::NotAnAmount => 0,
         Answer::TooShort => 0,
+        Answer::NoDemand => 0,
     }
 }
 

@@ -26,7 +26,7 @@ use Rattle.rules.specs.Ufe.{inArea, areaSum, ufe, demand, demands}
 use Rattle.rules.specs.Share.{allDemand, shareSize, share}
 use Rattle.rules.specs.Charge.{entering, enteringAs, nearestCent, cents, shareOf, grains, amount, charge, poolTotal}
 use Rattle.rules.specs.Promises.{rankedShare, nonZeroT, allT, otherT, exactFraction, unrounded, loadPrices, Fair}
-use Rattle.rules.proofs.Shares.{ranked, nothing-for-others, nothing-without-demand, sizes-add-up, sizes-at-most, size-near}
+use Rattle.rules.proofs.Shares.{ranked, nothing-for-others, nothing-without-demand, sizes-add-up-to, sizes-at-most, size-near}
 
 pub record Sound (h : Hour) : Type 0 where
   pub member-there : (i : ℕ) → i < h .count → memberOf h i < members h
@@ -39,8 +39,8 @@ cond-abs : (b : Bool) (z : ℤ) → cond b (natAbs z) 0 ≡ natAbs (cond b z (po
 cond-abs true z = refl
 cond-abs false z = refl
 
--- a size less than a unit from its exact fraction, with the sign of what is shared
-near-with-sign : (U : ℤ) (s t d : ℕ) → s * t < d * natAbs U + t → d * natAbs U < s * t + t →
+-- A size less than a unit from its exact fraction, with the sign of what is shared.
+pub near-with-sign : (U : ℤ) (s t d : ℕ) → s * t < d * natAbs U + t → d * natAbs U < s * t + t →
     natAbs (withSignOf U s *ℤ pos t -ℤ pos d *ℤ U) < t
 near-with-sign (pos u) s t d p q = simp zr (omega arith)
 near-with-sign (negsuc u) s t d p q = simp zr (omega arith)
@@ -102,11 +102,8 @@ module _ (h : Hour) where
 module _ (h : Hour) (ok : Sound h) where
   sizes-are-ufe : (a : ℕ) → a < areas h → sumBelow (sizeIn h a) (h .count) ≡ natAbs (ufe h a)
   unfolding demands allDemand
-  sizes-are-ufe a l = ⊎-elim
-      (λ z. let u = ap natAbs (ok .no-demand-no-ufe a l z) in
-      omega (arith, sizes-at-most (inArea h a isLoad) (demand h) (h .count) (natAbs (ufe h a))))
-      (sizes-add-up (inArea h a isLoad) (demand h) (h .count) (natAbs (ufe h a)))
-      (eq-zero-or-pos (demands h a))
+  sizes-are-ufe a l =
+      sizes-add-up-to (inArea h a isLoad) (demand h) (h .count) (natAbs (ufe h a)) (λ z. ap natAbs (ok .no-demand-no-ufe a l z))
 
   -- The shares of each area add up exactly to its UFE.
   pub shares-add-up : (a : ℕ) → a < areas h → totalBelow (λ i. cond (eqb (areaOf h i) a) (shareOf h i) (pos 0)) (h .count) ≡ ufe h a

@@ -16,6 +16,7 @@ pub mod Bounds
 pub mod Fair
 pub mod Neutral
 pub mod Demands
+pub mod Finals
 pub mod Stated
 pub mod Sheet
 pub mod Told

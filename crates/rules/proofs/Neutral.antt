@@ -3,24 +3,28 @@
 use Prim.Native.Nat.{ℕ, _+_, _*_, _/_, _≤_, _<_}
 use native.Mathlib.Nat.{le-refl, le-trans, le-of-eq}
 use native.Mathlib.Omega.{arith}
-use mathlib.Core.Path.{_≡_, refl, sym, _∙_, ap}
+use mathlib.Core.Path.{_≡_, refl, sym, _∙_, ap, ap₂}
 use mathlib.Core.Bool.{Bool, true, false, cond, _&&_}
 use lib.IntN.{ℤ, pos, natAbs, _-ℤ_, _*ℤ_}
 use lib.Dec.{eqb}
 use Rattle.whole.specs.Below.{sumBelow, totalBelow}
 use Rattle.whole.specs.Signed.{Under, withSignOf}
+use Rattle.whole.proofs.Linear.{zr, all1, all2}
 use Rattle.whole.proofs.Ranges.{_u-_, u-lit, u-le, u-picked, abs-with-sign, u-with-sign}
 use Rattle.whole.proofs.Sums.{sum-ext, sum-mono, sum-prefix, sum-add, sum-mul, sum-const, sum-by}
-use Rattle.whole.proofs.Totals.{total-within}
+use Rattle.whole.proofs.Totals.{total-ext, total-sub, total-within, total-with-sign, own-sign, sign-of-zero}
 use Rattle.whole.proofs.Division.{nearest-within}
 use Rattle.rules.specs.Record.{Hour, members, areas, memberOf, areaOf, entry, entryOf, isLoad}
 use Rattle.rules.specs.Ufe.{inArea, demand, demands}
 use Rattle.rules.specs.Share.{allDemand, shareSize, share}
 use Rattle.rules.specs.Charge.{nearestCent, cents, grains, amount, charge}
 use Rattle.rules.specs.Neutrality.{everyMember, memberDemand, hourDemand, neutrality, neutralityShare, final}
+use Rattle.rules.specs.Promises.{rankedSize}
+use Rattle.rules.specs.Finals.{Neutral}
 use Rattle.rules.specs.Inner.Kept.{HourKept}
 use Rattle.rules.specs.Inner.Posting.{demandBy, demandOf}
-use Rattle.rules.proofs.Shares.{size-at-most}
+use Rattle.rules.proofs.Shares.{ranked, nothing-without-demand, size-at-most, sizes-add-up-to, size-near}
+use Rattle.rules.proofs.Fair.{near-with-sign}
 use Rattle.rules.proofs.Bounds.{all-grains-most, charge-under}
 
 -- ---- demand
@@ -113,9 +117,87 @@ module _ {h : Hour} (kept : HourKept h) where
   neutrality-share-under m l = u-le (u-with-sign (neutrality h) (shareSize everyMember (memberDemand h) (members h) (natAbs (neutrality h)) m))
       (le-trans (size-at-most everyMember (memberDemand h) (members h) (natAbs (neutrality h)) m l) (neutrality-under .under))
 
-  -- ---- finals
-
   -- No final is over 560,000,000,016 cents in size, so that its text fits 14 columns.
   pub final-under : (m : ℕ) → m < members h → Under (final h m) 560000000016
   unfolding final
   final-under m l = charge-under kept m u- neutrality-share-under m l
+
+-- ---- the shares of N add up to it, and the finals to nothing
+
+taken-off : (c s : ℤ) → c -ℤ (c -ℤ s) ≡ s
+taken-off = all2 _ (λ c s. simp zr (omega arith))
+
+nothing-left : (z : ℤ) → z -ℤ z ≡ pos 0
+nothing-left = all1 _ (λ z. simp zr (omega arith))
+
+nothing-off : (z : ℤ) → z -ℤ pos 0 ≡ z
+nothing-off = all1 _ (λ z. simp zr (omega arith))
+
+module _ (h : Hour) where
+  -- the size of a member's share of N
+  abbrev sizeOf : ℕ → ℕ
+  sizeOf = shareSize everyMember (memberDemand h) (members h) (natAbs (neutrality h))
+
+  abbrev rankedSizeOf : ℕ → ℕ
+  rankedSizeOf = rankedSize everyMember (memberDemand h) (members h) (natAbs (neutrality h))
+
+  pub final-by-rank : (m : ℕ) → m < members h → final h m ≡ charge h m -ℤ withSignOf (neutrality h) (rankedSizeOf m)
+  unfolding final neutralityShare share
+  final-by-rank m l =
+      ap (λ (size : ℕ). charge h m -ℤ withSignOf (neutrality h) size)
+      (ranked everyMember (memberDemand h) (members h) (natAbs (neutrality h)) m l)
+
+  pub share-of-N : (m : ℕ) → charge h m -ℤ final h m ≡ neutralityShare h m
+  unfolding final
+  share-of-N m = taken-off (charge h m) (neutralityShare h m)
+
+  -- Each share of N is less than a cent from its exact fraction.
+  pub near-N : (m : ℕ) → m < members h → (hourDemand h ≡ 0 → ⊥) →
+      natAbs (neutralityShare h m *ℤ pos (hourDemand h) -ℤ pos (memberDemand h m) *ℤ neutrality h) < hourDemand h
+  unfolding neutralityShare share hourDemand
+  near-N m l some =
+      let q = size-near everyMember (memberDemand h) (members h) (natAbs (neutrality h)) (omega (arith, some)) m l refl in
+      near-with-sign (neutrality h) (sizeOf m) (hourDemand h) (memberDemand h m) (q .0) (q .1)
+
+  -- Where nobody demands anything, each final is the charge.
+  pub final-without-demand : (m : ℕ) → hourDemand h ≡ 0 → final h m ≡ charge h m
+  unfolding final neutralityShare share hourDemand
+  final-without-demand m z =
+      ap (λ (size : ℕ). charge h m -ℤ withSignOf (neutrality h) size)
+      (nothing-without-demand everyMember (memberDemand h) (members h) (natAbs (neutrality h)) m z)
+      ∙ ap (λ (s : ℤ). charge h m -ℤ s) (sign-of-zero (neutrality h))
+      ∙ nothing-off (charge h m)
+
+  -- N is the sum of whatever agrees with the charges.
+  pub collected : (c : ℕ → ℤ) → ((m : ℕ) → m < members h → c m ≡ charge h m) → totalBelow c (members h) ≡ neutrality h
+  unfolding neutrality
+  collected c charges = total-ext c (charge h) (members h) charges
+
+  module _ (shareable : hourDemand h ≡ 0 → neutrality h ≡ pos 0) where
+    shares-of-N-add-up : totalBelow (neutralityShare h) (members h) ≡ neutrality h
+    unfolding neutralityShare share hourDemand
+    shares-of-N-add-up =
+        total-with-sign (neutrality h) sizeOf (members h)
+        ∙ ap (withSignOf (neutrality h))
+        (sizes-add-up-to everyMember (memberDemand h) (members h) (natAbs (neutrality h)) (λ z. ap natAbs (shareable z)))
+        ∙ own-sign (neutrality h)
+
+    -- All finals add up to exactly zero.
+    pub finals-add-up : totalBelow (final h) (members h) ≡ pos 0
+    unfolding final
+    finals-add-up =
+        total-sub (charge h) (neutralityShare h) (members h)
+        ∙ ap₂ (λ (x y : ℤ). x -ℤ y) (collected (charge h) (λ m l. refl)) shares-of-N-add-up
+        ∙ nothing-left (neutrality h)
+
+    -- So it is of any figures that agree with them.
+    pub neutral-alike : {c f : ℕ → ℤ} → ((m : ℕ) → m < members h → c m ≡ charge h m) → ((m : ℕ) → m < members h → f m ≡ final h m) →
+        Neutral h c f
+    neutral-alike {c} {f} charges finals =
+        let N-is : totalBelow c (members h) ≡ neutrality h = collected c charges in
+        record {
+          exact = total-ext f (final h) (members h) finals ∙ finals-add-up;
+          final-is = λ m l. rw (N-is, charges m l) (finals m l ∙ final-by-rank m l);
+          near = λ m l some. rw (N-is, charges m l, finals m l, share-of-N m) (near-N m l some);
+          none-to-share = λ m l z. finals m l ∙ final-without-demand m z ∙ sym (charges m l);
+        }

@@ -300,6 +300,13 @@ sizes-at-most takes D n U = ⊎-elim
 pub size-at-most : (takes : ℕ → Bool) (D : ℕ → ℕ) (n U i : ℕ) → i < n → shareSize takes D n U i ≤ U
 size-at-most takes D n U i l = le-trans (sum-at (shareSize takes D n U) n i l) (sizes-at-most takes D n U)
 
+-- They add up to it wherever there is demand, or nothing to share.
+pub sizes-add-up-to : (takes : ℕ → Bool) (D : ℕ → ℕ) (n U : ℕ) → (allDemand takes D n ≡ 0 → U ≡ 0) → sumBelow (shareSize takes D n U) n ≡ U
+sizes-add-up-to takes D n U nothing = ⊎-elim
+    (λ z. omega (arith, sizes-at-most takes D n U, nothing z))
+    (sizes-add-up takes D n U)
+    (eq-zero-or-pos (allDemand takes D n))
+
 -- ---- only the takers' demands, gathered
 
 abbrev everyone : ℕ → Bool

@@ -5,9 +5,10 @@ use mathlib.Core.Path.{_≡_}
 use mathlib.Core.List.{List}
 use lib.IntN.{ℤ, pos, natAbs, _-ℤ_, _*ℤ_}
 use lib.ListN.{length, take, drop, getD}
-use Rattle.whole.specs.Below.{totalBelow}
+use Rattle.whole.specs.Below.{sumBelow, totalBelow}
 use Rattle.whole.specs.Signed.{withSignOf}
-use Rattle.rules.specs.Record.{Hour, hourNumber, members}
+use Rattle.rules.specs.Record.{Hour, hourNumber, members, areas}
+use Rattle.rules.specs.Ufe.{demands}
 use Rattle.rules.specs.Charge.{charge}
 use Rattle.rules.specs.Neutrality.{everyMember, memberDemand, hourDemand, neutrality, final}
 use Rattle.rules.specs.HourFile.{hourly, hourOf}
@@ -38,7 +39,9 @@ pub record NeutralOutcome (h : Hour) (before after : Buffers) : Type 0 where
 
 pub record Neutrality : Type 0 where
   pub settled : (s : List ℕ) (b : Buffers) → Accepts s b → NeutralOutcome (hourOf hourly s) b (settle s b .buffers)
-  -- the products stay below 10^19, of every file that passes rows 1 to 5
+  -- all loads, all areas: of every file that passes rows 1 to 5 the members demand together what the areas do
+  pub all-demand : (s : List ℕ) → verdict (fileRows s) ≡ accepted → let h = hourOf hourly s in hourDemand h ≡ sumBelow (demands h) (areas h)
+  -- the products stay below 10^19, of every such file
   pub products : (s : List ℕ) → verdict (fileRows s) ≡ accepted → let h = hourOf hourly s in (m : ℕ) → m < members h →
       memberDemand h m * natAbs (neutrality h) < 10000000000000000000
 
