@@ -2,10 +2,9 @@
 // place after it is handed back.
 ghost use Prim.Native.Nat.{_+_, _≤_, _<_};
 ghost use lib.IntN.{natAbs};
-ghost use lib.ListN.{length, replicate};
+ghost use lib.ListN.{length};
 ghost use Rattle.rules.specs.Refusals.{refusedAt};
-ghost use Rattle.rules.specs.Settling.{write};
-ghost use Rattle.rules.specs.Statement.{firstLine, memberLine, refusedLine};
+ghost use Rattle.rules.specs.Statement.{firstLine, column, memberLine, refusedLine};
 ghost use Rattle.printing.specs.Put.{Put};
 use crate::text::put_bytes;
 use crate::text::put_count;
@@ -23,26 +22,28 @@ pub fn put_first_line(out: &mut [u8], hour: u64, members: u64, records: u64) -> 
     put_bytes(out, after_records, b"\n")
 }
 
-// A charge in 14 columns, into the part of the slice that is its field. It is in range and fits, so writing never refuses it.
-fn put_charge(out: &mut [u8], at: usize, cents: i64) -> usize
+// An amount in 14 columns, into the part of the slice that is its field. It is in range and fits, so writing never refuses it.
+fn put_column(out: &mut [u8], at: usize, cents: i64) -> usize
     requires { ⌜ (at + 14 ≤ length (now out)) × (natAbs cents ≤ 999999999999) ⌝ }
-    ensures { λ r. ⌜ Put (now (out .entry)) at (write (replicate 14 32) cents .field) r (now (out .exit)) ⌝ }
+    ensures { λ r. ⌜ Put (now (out .entry)) at (column cents) r (now (out .exit)) ⌝ }
 {
     let end = at + 14;
     amount::write(cents, &mut out[at..end]);
     end
 }
 
-// A member's line: two digits, a blank, the charge.
-pub fn put_member(out: &mut [u8], at: usize, member: usize, cents: i64) -> usize
-    requires { ⌜ (at + 18 ≤ length (now out)) × (member < 100) × (natAbs cents ≤ 999999999999) ⌝ }
-    ensures { λ r. ⌜ Put (now (out .entry)) at (memberLine member cents) r (now (out .exit)) ⌝ }
+// A member's line: two digits, a blank, the charge, a blank, the final amount.
+pub fn put_member(out: &mut [u8], at: usize, member: usize, charge: i64, final_amount: i64) -> usize
+    requires { ⌜ (at + 33 ≤ length (now out)) × (member < 100) × (natAbs charge ≤ 999999999999) × (natAbs «final_amount» ≤ 999999999999) ⌝ }
+    ensures { λ r. ⌜ Put (now (out .entry)) at (memberLine member charge «final_amount») r (now (out .exit)) ⌝ }
 {
     out[at] = amount::decimal::digit(member as u64 / 10);
     out[at + 1] = amount::decimal::digit(member as u64);
     out[at + 2] = b' ';
-    let after_charge = put_charge(out, at + 3, cents);
-    put_bytes(out, after_charge, b"\n")
+    let after_charge = put_column(out, at + 3, charge);
+    let after_blank = put_bytes(out, after_charge, b" ");
+    let after_final = put_column(out, after_blank, final_amount);
+    put_bytes(out, after_final, b"\n")
 }
 
 // A refusal's number and place, and nothing else. The room is for twenty digits of each.

@@ -21,3 +21,5 @@ pub mod Neutral
 pub mod Demands
 pub mod Finals
 pub mod Stated
+pub mod Sheet
+pub mod Told

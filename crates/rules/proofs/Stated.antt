@@ -2,7 +2,7 @@
 use mathlib.Core.Path.{_≡_, refl, sym, _∙_, ap}
 use mathlib.Core.Bool.{or-true}
 use mathlib.Core.List.{List}
-use Prim.Native.Nat.{ℕ, zero, suc, _*_, _^_, _≤_, _<_}
+use Prim.Native.Nat.{ℕ, zero, suc, _+_, _*_, _^_, _≤_, _<_}
 use native.Mathlib.Omega.{arith}
 use lib.Dec.{leb}
 use lib.IntN.{ℤ}
@@ -59,10 +59,13 @@ module _ (s : List ℕ) where
 
 -- ---- how long it is
 
+pub column-width : (z : ℤ) → length (column z) ≡ 14
+unfolding column
+column-width z = field-has-width (replicate 14 32) z
+
 pub member-line-length : (m : ℕ) (c f : ℤ) → length (memberLine m c f) ≡ 33
-unfolding memberLine column
-member-line-length m c f =
-    simp length-append (omega (arith, field-has-width (replicate 14 32) c, field-has-width (replicate 14 32) f))
+unfolding memberLine
+member-line-length m c f = simp length-append (omega (arith, column-width c, column-width f))
 
 module _ (h : Hour) where
   pub member-lines-length : (m : ℕ) → length (memberLines h m) ≡ 33 * m
@@ -91,10 +94,14 @@ pub refused-line-most : (v : Verdict) → length (refusedLine v) ≤ 53
 unfolding refusedLine
 refused-line-most v = simp length-append (omega (arith, decimal-at-most-20 (v .number), decimal-at-most-20 (v .place)))
 
--- the hour number of a file is a word of 32 bits
+-- a word of four bytes has 32 bits
+pub word-most : (s : List ℕ) → ((i : ℕ) → getD s i 0 < 256) → (k : ℕ) → word s k < 2 ^ 32
+unfolding word
+word-most s b k = omega (arith, b (4 * k), b (4 * k + 1), b (4 * k + 2), b (4 * k + 3))
+
 pub hour-number-most : (s : List ℕ) → ((i : ℕ) → getD s i 0 < 256) → hourNumber (hourOf hourly s) < 2 ^ 32
-unfolding hourOf blockWord word
-hour-number-most s b = omega (arith, b 32, b 33, b 34, b 35)
+unfolding hourOf blockWord
+hour-number-most s b = word-most s b 8
 
 -- No statement of a byte string is longer than 1,095 bytes: 39 for line 1, and 33 for each of 32 members.
 pub statement-fits : (s : List ℕ) → ((i : ℕ) → getD s i 0 < 256) → length (statement s) ≤ 1095
@@ -106,9 +113,13 @@ statement-fits s b = split (isAccepted (verdict (hourRows s)))
 -- ---- of a cut input
 
 -- a file over 26 blocks is refused by its length alone
+pub too-long-refused : (s : List ℕ) → 13312 < length s → verdict (hourRows s) ≡ refusedAt 1 0
+unfolding hourRows tableRows verdict badLength lengthBad
+too-long-refused s l = rw (lt-ltb 13312 (length s) l, or-true)
+
 too-long : (s : List ℕ) → 13312 < length s → statement s ≡ refusedLine (refusedAt 1 0)
-unfolding statement hourRows tableRows verdict badLength lengthBad
-too-long s l = rw (lt-ltb 13312 (length s) l, or-true)
+unfolding statement
+too-long s l = rw (too-long-refused s l)
 
 -- whoever reads at most 13,313 bytes sees that an input is too long
 pub cut-input-same : (s : List ℕ) → statement (take 13313 s) ≡ statement s

@@ -1,4 +1,4 @@
--- `printing::put_charge` meets its contract: the part that is lent comes back as the charge's field.
+-- `printing::put_column` meets its contract: the part that is lent comes back as the amount's field.
 use mathlib.Core.Path.{_≡_, _∙_, ap}
 use Prim.Native.Nat.{_+_, _-_}
 use native.Mathlib.Omega.{arith}
@@ -7,10 +7,11 @@ use borrow.Rule.Slice.PartMut.{midOf, mid-len}
 use lib.ListN.{length, replicate}
 use Rattle.whole.proofs.Machine.{read-back}
 use Rattle.rules.specs.Settling.{write}
+use Rattle.rules.specs.Statement.{column}
 use Rattle.rules.proofs.Text.{field-has-width, written-in-14}
 use Rattle.printing.proofs.Putting.{put-as, part-put}
-use Rattle.printing.proofs.put_charge.Statement.{statement}
-use Rattle.printing.proofs.put_charge.Tie as tie
+use Rattle.printing.proofs.put_column.Statement.{statement}
+use Rattle.printing.proofs.put_column.Tie as tie
 
 -- at + 14
 add-end : tie.Need-add-end
@@ -36,6 +37,7 @@ same-length : tie.Need-same-length
 same-length c = search needs
 
 returns : tie.Need-returns
+unfolding column
 returns c =
     let w = c .before .before .write in
     let s = c .before .before .before .before .before in
@@ -48,7 +50,7 @@ returns c =
     ∙ omega arith in
     put-as field (part-put o (w .last .1 .0) at (at + 14) (omega arith) (s .pre .0) width)
 
-pub put-charge-spec : {M : Type 1} → statement M
-put-charge-spec =
+pub put-column-spec : {M : Type 1} → statement M
+put-column-spec =
     tie.close
     (tie.spec add-end sub-write part-write-start part-write-end write-requires same-length returns)
