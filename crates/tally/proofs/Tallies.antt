@@ -18,7 +18,7 @@ use Rattle.whole.specs.Signed.{Under}
 use Rattle.whole.proofs.Linear.{abs-zero}
 use Rattle.whole.proofs.Machine.{zero-bits}
 use Rattle.whole.proofs.Ranges.{u-fits}
-use Rattle.whole.proofs.Sums.{sum-add-one, sum-at}
+use Rattle.whole.proofs.Sums.{sum-add-one}
 use Rattle.rules.specs.declared.Tally.{Tally}
 use Rattle.rules.specs.Record.{Hour, areas, tieIn, tieOut, areaOf, entryOf}
 use Rattle.rules.specs.Deviation.{unitsPerKWh}
@@ -28,7 +28,7 @@ use Rattle.rules.specs.Inner.Posting.{accounted, tallied, demandOf, tallyAfter}
 use Rattle.rules.specs.Settling.{ufeFigures}
 use Rattle.rules.proofs.Posting.{tally-energy, tally-gives-demands, tally-gives-ufe}
 use Rattle.rules.proofs.Bounds.{energy-running, ufe-under}
-use Rattle.rules.proofs.Neutral.{hour-demand-by-area}
+use Rattle.rules.proofs.Neutral.{no-area-demands}
 use Rattle.formula.specs.Room.{TallyRoom}
 use Rattle.formula.proofs.Room.{tally-room}
 use Rattle.hour.specs.Hour.{hourIn}
@@ -70,10 +70,7 @@ module _ {s : List ℕ} {t : Tally} (p : Tallied s t) (a : ℕ) (there : a < are
   nobody-yet before z = omega (arith, demand-at, sum-add-one (demands hour) a)
 
   pub somebody : (getD (t .demand) a 0 ≡ 0 → ⊥) → eqb (hourDemand hour) 0 ≡ false
-  somebody n = ne-eqb (hourDemand hour) 0 (λ e. n (demand-at ∙ nothing e))
-    where
-      nothing : hourDemand hour ≡ 0 → demands hour a ≡ 0
-      nothing e = omega (arith, hour-demand-by-area (p .kept .hour-kept), sum-at (demands hour) (areas hour) a there)
+  somebody n = ne-eqb (hourDemand hour) 0 (λ e. n (demand-at ∙ no-area-demands (p .kept .hour-kept) e a there))
 
 -- ---- refusal 6, by the code's two tests: of a number, and of a number's bits
 
