@@ -3,20 +3,24 @@ use mathlib.Core.Path.{_≡_, sym, _∙_, ap}
 use mathlib.Core.List.{List}
 use Prim.Native.Nat.{ℕ, _+_, _≤_, _<_}
 use native.Mathlib.Nat.{le-of-lt}
+use native.Mathlib.Omega.{arith}
 use lib.IntN.{ℤ, pos, _+ℤ_}
-use lib.ListN.{getD, set}
+use lib.ListN.{length, getD, set}
 use mir.Syntax.{w64}
 use mir.Val.{SFits}
 use Rattle.whole.specs.Below.{replacingFirst}
+use Rattle.whole.proofs.Buffers.{getD-replacing, length-replacing}
 use Rattle.whole.proofs.Adding.{Added, totalsBy, added-at, next-total, all-added}
 use Rattle.whole.proofs.Machine.{Num, result, _:+_, fits, stored, back}
 use Rattle.rules.specs.Record.{Hour, members, memberOf, areaOf}
 use Rattle.rules.specs.Charge.{shareOf, grains, amount}
 use Rattle.rules.specs.Neutrality.{hourDemand}
-use Rattle.rules.specs.Inner.Kept.{HourKept}
+use Rattle.rules.specs.Inner.Kept.{HourKept, FileKept}
 use Rattle.rules.proofs.Fair.{none-to-share}
 use Rattle.rules.proofs.Bounds.{grains-under, amount-running}
 use Rattle.rules.proofs.Neutral.{no-area-demands}
+use Rattle.hour.specs.Hour.{hourIn}
+use Rattle.neutrality.specs.Charged.{Empty, Amounts}
 
 module _ {h : Hour} (kept : HourKept h) where
   pub no-share : hourDemand h ≡ 0 → (i : ℕ) → i < h .count → pos 0 ≡ shareOf h i
@@ -48,3 +52,12 @@ module _ {h : Hour} (kept : HourKept h) where
       out ≡ replacingFirst (amount h) (members h) old
   unfolding amount
   amounts-are added ended = all-added added ended
+
+-- the amounts are added up where nothing stood
+pub amounts-ready : {s : List ℕ} {lent amounts : List ℤ} → FileKept s → Empty (pos 0) (hourIn s) lent →
+    amounts ≡ replacingFirst (amount (hourIn s)) (members (hourIn s)) lent → Amounts s amounts
+amounts-ready {s} {lent} kept empty put = record {
+  kept = kept;
+  as-many = ap length put ∙ length-replacing (amount (hourIn s)) (members (hourIn s)) lent (omega (arith, empty .as-many)) ∙ empty .as-many;
+  amounts-are = λ m l. rw put (getD-replacing (amount (hourIn s)) (members (hourIn s)) lent m (pos 0) l);
+}

@@ -28,7 +28,8 @@ use Rattle.rules.proofs.Bounds.{charge-under}
 use Rattle.rules.proofs.Neutral.{member-demand-by-record, hour-demand-most, charges-running, neutrality-under, neutrality-share-under}
 use Rattle.share.specs.Shareable.{at, everyone, demanded, Shareable, sharesIn}
 use Rattle.share.proofs.Uses.{neutrality-shareable}
-use Rattle.neutrality.specs.Charged.{sizeOf}
+use Rattle.hour.specs.Hour.{hourIn}
+use Rattle.neutrality.specs.Charged.{sizeOf, Sized}
 
 module _ {h : Hour} (kept : HourKept h) where
   -- ---- N: the charges before member m are added up, and its charge is known
@@ -94,7 +95,7 @@ module _ {h : Hour} {lent demands sizes : List ℕ} (q : Asked h lent demands si
 
   -- what the engine answered
   module _ {got : List ℕ} (shared : got ≡ sharesIn demands N sizes) where
-    pub got-as-many : length got ≡ n
+    got-as-many : length got ≡ n
     got-as-many = ap length shared ∙ length-replacing _ (length demands) sizes (omega (arith, as-many, q .sizes-room)) ∙ q .sizes-room
 
     everybody-takes-part : (m : ℕ) → m < n → shareSize everyone (at demands) n N m ≡ sizeOf h m
@@ -102,12 +103,17 @@ module _ {h : Hour} {lent demands sizes : List ℕ} (q : Asked h lent demands si
     everybody-takes-part m l =
         rw (all-count n, all-count m) at (gathered-shares everyMember (memberDemand h) (at demands) n N (λ j k t. rw (all-count j) (demand-at j k)) m l refl)
 
-    pub got-at : (m : ℕ) → m < n → getD got m 0 ≡ sizeOf h m
+    got-at : (m : ℕ) → m < n → getD got m 0 ≡ sizeOf h m
     got-at m l =
         ap (λ (g : List ℕ). getD g m 0) shared
         ∙ getD-replacing _ (length demands) sizes m 0 (omega (arith, as-many))
         ∙ ap (λ (k : ℕ). shareSize everyone (at demands) k N m) as-many
         ∙ everybody-takes-part m l
+
+-- N, as it was added up, and the engine's sizes are all that is needed to take the shares off
+pub sized : {s : List ℕ} {lent demands sizes got : List ℕ} {all : ℤ} → Asked (hourIn s) lent demands sizes → all ≡ neutrality (hourIn s) →
+    got ≡ sharesIn demands (natAbs (neutrality (hourIn s))) sizes → Sized s all got
+sized q all-is shared = record { all-is = all-is; as-many = got-as-many q shared; sizes-are = got-at q shared }
 
 -- ---- a share is taken off
 

@@ -1,3 +1,4 @@
--- The laws behind the finals and refusal 12: charges added up, a member's demand and amount gathered, shares taken off.
+-- The laws behind the finals and refusal 12: room for a number a member, the steps to the finals, amounts where nobody demands anything.
+mod Places
 mod Finals
 mod Amounts

@@ -1,26 +1,30 @@
-use borrow.Author.Needs.{needs}
+-- `neutrality::left_over_in` meets its contract: N is tested by its bits.
+use mathlib.Core.Path.{_∙_, ap}
+use mathlib.Core.Bool.{not}
+use lib.Dec.{eqb}
+use lib.IntN.{ℤ, natAbs}
+use borrow.Author.Needs.{sfits-of}
+use Rattle.whole.proofs.Machine.{zero-test}
+use Rattle.neutrality.proofs.Amounts.{amounts-ready}
 use Rattle.neutrality.proofs.left_over_in.Statement.{statement}
 use Rattle.neutrality.proofs.left_over_in.Tie as tie
-use Rattle.neutrality.proofs.left_over_in.Reads as reads
-use Rattle.neutrality.proofs.left_over_in.Lts as lts
-use Rattle.neutrality.proofs.put_amounts.Reads as put-amounts-reads
-use Rattle.neutrality.proofs.sum_of_cents.Reads as sum-of-cents-reads
 
--- src/lib.rt:143:5
 put-amounts-requires : tie.Need-put-amounts-requires
-put-amounts-requires c κs = search needs
+put-amounts-requires c κs = c .before .before .pre
 
--- src/lib.rt:144:5
 sum-of-cents-requires : tie.Need-sum-of-cents-requires
-sum-of-cents-requires c κs = ?
+sum-of-cents-requires c κs =
+    let put = c .before .before in
+    let pre = put .before .before .before .pre in
+    amounts-ready (pre .0 .kept) (pre .2) (put .put-amounts .ensures)
 
--- src/lib.rt:139:1
+-- amounts: &mut [i64]
 same-length : tie.Need-same-length
-same-length c = search needs
+same-length c = c .before .before .before .put-amounts .kept .1 .1 .0
 
--- src/lib.rt:139:1
+-- sum_of_cents(file, amounts) != 0
 returns : tie.Need-returns
-returns c = ?
+returns c = ap not (zero-test (c .sum-of-cents .result) (sfits-of (c .sum-of-cents .ok)) ∙ ap (λ (z : ℤ). eqb (natAbs z) 0) (c .sum-of-cents .ensures))
 
 pub left-over-in-spec : {M : Type 1} → statement M
 left-over-in-spec =
