@@ -17,8 +17,8 @@ use hour::Head;
 use rules::Line;
 
 // A record in its member's amount: the zone price of its area times its deviation as it enters, plus its share. The price is handed over by
-// itself: eight of them would be copied for each record.
-fn grains(file: &[u8], i: usize, price: i64, deviation: i64, share: i64) -> i64
+// itself: eight of them would be copied for each record. `neutrality` asks for it where no line may be written yet.
+pub fn grains(file: &[u8], i: usize, price: i64, deviation: i64, share: i64) -> i64
     requires { ⌜ Worked (now file) i price deviation share ⌝ }
     ensures { λ r. ⌜ r ≡ Charge.grains (hourIn (now (file .entry))) i ⌝ }
 {

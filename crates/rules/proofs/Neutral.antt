@@ -11,7 +11,7 @@ use Rattle.whole.specs.Below.{sumBelow, totalBelow}
 use Rattle.whole.specs.Signed.{Under, withSignOf}
 use Rattle.whole.proofs.Linear.{zr, all1, all2}
 use Rattle.whole.proofs.Ranges.{_u-_, u-lit, u-le, u-picked, abs-with-sign, u-with-sign}
-use Rattle.whole.proofs.Sums.{sum-ext, sum-mono, sum-prefix, sum-add, sum-mul, sum-const, sum-by}
+use Rattle.whole.proofs.Sums.{sum-ext, sum-mono, sum-prefix, sum-at, sum-add, sum-mul, sum-const, sum-by}
 use Rattle.whole.proofs.Totals.{total-ext, total-sub, total-within, total-with-sign, own-sign, sign-of-zero}
 use Rattle.whole.proofs.Division.{nearest-within}
 use Rattle.rules.specs.Record.{Hour, members, areas, memberOf, areaOf, entry, entryOf, isLoad}
@@ -136,6 +136,10 @@ module _ {h : Hour} (kept : HourKept h) where
   hour-demand-by-area = hour-demand-by-record ∙ sym (
       sum-ext _ _ (areas h) (λ a l. area-demand-by-record a)
       ∙ sum-by (demandOf h) (areaOf h) (areas h) (h .count) (λ i l. kept .record-kept i l .area-there))
+
+  -- Where nobody demands anything in the hour, no area does.
+  pub no-area-demands : hourDemand h ≡ 0 → (a : ℕ) → a < areas h → demands h a ≡ 0
+  no-area-demands none a there = omega (arith, hour-demand-by-area, sum-at (demands h) (areas h) a there)
 
   demand-of-most : (i : ℕ) → i < h .count → demandOf h i ≤ 100000
   unfolding demandBy entryOf entry

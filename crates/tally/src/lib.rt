@@ -1,8 +1,11 @@
-// The hour's tally, lent to each posting in file order, and what it gives: each area's UFE, and refusal 6.
+// The hour's tally, lent to each posting in file order, and what it gives: each area's UFE, refusal 6, and whether
+// anybody demands anything.
 ghost use mathlib.Core.Path.{_≡_};
 ghost use Prim.Native.Nat.{_<_};
+ghost use lib.Dec.{eqb};
 ghost use Rattle.rules.specs.Record as Record;
 ghost use Rattle.rules.specs.Ufe.{ufe};
+ghost use Rattle.rules.specs.Neutrality.{hourDemand};
 ghost use Rattle.rules.specs.Inner.Posting as Posting;
 ghost use Rattle.rules.specs.Refusals.{badArea};
 ghost use Rattle.rules.specs.Inner.Searched.{foundAt};
@@ -83,4 +86,21 @@ pub fn area_without_demand(file: &[u8], head: Head, t: Tally, ufe: [i64; 8]) -> 
         a += 1;
     }
     Found::Nothing
+}
+
+// Whether nobody demands anything in the hour, so that there is nothing to share the neutrality amount by. The file is not read: it says
+// whose head and tally these are.
+pub fn nobody_demands(file: &[u8], head: Head, t: Tally) -> bool
+    requires { ⌜ Headed (now file) head × Tallied (now file) t ⌝ }
+    ensures { λ r. ⌜ r ≡ eqb (hourDemand (hourIn (now (file .entry)))) 0 ⌝ }
+{
+    let areas = head.areas;
+    let mut a = 0;
+    while a < areas {
+        if t.demand[a] != 0 {
+            return false;
+        }
+        a += 1;
+    }
+    true
 }

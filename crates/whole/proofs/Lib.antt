@@ -9,6 +9,7 @@ pub mod Search
 pub mod Tables
 pub mod Buffers
 pub mod Filling
+pub mod Adding
 pub mod Stores
 pub mod Division
 pub mod Rank

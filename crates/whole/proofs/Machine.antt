@@ -10,7 +10,7 @@ use Prim.Native.Nat.{ℕ, suc, _+_, _-_, _*_, _<_}
 use mathlib.Core.Bool.{Bool, true, false, not, _&&_}
 use native.Mathlib.Numerals.{add-one}
 use native.Mathlib.Omega.{arith}
-use lib.Dec.{T, leb, ltb, ltb→lt}
+use lib.Dec.{T, leb, ltb, eqb, ltb→lt}
 use lib.Signed.{_≤ℤ_, _<ℤ_, ltZ, leZ, ltZ-yes, ltZ-no, quotZ, remZ, nonNeg}
 use lib.IntN.{ℤ, pos, negsuc, natAbs, _+ℤ_, _-ℤ_, _*ℤ_}
 use mir.Syntax.{w64}
@@ -18,8 +18,9 @@ use mir.Val.{Fits, SFits, toZ, ofZ}
 use mir.ValLaws.{toZ-ofZ, toZ-pos}
 use mir.Facts.{and-yes}
 use Rattle.whole.specs.Signed.{Under, Upto}
-use borrow.Author.Tests.{ltb-true, le-ltb}
-use Rattle.whole.proofs.Tests.{never}
+use borrow.Author.Tests.{ltb-true, le-ltb, eq-eqb, ne-eqb, eqb-true, eqb-false}
+use Rattle.whole.proofs.Tests.{split, never}
+use Rattle.whole.proofs.Linear.{abs-zero}
 use Rattle.whole.proofs.Ranges.{_u+_, _u-_, _u*_, u-lit, u-upto, u-fits, u-more}
 use Rattle.whole.proofs.Division.{quot-under, rem-under}
 
@@ -157,6 +158,11 @@ from-0 {z} f e = ltZ-no (subst (λ (b : Bool). T (not b)) (sym (ap (λ (x : ℤ)
 -- a number whose bits are 0
 pub zero-bits : {z : ℤ} → SFits w64 z → ofZ w64 z ≡ 0 → z ≡ pos 0
 zero-bits {z} f e = sym (toZ-ofZ w64 z f) ∙ ap (toZ w64) e
+
+pub zero-test : (z : ℤ) → SFits w64 z → eqb (ofZ w64 z) 0 ≡ eqb (natAbs z) 0
+zero-test z f = split (eqb (natAbs z) 0)
+    (λ t. eq-eqb (ofZ w64 z) 0 (ap (ofZ w64) (abs-zero z (eqb-true (natAbs z) 0 t))) ∙ sym t)
+    (λ u. ne-eqb (ofZ w64 z) 0 (λ e. eqb-false (natAbs z) 0 u (ap natAbs (zero-bits f e))) ∙ sym u)
 
 -- a fact of the number that is meant, as one of what is read back
 pub told : (P : ℤ → Type 0) (x : Num) → T (good x) → P (x .z) → P (x .rd)

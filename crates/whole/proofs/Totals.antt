@@ -3,6 +3,7 @@ use mathlib.Core.Path.{_≡_, refl, sym, _∙_, ap, ap₂, subst}
 use mathlib.Core.Bool.{Bool, true, false, cond}
 use Prim.Native.Nat.{ℕ, zero, suc, _+_, _*_, _≤_, _<_, zero-le}
 use native.Mathlib.Nat.{not-suc-le-zero}
+use native.Mathlib.Numerals.{add-one}
 use native.Mathlib.Omega.{arith}
 use lib.Dec.{eqb}
 use lib.IntN.{ℤ, pos, negsuc, negℤ, natAbs, +ℤ-idl, +ℤ-idr, *ℤ-zero, *ℤ-comm, negℤ-+ℤ, _+ℤ_, _-ℤ_, _*ℤ_}
@@ -22,6 +23,16 @@ pub total-ext : (f g : ℕ → ℤ) (n : ℕ) → ((i : ℕ) → i < n → f i �
 unfolding totalBelow
 total-ext f g zero e = refl
 total-ext f g (suc n) e = ap₂ (λ (a b : ℤ). a +ℤ b) (total-ext f g n (λ i h. e i (omega arith))) (e n (omega arith))
+
+-- ---- as a loop adds up
+
+pub total-none : (f : ℕ → ℤ) → totalBelow f 0 ≡ pos 0
+unfolding totalBelow
+total-none f = refl
+
+pub total-add-one : (f : ℕ → ℤ) (n : ℕ) → totalBelow f (n + 1) ≡ totalBelow f n +ℤ f n
+unfolding totalBelow
+total-add-one f n = ap (totalBelow f) (add-one n)
 
 -- ---- linear
 

@@ -1,0 +1,39 @@
+-- How far an hour is charged and the neutrality amount shared: what the functions that go on from there ask of their callers.
+use Prim.Native.Nat.{ℕ, _≤_, _<_}
+use mathlib.Core.Path.{_≡_}
+use mathlib.Core.List.{List}
+use lib.IntN.{ℤ, pos, natAbs}
+use lib.ListN.{length, getD}
+use Rattle.rules.specs.Record.{Hour, members}
+use Rattle.rules.specs.Share.{shareSize}
+use Rattle.rules.specs.Charge.{amount, charge}
+use Rattle.rules.specs.Neutrality.{everyMember, memberDemand, neutrality}
+use Rattle.rules.specs.Inner.Kept.{FileKept}
+use Rattle.hour.specs.Hour.{hourIn}
+
+-- the file keeps its ranges, and its hour's charges stand in the first places
+pub record Charged (s : List ℕ) (charges : List ℤ) : Type 0 where
+  pub kept : FileKept s
+  pub room : members (hourIn s) ≤ length charges
+  pub charges-are : (m : ℕ) → m < members (hourIn s) → getD charges m (pos 0) ≡ charge (hourIn s) m
+
+-- a place a member, and nothing in it yet
+pub record Empty {A : Type 0} (nothing : A) (h : Hour) (places : List A) : Type 0 where
+  pub as-many : length places ≡ members h
+  pub zeros : (m : ℕ) → m < members h → getD places m nothing ≡ nothing
+
+-- each member's exact amount stands in its place
+pub record Amounts (s : List ℕ) (amounts : List ℤ) : Type 0 where
+  pub kept : FileKept s
+  pub as-many : length amounts ≡ members (hourIn s)
+  pub amounts-are : (m : ℕ) → m < members (hourIn s) → getD amounts m (pos 0) ≡ amount (hourIn s) m
+
+-- the size of a member's share of N
+unfoldable pub sizeOf : Hour → ℕ → ℕ
+sizeOf h m = shareSize everyMember (memberDemand h) (members h) (natAbs (neutrality h)) m
+
+-- N is worked, and the size of each member's share of it stands in its place
+pub record Sized (s : List ℕ) (all : ℤ) (sizes : List ℕ) : Type 0 where
+  pub all-is : all ≡ neutrality (hourIn s)
+  pub as-many : length sizes ≡ members (hourIn s)
+  pub sizes-are : (m : ℕ) → m < members (hourIn s) → getD sizes m 0 ≡ sizeOf (hourIn s) m

@@ -1,0 +1,156 @@
+// The neutrality amount N, the sum of all charges, shared over the members by what they demand; a member's final amount is its charge minus
+// its share (document 02, A1). The sharing itself is the engine's, `share::shares`. And refusal 12, which settling asks for before it writes
+// to any buffer.
+ghost use mathlib.Core.Path.{_≡_};
+ghost use mathlib.Core.Bool.{not};
+ghost use Prim.Native.Nat.{_≤_, _<_};
+ghost use lib.Dec.{eqb};
+ghost use lib.IntN.{pos, natAbs};
+ghost use lib.ListN.{length};
+ghost use Rattle.whole.specs.Below.{replacingFirst};
+ghost use Rattle.rules.specs.Record as Record;
+ghost use Rattle.rules.specs.Charge as Charge;
+ghost use Rattle.rules.specs.Neutrality.{memberDemand, hourDemand, neutrality, final};
+ghost use Rattle.rules.specs.Inner.Kept.{FileKept};
+ghost use Rattle.hour.specs.Hour.{hourIn, Headed};
+ghost use Rattle.neutrality.specs.Charged.{Charged, Empty, Amounts, Sized};
+use hour::Head;
+
+// ---- finals
+
+// N, of the `n` members' charges. The file is not read: it says whose charges these are.
+fn sum_of(file: &[u8], charges: &[i64], n: usize) -> i64
+    requires { ⌜ Charged (now file) (now charges) × (n ≡ Record.members (hourIn (now file))) ⌝ }
+    ensures { λ r. ⌜ r ≡ neutrality (hourIn (now (file .entry))) ⌝ }
+{
+    let mut sum: i64 = 0;
+    let mut m = 0;
+    while m < n {
+        sum += charges[m];
+        m += 1;
+    }
+    sum
+}
+
+// Each member's demand, of all its loads in all areas, added up in its place.
+fn put_demands(file: &[u8], records: usize, demands: &mut [u64])
+    requires { ⌜ FileKept (now file) × (records ≡ hourIn (now file) .count) × Empty 0 (hourIn (now file)) (now demands) ⌝ }
+    ensures { λ _. ⌜ now (demands .exit)
+        ≡ replacingFirst (memberDemand (hourIn (now (file .entry)))) (Record.members (hourIn (now (file .entry))))
+        (now (demands .entry)) ⌝ }
+{
+    let mut i = 0;
+    while i < records {
+        let member = hour::member_of(file, i);
+        demands[member] += hour::demand_of(file, i) as u64;
+        i += 1;
+    }
+}
+
+// Each member's share, which takes the sign of N, off its charge.
+fn take_off(file: &[u8], charges: &[i64], all: i64, sizes: &[u64], finals: &mut [i64])
+    requires { ⌜ Charged (now file) (now charges) × Sized (now file) all (now sizes)
+        × (Record.members (hourIn (now file)) ≤ length (now finals)) ⌝ }
+    ensures { λ _. ⌜ now (finals .exit)
+        ≡ replacingFirst (final (hourIn (now (file .entry)))) (Record.members (hourIn (now (file .entry)))) (now (finals .entry)) ⌝ }
+{
+    let mut m = 0;
+    while m < sizes.len() {
+        finals[m] = charges[m] - sign::with_sign_of(all, sizes[m]);
+        m += 1;
+    }
+}
+
+// The finals, with room lent for the members' demands and the sizes of their shares.
+fn share_out(
+    file: &[u8],
+    records: usize,
+    charges: &[i64],
+    demands: &mut [u64],
+    sizes: &mut [u64],
+    finals: &mut [i64],
+)
+    requires { ⌜ Charged (now file) (now charges) × (records ≡ hourIn (now file) .count) × Empty 0 (hourIn (now file)) (now demands)
+        × (length (now sizes) ≡ Record.members (hourIn (now file))) × (Record.members (hourIn (now file)) ≤ length (now finals)) ⌝ }
+    ensures { λ _. ⌜ now (finals .exit)
+        ≡ replacingFirst (final (hourIn (now (file .entry)))) (Record.members (hourIn (now (file .entry)))) (now (finals .entry)) ⌝ }
+{
+    let all = sum_of(file, charges, sizes.len());
+    put_demands(file, records, demands);
+    share::shares(demands, sign::size_of(all), sizes);
+    take_off(file, charges, all, sizes, finals);
+}
+
+// One a member, into the first places; the places past them are unchanged.
+pub fn put_finals(file: &[u8], head: Head, charges: &[i64], finals: &mut [i64])
+    requires { ⌜ Headed (now file) head × Charged (now file) (now charges)
+        × (Record.members (hourIn (now file)) ≤ length (now finals)) ⌝ }
+    ensures { λ _. ⌜ now (finals .exit)
+        ≡ replacingFirst (final (hourIn (now (file .entry)))) (Record.members (hourIn (now (file .entry)))) (now (finals .entry)) ⌝ }
+{
+    let n = head.members;
+    let mut demands = [0u64; 32];
+    let mut sizes = [0u64; 32];
+    share_out(
+        file,
+        head.records,
+        charges,
+        &mut demands[..n],
+        &mut sizes[..n],
+        finals,
+    );
+}
+
+// ---- refusal 12
+
+// Each member's exact amount, added up in its place, in an hour in which nobody demands anything: there every share is 0.
+fn put_amounts(file: &[u8], head: Head, amounts: &mut [i64])
+    requires { ⌜ Headed (now file) head × (hourDemand (hourIn (now file)) ≡ 0) × Empty (pos 0) (hourIn (now file)) (now amounts) ⌝ }
+    ensures { λ _. ⌜ now (amounts .exit)
+        ≡ replacingFirst (Charge.amount (hourIn (now (file .entry)))) (Record.members (hourIn (now (file .entry))))
+        (now (amounts .entry)) ⌝ }
+{
+    let n = head.records;
+    let mut i = 0;
+    while i < n {
+        let member = hour::member_of(file, i);
+        let area = hour::area_of(file, i);
+        let deviation = byrecord::deviations::deviation_of(file, i);
+        amounts[member] += lines::grains(file, i, head.prices[area], deviation, 0);
+        i += 1;
+    }
+}
+
+// N, of the members' exact amounts. The file is not read: it says whose amounts these are.
+fn sum_of_cents(file: &[u8], amounts: &[i64]) -> i64
+    requires { ⌜ Amounts (now file) (now amounts) ⌝ }
+    ensures { λ r. ⌜ r ≡ neutrality (hourIn (now (file .entry))) ⌝ }
+{
+    let mut sum: i64 = 0;
+    let mut m = 0;
+    while m < amounts.len() {
+        sum += formula::posting::cents(amounts[m]);
+        m += 1;
+    }
+    sum
+}
+
+// Whether N isn't 0, with room lent for the members' amounts.
+fn left_over_in(file: &[u8], head: Head, amounts: &mut [i64]) -> bool
+    requires { ⌜ Headed (now file) head × (hourDemand (hourIn (now file)) ≡ 0) × Empty (pos 0) (hourIn (now file)) (now amounts) ⌝ }
+    ensures { λ r. ⌜ r ≡ not (eqb (natAbs (neutrality (hourIn (now (file .entry))))) 0) ⌝ }
+{
+    put_amounts(file, head, amounts);
+    sum_of_cents(file, amounts) != 0
+}
+
+// Whether N isn't 0, in an hour in which nobody demands anything: then there is nothing to share it by. It is asked before the first store,
+// so that no buffer of the caller has the charges yet.
+pub fn left_over(file: &[u8], head: Head) -> bool
+    requires { ⌜ Headed (now file) head × (hourDemand (hourIn (now file)) ≡ 0) ⌝ }
+    ensures { λ r. ⌜ r ≡ not (eqb (natAbs (neutrality (hourIn (now (file .entry))))) 0) ⌝ }
+{
+    let n = head.members;
+    let mut amounts = [0i64; 32];
+    left_over_in(file, head, &mut amounts[..n])
+}
