@@ -11,10 +11,13 @@ ghost use Rattle.whole.specs.Below.{replacingFirst};
 ghost use Rattle.rules.specs.Record as Record;
 ghost use Rattle.rules.specs.Charge as Charge;
 ghost use Rattle.rules.specs.Neutrality.{memberDemand, hourDemand, neutrality, final};
+ghost use Rattle.rules.specs.Refusals.{placeZeroIf, noDemand};
 ghost use Rattle.rules.specs.Inner.Kept.{FileKept};
 ghost use Rattle.hour.specs.Hour.{hourIn, Headed};
+ghost use Rattle.tally.specs.Posted.{Tallied};
 ghost use Rattle.neutrality.specs.Charged.{Charged, Empty, Amounts, Sized};
 use hour::Head;
+use rules::Tally;
 
 // ---- finals
 
@@ -146,11 +149,22 @@ fn left_over_in(file: &[u8], head: Head, amounts: &mut [i64]) -> bool
 
 // Whether N isn't 0, in an hour in which nobody demands anything: then there is nothing to share it by. It is asked before the first store,
 // so that no buffer of the caller has the charges yet.
-pub fn left_over(file: &[u8], head: Head) -> bool
+fn left_over(file: &[u8], head: Head) -> bool
     requires { ⌜ Headed (now file) head × (hourDemand (hourIn (now file)) ≡ 0) ⌝ }
     ensures { λ r. ⌜ r ≡ not (eqb (natAbs (neutrality (hourIn (now (file .entry))))) 0) ⌝ }
 {
     let n = head.members;
     let mut amounts = [0i64; 32];
     left_over_in(file, head, &mut amounts[..n])
+}
+
+// Refusal 12: nobody demands anything in the hour, and N isn't 0. N is worked only where nobody demands anything.
+pub fn no_demand(file: &[u8], head: Head, t: Tally) -> bool
+    requires { ⌜ Headed (now file) head × Tallied (now file) t ⌝ }
+    ensures { λ r. ⌜ placeZeroIf r ≡ noDemand (hourIn (now (file .entry))) ⌝ }
+{
+    if tally::nobody_demands(file, head, t) {
+        return left_over(file, head);
+    }
+    false
 }
