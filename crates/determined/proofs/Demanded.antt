@@ -1,21 +1,27 @@
--- What the pages say of a function, said of its contract as its callers read it: settling keeps the three demands; an amount written is
+-- What the pages say of a function, said of its contract as its callers read it: settling keeps the three demands, and its finals add up to nothing; an amount written is
 -- read, and one read is written again; the statement is put whole or not at all; an accepted file keeps its ranges.
 use mathlib.Core.Path.{_≡_, sym, _∙_, ap}
 use mathlib.Core.List.{List}
-use Prim.Native.Nat.{ℕ, _≤_}
+use Prim.Native.Nat.{ℕ, _≤_, _<_}
 use lib.IntN.{ℤ}
 use lib.ListN.{length, take, drop}
 use contract.Lifetimes.{Lfts}
 use denote.Ref.{now}
 use Rattle.rules.specs.declared.Answer.the-variants.{Accepted}
 use Rattle.rules.specs.declared.Line.{Line}
-use Rattle.rules.specs.Refusals.{Verdict, refusedAt, verdictOf}
-use Rattle.rules.specs.HourFile.{hourly, body}
+use Rattle.rules.specs.Record.{members}
+use Rattle.rules.specs.Charge.{charge}
+use Rattle.rules.specs.Neutrality.{final}
+use Rattle.rules.specs.Refusals.{Verdict, accepted, refusedAt, verdictOf, verdict, hourRows}
+use Rattle.rules.specs.HourFile.{hourly, hourOf, body}
 use Rattle.rules.specs.Settling.{Buffers, Settlement, settle as settling, write as writing, read as reading}
 use Rattle.rules.specs.Statement as Statement
+use Rattle.rules.specs.Finals.{chargeColumn, finalColumn, AreBytes, SameSheet}
 use Rattle.rules.specs.Inner.Kept.{FileKept}
 use Rattle.rules.proofs.Rows.{settle-verdict, settle-changes-nothing}
 use Rattle.rules.proofs.Demands.{demand2, demand3}
+use Rattle.rules.proofs.Finals.{neutrality-shared}
+use Rattle.rules.proofs.Told.{sheet}
 use Rattle.amount.specs.Promised.{Wrote, HasRead}
 use Rattle.amount.proofs.RoundTrips as RoundTrips
 use Rattle.examine.proofs.Examined as Examined
@@ -44,26 +50,27 @@ keeps {s} {b} v u a = record {
   unchanged = λ refused. let same = settle-changes-nothing s b (λ e. refused (v ∙ e)) in (a ∙ same .0, u ∙ same .1);
   by-formula = λ e. rw (u, a) (demand2 .settled s b (sym v ∙ e));
   fair = λ e. rw (u, a) (demand3 s b (sym v ∙ e));
+  neutral = λ e. rw a (neutrality-shared .settled s b (sym v ∙ e));
 }
 
-pub settle-keeps-demands : (κs : Lfts 5) → Gives (settle.Post κs) (λ a x s. KeepsDemands (now (a .0))
-    (buffers (now (a .1 .1 .0)) (now (a .1 .1 .1 .0)) (now (a .1 .1 .1 .1 .0)) (now (a .1 .0)))
+pub settle-keeps-demands : (κs : Lfts 6) → Gives (settle.Post κs) (λ a x s. KeepsDemands (now (a .0))
+    (buffers (now (a .1 .1 .0)) (now (a .1 .1 .1 .0)) (now (a .1 .1 .1 .1 .0)) (now (a .1 .1 .1 .1 .1 .0)) (now (a .1 .0)))
     (verdictOf (x .answer)) (x .ufe)
-    (buffers (now (s .1 .1 .0)) (now (s .1 .1 .1 .0)) (now (s .1 .1 .1 .1 .0)) (now (s .1 .0))))
+    (buffers (now (s .1 .1 .0)) (now (s .1 .1 .1 .0)) (now (s .1 .1 .1 .1 .0)) (now (s .1 .1 .1 .1 .1 .0)) (now (s .1 .0))))
 settle-keeps-demands κs a x s p = keeps (p .verdict-is) (p .ufe-is) (p .buffers-are)
 
 -- with the lines that it made itself
-pub settle-unlined-keeps-demands : (κs : Lfts 4) → Gives (settle-unlined.Post κs) (λ a x s. (lines : List Line) × KeepsDemands (now (a .0))
-    (withLines (unlined (now (a .1 .0)) (now (a .1 .1 .0)) (now (a .1 .1 .1 .0))) ownLines)
+pub settle-unlined-keeps-demands : (κs : Lfts 5) → Gives (settle-unlined.Post κs) (λ a x s. (lines : List Line) × KeepsDemands (now (a .0))
+    (withLines (unlined (now (a .1 .0)) (now (a .1 .1 .0)) (now (a .1 .1 .1 .0)) (now (a .1 .1 .1 .1 .0))) ownLines)
     (verdictOf (x .answer)) (x .ufe)
-    (withLines (unlined (now (s .1 .0)) (now (s .1 .1 .0)) (now (s .1 .1 .1 .0))) lines))
+    (withLines (unlined (now (s .1 .0)) (now (s .1 .1 .0)) (now (s .1 .1 .1 .0)) (now (s .1 .1 .1 .1 .0))) lines))
 settle-unlined-keeps-demands κs a x s p =
     (p .lines, keeps (p .fits .verdict-is) (p .fits .ufe-is) (p .fits .buffers-are))
 
-pub sneupelaar-settle-keeps-demands : (κs : Lfts 5) → Gives (sneupelaar-settle.Post κs) (λ a x s. KeepsDemands (now (a .0))
-    (buffers (now (a .1 .1 .0)) (now (a .1 .1 .1 .0)) (now (a .1 .1 .1 .1 .0)) (now (a .1 .0)))
+pub sneupelaar-settle-keeps-demands : (κs : Lfts 6) → Gives (sneupelaar-settle.Post κs) (λ a x s. KeepsDemands (now (a .0))
+    (buffers (now (a .1 .1 .0)) (now (a .1 .1 .1 .0)) (now (a .1 .1 .1 .1 .0)) (now (a .1 .1 .1 .1 .1 .0)) (now (a .1 .0)))
     (refusedAt (x .number) (x .place)) (x .ufe)
-    (buffers (now (s .1 .1 .0)) (now (s .1 .1 .1 .0)) (now (s .1 .1 .1 .1 .0)) (now (s .1 .0))))
+    (buffers (now (s .1 .1 .0)) (now (s .1 .1 .1 .0)) (now (s .1 .1 .1 .1 .0)) (now (s .1 .1 .1 .1 .1 .0)) (now (s .1 .0))))
 sneupelaar-settle-keeps-demands κs a x s p =
     keeps (ap (λ (t : Settlement). t .verdict) p) (ap (λ (t : Settlement). t .ufe) p) (ap (λ (t : Settlement). t .buffers) p)
 
@@ -110,6 +117,21 @@ examine-promises κs a x s p accepts = Examined.accepted-kept (now (a .0)) x p a
 pub statement-promises : (κs : Lfts 2) → Gives (statement.Post κs) (λ a x s. HasStated (now (a .0)) (now (a .1 .0)) x (now (s .1 .0)))
 statement-promises κs a x s p = record { count-is = p .0; out-is = p .1 }
 
-pub statement-is-put : (κs : Lfts 2) → Gives (statement.Post κs) (λ a x s. 615 ≤ length (now (a .1 .0)) →
+pub statement-is-put : (κs : Lfts 2) → Gives (statement.Post κs) (λ a x s. 1095 ≤ length (now (a .1 .0)) →
     take x (now (s .1 .0)) ≡ Statement.statement (now (a .0)))
 statement-is-put κs a x s p = Promised.whole-statement (statement-promises κs a x s p)
+
+-- read, the columns of a member's line give its charge and its final
+pub statement-is-read-back : (κs : Lfts 2) → Gives (statement.Post κs) (λ a x s. 1095 ≤ length (now (a .1 .0)) →
+    verdict (hourRows (now (a .0))) ≡ accepted → let h = hourOf hourly (now (a .0)) in (m : ℕ) → m < members h →
+    (reading (chargeColumn h m (take x (now (s .1 .0)))) ≡ record { verdict = accepted; amount = charge h m })
+    × (reading (finalColumn h m (take x (now (s .1 .0)))) ≡ record { verdict = accepted; amount = final h m }))
+statement-is-read-back κs a x s p room accepts m l =
+    rw (statement-is-put κs a x s p room) (sheet .read-back (now (a .0)) accepts m l)
+
+-- two statements that are the same say the same of both files
+pub statement-tells : (κs μs : Lfts 2) → Gives (statement.Post κs) (λ a x s. 1095 ≤ length (now (a .1 .0)) →
+    Gives (statement.Post μs) (λ b y t. 1095 ≤ length (now (b .1 .0)) → AreBytes (now (a .0)) → AreBytes (now (b .0)) →
+    take x (now (s .1 .0)) ≡ take y (now (t .1 .0)) → SameSheet (now (a .0)) (now (b .0))))
+statement-tells κs μs a x s p room b y t q room₂ bytes bytes₂ same = sheet .tells (now (a .0)) (now (b .0)) bytes bytes₂
+    (sym (statement-is-put κs a x s p room) ∙ same ∙ statement-is-put μs b y t q room₂)

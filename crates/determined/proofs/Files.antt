@@ -1,8 +1,9 @@
--- Functions of an hour file or a record of it: words, parts, the head, the tally and its figures, the answers of searches.
+-- Functions of an hour file or a record of it: words, parts, the head, the tally and its figures, a record's figures, the answers of
+-- searches and tests.
 use contract.Lifetimes.{Lfts}
 use denote.Ref.{now}
 use Rattle.determined.specs.Determined.{OneResult, OnePart}
-use Rattle.determined.proofs.Laws.{agree, agree-answer, agree-entry, agree-found}
+use Rattle.determined.proofs.Laws.{agree, agree-answer, agree-entry, agree-found, agree-test}
 use Rattle.hour.proofs.head_word.Reads as head-word
 use Rattle.hour.proofs.records.Reads as records
 use Rattle.hour.proofs.body.Reads as body
@@ -19,6 +20,10 @@ use Rattle.hour.proofs.entry_of.Reads as entry-of
 use Rattle.tally.proofs.tally_of.Reads as tally-of
 use Rattle.tally.proofs.ufe_figures.Reads as ufe-figures
 use Rattle.tally.proofs.area_without_demand.Reads as area-without-demand
+use Rattle.tally.proofs.nobody_demands.Reads as nobody-demands
+use Rattle.byrecord.proofs.deviations.deviation_of.Reads as deviation-of
+use Rattle.lines.proofs.grains.Reads as grains
+use Rattle.neutrality.proofs.no_demand.Reads as no-demand
 
 pub one-head-word : (κs : Lfts 1) → OneResult (head-word.Post κs)
 one-head-word κs a x y s t = agree
@@ -67,3 +72,15 @@ one-ufe-figures κs a x y s t = agree
 
 pub one-area-without-demand : (κs : Lfts 1) → OneResult (area-without-demand.Post κs)
 one-area-without-demand κs a x y s t = agree-found
+
+pub one-nobody-demands : (κs : Lfts 1) → OneResult (nobody-demands.Post κs)
+one-nobody-demands κs a x y s t = agree
+
+pub one-deviation-of : (κs : Lfts 1) → OneResult (deviation-of.Post κs)
+one-deviation-of κs a x y s t = agree
+
+pub one-grains : (κs : Lfts 1) → OneResult (grains.Post κs)
+one-grains κs a x y s t = agree
+
+pub one-no-demand : (κs : Lfts 1) → OneResult (no-demand.Post κs)
+one-no-demand κs a x y s t = agree-test

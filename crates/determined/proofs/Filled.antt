@@ -17,6 +17,7 @@ use Rattle.byrecord.proofs.deviations.put_deviations.Reads as put-deviations
 use Rattle.byrecord.proofs.shares.put_shares.Reads as put-shares
 use Rattle.lines.proofs.Port.put_lines.Reads as put-lines
 use Rattle.lines.proofs.Port.put_charges.Reads as put-charges
+use Rattle.neutrality.proofs.put_finals.Reads as put-finals
 use Rattle.pool.proofs.Port.settle.Reads as settle
 use Rattle.pool.proofs.settle_unlined.Reads as settle-unlined
 use Rattle.pool.proofs.Port.sneupelaar_settle.Reads as sneupelaar-settle
@@ -54,6 +55,9 @@ one-put-lines κs a x y s t p q = (refl, agree p q)
 pub one-put-charges : (κs : Lfts 2) → OneOutcome (put-charges.Post κs) (λ s. now (s .1 .1 .0))
 one-put-charges κs a x y s t p q = (refl, agree p q)
 
+pub one-put-finals : (κs : Lfts 3) → OneOutcome (put-finals.Post κs) (λ s. now (s .1 .1 .1 .0))
+one-put-finals κs a x y s t p q = (refl, agree p q)
+
 pub one-put-first-line : (κs : Lfts 1) → OneOutcome (put-first-line.Post κs) (λ s. now (s .0))
 one-put-first-line κs a x y s t p q = (agree (p .next-is) (q .next-is), agree (p .after-is) (q .after-is))
 
@@ -68,20 +72,22 @@ one-statement κs a x y s t p q = (agree (p .0) (q .0), agree (p .1) (q .1))
 
 -- ---- settling's buffers
 
-pub one-settle : (κs : Lfts 5) →
-    OneOutcome (settle.Post κs) (λ s. buffers (now (s .1 .1 .0)) (now (s .1 .1 .1 .0)) (now (s .1 .1 .1 .1 .0)) (now (s .1 .0)))
+pub one-settle : (κs : Lfts 6) →
+    OneOutcome (settle.Post κs) (λ s.
+    buffers (now (s .1 .1 .0)) (now (s .1 .1 .1 .0)) (now (s .1 .1 .1 .1 .0)) (now (s .1 .1 .1 .1 .1 .0)) (now (s .1 .0)))
 one-settle κs a x y s t p q = one-settlement _ _ x y _ _ p q
 
-pub one-settle-unlined : (κs : Lfts 4) →
-    OneOutcome (settle-unlined.Post κs) (λ s. unlined (now (s .1 .0)) (now (s .1 .1 .0)) (now (s .1 .1 .1 .0)))
+pub one-settle-unlined : (κs : Lfts 5) →
+    OneOutcome (settle-unlined.Post κs) (λ s. unlined (now (s .1 .0)) (now (s .1 .1 .0)) (now (s .1 .1 .1 .0)) (now (s .1 .1 .1 .1 .0)))
 one-settle-unlined κs a x y s t p q =
     let one = one-settlement _ _ x y _ _ (p .fits) (q .fits) in
-    (one .0, ap (λ (b : Buffers). unlined (b .charges) (b .shares) (b .deviations)) (one .1))
+    (one .0, ap (λ (b : Buffers). unlined (b .charges) (b .finals) (b .shares) (b .deviations)) (one .1))
 
 -- ---- the functions for C
 
-pub one-sneupelaar-settle : (κs : Lfts 5) →
-    OneOutcome (sneupelaar-settle.Post κs) (λ s. buffers (now (s .1 .1 .0)) (now (s .1 .1 .1 .0)) (now (s .1 .1 .1 .1 .0)) (now (s .1 .0)))
+pub one-sneupelaar-settle : (κs : Lfts 6) →
+    OneOutcome (sneupelaar-settle.Post κs) (λ s.
+    buffers (now (s .1 .1 .0)) (now (s .1 .1 .1 .0)) (now (s .1 .1 .1 .1 .0)) (now (s .1 .1 .1 .1 .1 .0)) (now (s .1 .0)))
 one-sneupelaar-settle κs a x y s t p q = (
   ap (λ (r : Settlement). record { number = r .verdict .number; place = r .verdict .place; ufe = r .ufe }) (agree p q),
   ap (λ (r : Settlement). r .buffers) (agree p q),

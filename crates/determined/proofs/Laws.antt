@@ -1,12 +1,13 @@
 -- The law that is applied everywhere: two things that are equal to a third are equal. And the forms in which contracts say a result.
 use mathlib.Core.Path.{_≡_, refl, sym, _∙_, ap}
+use mathlib.Core.Bool.{Bool, true, false}
 use mathlib.Core.Option.{Option, none, some}
 use Prim.Native.Nat.{ℕ}
 use Rattle.rules.specs.declared.Answer.{Answer}
 use Rattle.rules.specs.declared.Found.{Found}
 use Rattle.rules.specs.declared.Found.the-variants.{At, Nothing}
 use Rattle.rules.specs.Record as Record
-use Rattle.rules.specs.Refusals.{Verdict, verdictOf}
+use Rattle.rules.specs.Refusals.{Verdict, verdictOf, placeZeroIf, isBroken}
 use Rattle.rules.specs.Inner.Searched.{foundAt}
 use Rattle.rules.proofs.Rows.{one-answer}
 use Rattle.formula.specs.declared.entry.Entry.{Entry}
@@ -31,6 +32,14 @@ found-told Nothing = refl
 
 pub agree-found : {f g : Found} {o : Option ℕ} → foundAt f ≡ o → foundAt g ≡ o → f ≡ g
 agree-found {f} {g} p q = sym (found-told f) ∙ ap foundOf (agree p q) ∙ found-told g
+
+-- a test that is told as place 0 or none
+pub agree-test : {b c : Bool} {o : Option ℕ} → placeZeroIf b ≡ o → placeZeroIf c ≡ o → b ≡ c
+agree-test {b} {c} p q = sym (test-told b) ∙ ap isBroken (agree p q) ∙ test-told c
+  where
+    test-told : (b : Bool) → isBroken (placeZeroIf b) ≡ b
+    test-told true = refl
+    test-told false = refl
 
 -- an entry's letters tell the entry
 pub agree-entry : {r t : Entry} {e : Record.Entry} → meant r ≡ e → meant t ≡ e → r ≡ t

@@ -8,6 +8,7 @@ use Rattle.rules.specs.HourFile.{hourly, hourOf}
 use Rattle.rules.specs.Refusals.{Verdict, accepted, verdict}
 use Rattle.rules.specs.Settling.{Buffers, settleRows, noFigures}
 use Rattle.rules.specs.Promises.{ByFormula, FairOutcome}
+use Rattle.rules.specs.Finals.{NeutralOutcome}
 
 module _ {A X S : Type 0} (promise : A → X → S → Type 0) where
   -- two results that keep the promise are the same
@@ -26,7 +27,7 @@ module _ {A X S : Type 0} (promise : A → X → S → Type 0) where
   abbrev pub Gives : (A → X → S → Type 0) → Type 0
   Gives property = (a : A) (x : X) (s : S) → promise a x s → property a x s
 
--- the three demands of a settling, by its file, its buffers before, the verdict told, the UFE figures answered and its buffers afterwards
+-- the three demands of a settling and what document 02, A1, asks of its finals, by its file, its buffers before, the verdict told, the UFE figures answered and its buffers afterwards
 pub record KeepsDemands (file : List ℕ) (before : Buffers) (told : Verdict) (ufes : List ℤ) (after : Buffers) : Type 0 where
   -- 1: the first broken row of the table answers, and a refusal changes nothing
   pub by-the-table : told ≡ verdict (settleRows file before)
@@ -34,3 +35,5 @@ pub record KeepsDemands (file : List ℕ) (before : Buffers) (told : Verdict) (u
   -- 2 and 3
   pub by-formula : told ≡ accepted → ByFormula (hourOf hourly file) before ufes after
   pub fair : told ≡ accepted → FairOutcome (hourOf hourly file) ufes after
+  -- A1
+  pub neutral : told ≡ accepted → NeutralOutcome (hourOf hourly file) before after

@@ -6,7 +6,7 @@ use mathlib.Core.Option.{none, some}
 use mathlib.Core.List.{List, [], _∷_, _++_}
 use Prim.Native.Nat.{ℕ, _≤_, _<_}
 use native.Mathlib.Omega.{arith}
-use lib.IntN.{ℤ}
+use lib.IntN.{ℤ, pos}
 use lib.ListN.{length, getD}
 use lib.Dec.{ltb}
 use Rattle.whole.specs.Below.{replacingFirst}
@@ -14,13 +14,14 @@ use Rattle.whole.specs.Signed.{Under}
 use Rattle.whole.proofs.Ranges.{u-le}
 use Rattle.whole.proofs.Buffers.{replacing-ext, getD-replacing, length-replacing}
 use Rattle.rules.specs.declared.Answer.{Answer}
-use Rattle.rules.specs.declared.Answer.the-variants.{Accepted, BadArea, TooShort}
+use Rattle.rules.specs.declared.Answer.the-variants.{Accepted, BadArea, TooShort, NoDemand}
 use Rattle.rules.specs.declared.Line.{Line}
 use Rattle.rules.specs.declared.Settled.{Settled}
 use Rattle.rules.specs.Record.{Hour, members, entryOf}
 use Rattle.rules.specs.Deviation.{deviation}
 use Rattle.rules.specs.Charge.{shareOf, cents, charge}
-use Rattle.rules.specs.Refusals.{Row, row, accepted, verdictOf, verdict, badArea, badAmount, mostGrains, tooShort, tableRows, fileRows}
+use Rattle.rules.specs.Neutrality.{final}
+use Rattle.rules.specs.Refusals.{Row, row, accepted, verdictOf, verdict, badArea, badAmount, noDemand, mostGrains, tooShort, tableRows, fileRows}
 use Rattle.rules.specs.Settling.{Buffers, lineOf, filled, settleRows, ufeFigures, noFigures, settle, emptyLine}
 use Rattle.rules.specs.Inner.Posting.{linesAfter}
 use Rattle.rules.specs.Promises.{Accepts, Fits}
@@ -36,6 +37,7 @@ use Rattle.hour.specs.Hour.{hourIn, Headed}
 use Rattle.hour.proofs.Figures.{head-members, head-records}
 use Rattle.byrecord.specs.Shared.{Sharing}
 use Rattle.lines.specs.Lined.{AllWorked}
+use Rattle.neutrality.specs.Charged.{Charged}
 use Rattle.lines.proofs.Worked.{all-worked}
 use Rattle.pool.specs.AsSettled.{Lengths, Says}
 use Rattle.pool.specs.Buffers.{buffers}
@@ -57,41 +59,55 @@ module _ (s : List ℕ) (b : Buffers) where
 
   -- row 11, for these buffers
   abbrev lengthRow : Row
-  lengthRow = row 11 (tooShort h (length (b .charges)) (length (b .lines)) (length (b .shares)) (length (b .deviations)))
+  lengthRow = row 11 (tooShort h (length (b .charges)) (length (b .finals)) (length (b .lines)) (length (b .shares)) (length (b .deviations)))
 
-  -- rows 1 to 5, then 6, 7 and 11
-  in-order : settleRows s b ≡ fileRows s ++ row 6 (badArea h) ∷ row 7 (badAmount h) ∷ lengthRow ∷ []
+  -- rows 1 to 5, then 6, 7, 12 and 11
+  in-order : settleRows s b ≡ fileRows s ++ row 6 (badArea h) ∷ row 7 (badAmount h) ∷ row 12 (noDemand h) ∷ lengthRow ∷ []
   unfolding fileRows tableRows
   in-order = refl
 
   file-refused : {a : Answer} → verdictOf a ≡ verdict (fileRows s) → (a ≡ Accepted → ⊥) →
       Says s b (record { answer = a; ufe = noFigures })
   file-refused {a} examined refused =
-      refused-with a (file-decides s _ _ _ _ (λ e. refused (one-answer a Accepted (examined ∙ e))) ∙ sym examined) refused
+      refused-with a (file-decides s _ _ _ _ _ (λ e. refused (one-answer a Accepted (examined ∙ e))) ∙ sym examined) refused
 
   -- once rows 1 to 5 are passed; row 7 is then whole
   module _ (passed : verdict (fileRows s) ≡ accepted) (kept : FileKept s) where
-    rest : verdict (settleRows s b) ≡ verdict (row 6 (badArea h) ∷ row 7 none ∷ lengthRow ∷ [])
+    rest : verdict (settleRows s b) ≡ verdict (row 6 (badArea h) ∷ row 7 none ∷ row 12 (noDemand h) ∷ lengthRow ∷ [])
     rest = ap verdict in-order
         ∙ passed-on (fileRows s) _ (accepts-when-whole (fileRows s) (file-numbered s) .0 passed)
-        ∙ ap (λ o. verdict (row 6 (badArea h) ∷ row 7 o ∷ lengthRow ∷ [])) (row-7-never (kept .hour-kept))
+        ∙ ap (λ o. verdict (row 6 (badArea h) ∷ row 7 o ∷ row 12 (noDemand h) ∷ lengthRow ∷ [])) (row-7-never (kept .hour-kept))
 
     pub area-refused : {i : ℕ} → badArea h ≡ some i → Says s b (record { answer = BadArea i; ufe = noFigures })
     unfolding verdict
     area-refused {i} e = refused-with (BadArea i) (rest ∙ rw e) (λ z. let n : _≡_ {A = ℕ} 0 1 = cc z in omega arith)
 
-    -- and row 6: what is left is whether a buffer is too short
-    module _ (areas-pass : badArea h ≡ none) {c l n d : ℕ} (lengths : Lengths b c l n d) {head : Head} (headed : Headed s head) where
+    pub demand-refused : badArea h ≡ none → noDemand h ≡ some 0 → Says s b (record { answer = NoDemand; ufe = noFigures })
+    unfolding verdict
+    demand-refused areas-pass e = refused-with NoDemand (rest ∙ rw (areas-pass, e)) (λ z. let n : _≡_ {A = ℕ} 0 1 = cc z in omega arith)
+
+    -- and rows 6 and 12: what is left is whether a buffer is too short
+    module _ (areas-pass : badArea h ≡ none) (demand-passes : noDemand h ≡ none) {c f l n d : ℕ} (lengths : Lengths b c f l n d)
+        {head : Head} (headed : Headed s head) where
       -- by the head that was read
       abbrev short : Bool
-      short = ltb c (head .members) || ltb l (head .members) || ltb n (head .records) || ltb d (head .records)
+      short = ltb c (head .members) || ltb f (head .members) || ltb l (head .members) || ltb n (head .records) || ltb d (head .records)
 
-      as-told : {t : Bool} → short ≡ t → (ltb c (members h) || ltb l (members h) || ltb n (h .count) || ltb d (h .count)) ≡ t
+      as-told : {t : Bool} → short ≡ t →
+          (ltb c (members h) || ltb f (members h) || ltb l (members h) || ltb n (h .count) || ltb d (h .count)) ≡ t
       as-told e = rw (head-members headed, head-records headed) at e
 
-      last : verdict (settleRows s b) ≡ verdict (row 11 (tooShort h c l n d) ∷ [])
+      last : verdict (settleRows s b) ≡ verdict (row 11 (tooShort h c f l n d) ∷ [])
       unfolding verdict
-      last = rest ∙ rw (areas-pass, lengths .of-charges, lengths .of-lines, lengths .of-shares, lengths .of-deviations)
+      last = rest ∙ rw (
+        areas-pass,
+        demand-passes,
+        lengths .of-charges,
+        lengths .of-finals,
+        lengths .of-lines,
+        lengths .of-shares,
+        lengths .of-deviations,
+      )
 
       pub some-short : short ≡ true → Says s b (record { answer = TooShort; ufe = noFigures })
       unfolding verdict tooShort
@@ -177,11 +193,22 @@ module _ (s : List ℕ) (b : Buffers) where
                 ∙ ap (λ k. replacingFirst (λ m. cents (getD lines m emptyLine .amount)) k (b .charges)) all
                 ∙ replacing-ext _ _ (members h) (b .charges) charge-at
 
-            pub all-filled : Fits s b r (buffers charges shares deviations lines)
+            pub can-put-finals : Charged s charges × (members h ≤ length (b .finals))
+            can-put-finals = (
+              record {
+                kept = kept;
+                room = rw (charges-written, length-replacing (charge h) (members h) (b .charges) (room .charges-room)) (room .charges-room);
+                charges-are = λ m l. rw charges-written (getD-replacing (charge h) (members h) (b .charges) m (pos 0) l);
+              },
+              room .finals-room,
+            )
+
+            pub all-filled : {finals : List ℤ} → finals ≡ replacingFirst (final h) (members h) (b .finals) →
+                Fits s b r (buffers charges finals shares deviations lines)
             unfolding filled
-            all-filled = record {
+            all-filled put-finals = record {
               verdict-is = said .verdict-is;
               ufe-is = said .ufe-is;
-              buffers-are = (λ k. buffers (charges-written k) (put-shares k) (put-deviations k) (lines-written k))
+              buffers-are = (λ k. buffers (charges-written k) (put-finals k) (put-shares k) (put-deviations k) (lines-written k))
                   ∙ sym (settle-fills s b hour-accepted .0);
             }

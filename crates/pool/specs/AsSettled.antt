@@ -9,8 +9,9 @@ use Rattle.rules.specs.Refusals.{verdictOf}
 use Rattle.rules.specs.Settling.{Buffers, settle}
 
 -- buffers of these lengths
-pub record Lengths (b : Buffers) (charges lines shares deviations : ℕ) : Type 0 where
+pub record Lengths (b : Buffers) (charges finals lines shares deviations : ℕ) : Type 0 where
   pub of-charges : length (b .charges) ≡ charges
+  pub of-finals : length (b .finals) ≡ finals
   pub of-lines : length (b .lines) ≡ lines
   pub of-shares : length (b .shares) ≡ shares
   pub of-deviations : length (b .deviations) ≡ deviations
@@ -20,5 +21,5 @@ pub record Says (s : List ℕ) (b : Buffers) (r : Settled) : Type 0 where
   pub verdict-is : verdictOf (r .answer) ≡ settle s b .verdict
   pub ufe-is : r .ufe ≡ settle s b .ufe
 
-pub record AsSettled (s : List ℕ) (charges lines shares deviations : ℕ) (r : Settled) : Type 0 where
-  pub says : (b : Buffers) → Lengths b charges lines shares deviations → Says s b r
+pub record AsSettled (s : List ℕ) (charges finals lines shares deviations : ℕ) (r : Settled) : Type 0 where
+  pub says : (b : Buffers) → Lengths b charges finals lines shares deviations → Says s b r

@@ -4,5 +4,6 @@ use lib.IntN.{ℤ}
 use Rattle.rules.specs.declared.Line.{Line}
 use Rattle.rules.specs.Settling.{Buffers}
 
-abbrev pub buffers : (charges shares deviations : List ℤ) → List Line → Buffers
-buffers charges shares deviations lines = record { charges = charges; shares = shares; deviations = deviations; lines = lines }
+abbrev pub buffers : (charges finals shares deviations : List ℤ) → List Line → Buffers
+buffers charges finals shares deviations lines =
+    record { charges = charges; finals = finals; shares = shares; deviations = deviations; lines = lines }

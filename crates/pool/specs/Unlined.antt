@@ -9,17 +9,18 @@ use Rattle.rules.specs.Settling.{Buffers, emptyLine}
 use Rattle.rules.specs.Promises.{Fits}
 use Rattle.pool.specs.Buffers.{buffers}
 
--- the caller's three buffers
+-- the caller's four buffers
 pub record Unlined : Type 0 where
   pub charges : List ℤ
+  pub finals : List ℤ
   pub shares : List ℤ
   pub deviations : List ℤ
 
-abbrev pub unlined : (charges shares deviations : List ℤ) → Unlined
-unlined charges shares deviations = record { charges = charges; shares = shares; deviations = deviations }
+abbrev pub unlined : (charges finals shares deviations : List ℤ) → Unlined
+unlined charges finals shares deviations = record { charges = charges; finals = finals; shares = shares; deviations = deviations }
 
 abbrev pub withLines : Unlined → List Line → Buffers
-withLines b lines = buffers (b .charges) (b .shares) (b .deviations) lines
+withLines b lines = buffers (b .charges) (b .finals) (b .shares) (b .deviations) lines
 
 abbrev pub ownLines : List Line
 ownLines = replicate 32 emptyLine

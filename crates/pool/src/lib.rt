@@ -20,14 +20,24 @@ use rules::Found;
 use rules::Line;
 use rules::Settled;
 
-// Refusal 11: charges or lines shorter than the members, or shares or deviations shorter than the records.
-fn too_short(head: Head, charges: usize, lines: usize, shares: usize, deviations: usize) -> bool
-    ensures { λ r. ⌜ r ≡ (ltb charges (head .members) || ltb lines (head .members)
+// Refusal 11: charges, finals or lines shorter than the members, or shares or deviations shorter than the records.
+fn too_short(
+    head: Head,
+    charges: usize,
+    finals: usize,
+    lines: usize,
+    shares: usize,
+    deviations: usize,
+) -> bool
+    ensures { λ r. ⌜ r ≡ (ltb charges (head .members) || ltb finals (head .members) || ltb lines (head .members)
         || ltb shares (head .records) || ltb deviations (head .records)) ⌝ }
 {
     let members = head.members;
     let records = head.records;
     if charges < members {
+        return true;
+    }
+    if finals < members {
         return true;
     }
     if lines < members {
@@ -39,25 +49,29 @@ fn too_short(head: Head, charges: usize, lines: usize, shares: usize, deviations
     deviations < records
 }
 
-// What settling answers of a file that passes rows 1 to 5, whose head this is, and of buffers of these lengths: rows 6 and 11, and the UFE
-// figures. Row 7 is not among them, since no such file breaks it.
+// What settling answers of a file that passes rows 1 to 5, whose head this is, and of buffers of these lengths: rows 6, 12 and 11, and
+// the UFE figures. Row 7 is not among them, since no such file breaks it.
 fn answered(
     file: &[u8],
     head: Head,
     charges: usize,
+    finals: usize,
     lines: usize,
     shares: usize,
     deviations: usize,
 ) -> Settled
     requires { ⌜ (verdict (fileRows (now file)) ≡ accepted) × Headed (now file) head ⌝ }
-    ensures { λ r. ⌜ AsSettled (now (file .entry)) charges lines shares deviations r ⌝ }
+    ensures { λ r. ⌜ AsSettled (now (file .entry)) charges finals lines shares deviations r ⌝ }
 {
     let tally = tally::tally_of(file, head);
     let figures = tally::ufe_figures(file, head, tally);
     if let Found::At(a) = tally::area_without_demand(file, head, tally, figures) {
         return answer::refused(Answer::BadArea(a));
     }
-    if too_short(head, charges, lines, shares, deviations) {
+    if neutrality::no_demand(file, head, tally) {
+        return answer::refused(Answer::NoDemand);
+    }
+    if too_short(head, charges, finals, lines, shares, deviations) {
         return answer::refused(Answer::TooShort);
     }
     Settled {
@@ -72,12 +86,13 @@ pub fn settle(
     file: &[u8],
     lines: &mut [Line],
     charges: &mut [i64],
+    finals: &mut [i64],
     shares: &mut [i64],
     deviations: &mut [i64],
 ) -> Settled
     ensures { λ r. ⌜ Fits (now (file .entry))
-        (buffers (now (charges .entry)) (now (shares .entry)) (now (deviations .entry)) (now (lines .entry))) r
-        (buffers (now (charges .exit)) (now (shares .exit)) (now (deviations .exit)) (now (lines .exit))) ⌝ }
+        (buffers (now (charges .entry)) (now (finals .entry)) (now (shares .entry)) (now (deviations .entry)) (now (lines .entry))) r
+        (buffers (now (charges .exit)) (now (finals .exit)) (now (shares .exit)) (now (deviations .exit)) (now (lines .exit))) ⌝ }
 {
     let examined = examine::examine(file);
     let Answer::Accepted = examined else {
@@ -88,6 +103,7 @@ pub fn settle(
         file,
         head,
         charges.len(),
+        finals.len(),
         lines.len(),
         shares.len(),
         deviations.len(),
@@ -101,22 +117,24 @@ pub fn settle(
     byrecord::shares::put_shares(file, head, figures, shares);
     lines::put_lines(file, head, deviations, shares, lines);
     lines::put_charges(lines, head.members, charges);
+    neutrality::put_finals(file, head, charges, finals);
     settled
 }
 
-// The same with lines of its own, one for each member that an hour can have: for callers that want charges, shares and deviations only. No
+// The same with lines of its own, one for each member that an hour can have: for callers that want no lines. No
 // struct is lent in its signature, so that a caller needs no walk.
 pub fn settle_unlined(
     file: &[u8],
     charges: &mut [i64],
+    finals: &mut [i64],
     shares: &mut [i64],
     deviations: &mut [i64],
 ) -> Settled
-    ensures { λ r. ⌜ FitsUnlined (now (file .entry)) (unlined (now (charges .entry)) (now (shares .entry)) (now (deviations .entry))) r
-        (unlined (now (charges .exit)) (now (shares .exit)) (now (deviations .exit))) ⌝ }
+    ensures { λ r. ⌜ FitsUnlined (now (file .entry)) (unlined (now (charges .entry)) (now (finals .entry)) (now (shares .entry)) (now (deviations .entry))) r
+        (unlined (now (charges .exit)) (now (finals .exit)) (now (shares .exit)) (now (deviations .exit))) ⌝ }
 {
     let mut lines = [formula::posting::empty_line(); 32];
-    settle(file, &mut lines, charges, shares, deviations)
+    settle(file, &mut lines, charges, finals, shares, deviations)
 }
 
 // Settling for programs in C: the answer goes out as its number and place.
@@ -125,12 +143,13 @@ pub extern "C" fn sneupelaar_settle(
     file: &[u8],
     lines: &mut [Line],
     charges: &mut [i64],
+    finals: &mut [i64],
     shares: &mut [i64],
     deviations: &mut [i64],
 ) -> boundary::NumberedSettled
-    ensures { λ r. ⌜ settlement r (buffers (now (charges .exit)) (now (shares .exit)) (now (deviations .exit)) (now (lines .exit)))
+    ensures { λ r. ⌜ settlement r (buffers (now (charges .exit)) (now (finals .exit)) (now (shares .exit)) (now (deviations .exit)) (now (lines .exit)))
         ≡ Settling.settle (now (file .entry))
-        (buffers (now (charges .entry)) (now (shares .entry)) (now (deviations .entry)) (now (lines .entry))) ⌝ }
+        (buffers (now (charges .entry)) (now (finals .entry)) (now (shares .entry)) (now (deviations .entry)) (now (lines .entry))) ⌝ }
 {
-    boundary::numbered(settle(file, lines, charges, shares, deviations))
+    boundary::numbered(settle(file, lines, charges, finals, shares, deviations))
 }

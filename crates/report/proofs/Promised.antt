@@ -18,17 +18,17 @@ one-statement f g = (f .count-is ∙ sym (g .count-is), f .out-is ∙ sym (g .ou
 
 module _ {s out after : List ℕ} {n : ℕ} (f : HasStated s out n after) where
   -- where there is room, the bytes handed back are the statement, all of it and nothing else
-  pub whole-statement : 615 ≤ length out → take n after ≡ statement s
+  pub whole-statement : 1095 ≤ length out → take n after ≡ statement s
   unfolding stated
-  whole-statement room = rw (f .count-is, f .out-is, le-ltb (length out) 615 room) (take-append-seam (statement s) _)
+  whole-statement room = rw (f .count-is, f .out-is, le-ltb (length out) 1095 room) (take-append-seam (statement s) _)
 
   -- where there is none, nothing is put
-  pub nothing-put : length out < 615 → (n ≡ 0) × (after ≡ out)
+  pub nothing-put : length out < 1095 → (n ≡ 0) × (after ≡ out)
   unfolding stated
-  nothing-put short = (f .count-is ∙ rw (lt-ltb (length out) 615 short), f .out-is ∙ rw (lt-ltb (length out) 615 short))
+  nothing-put short = (f .count-is ∙ rw (lt-ltb (length out) 1095 short), f .out-is ∙ rw (lt-ltb (length out) 1095 short))
 
 -- a reader that stops one byte past the longest file prints the statement of its whole input
-pub cut-input-stated : (s : List ℕ) {out after : List ℕ} {n : ℕ} → 615 ≤ length out → HasStated (take 13313 s) out n after →
+pub cut-input-stated : (s : List ℕ) {out after : List ℕ} {n : ℕ} → 1095 ≤ length out → HasStated (take 13313 s) out n after →
     take n after ≡ statement s
 cut-input-stated s room f = whole-statement f room ∙ cut-input-same s
 
@@ -36,4 +36,4 @@ cut-input-stated s room f = whole-statement f room ∙ cut-input-same s
 pub count-within : {s out after : List ℕ} {n : ℕ} → HasStated s out n after → n ≤ length after
 unfolding stated
 count-within {s} {out} f =
-    rw (f .count-is, f .out-is) (split (ltb (length out) 615) (λ e. rw e zero-le) (λ e. rw (e, length-append) (omega arith)))
+    rw (f .count-is, f .out-is) (split (ltb (length out) 1095) (λ e. rw e zero-le) (λ e. rw (e, length-append) (omega arith)))

@@ -9,11 +9,11 @@ use lib.Dec.{ltb}
 use Rattle.rules.specs.declared.Answer.{Answer}
 use Rattle.rules.specs.declared.Answer.the-variants.{Accepted}
 use Rattle.rules.specs.Record.{members}
-use Rattle.rules.specs.Charge.{charge}
+use Rattle.rules.specs.Neutrality.{final}
 use Rattle.rules.specs.Refusals.{verdictOf, verdict, hourRows}
 use Rattle.rules.specs.Statement.{statement}
-use Rattle.rules.specs.Inner.Kept.{FileKept}
 use Rattle.hour.specs.Hour.{hourIn}
+use Rattle.neutrality.specs.Charged.{Charged}
 
 -- the bytes put, and the slice afterwards
 pub record Stated : Type 0 where
@@ -22,7 +22,7 @@ pub record Stated : Type 0 where
 
 -- whole, with what stands past it as it was; or nothing where the slice is shorter than the longest statement
 unfoldable pub stated : List ℕ → List ℕ → Stated
-stated s out = cond (ltb (length out) 615)
+stated s out = cond (ltb (length out) 1095)
     (record { count = 0; out = out })
     (record { count = length (statement s); out = statement s ++ drop (length (statement s)) out })
 
@@ -31,13 +31,13 @@ pub record HasStated (s out : List ℕ) (count : ℕ) (after : List ℕ) : Type 
   pub count-is : count ≡ stated s out .count
   pub out-is : after ≡ stated s out .out
 
--- the file keeps its ranges, and its hour's charges stand in the first places
-pub record Charged (s : List ℕ) (charges : List ℤ) : Type 0 where
-  pub kept : FileKept s
-  pub room : members (hourIn s) ≤ length charges
-  pub charges-are : (m : ℕ) → m < members (hourIn s) → getD charges m (pos 0) ≡ charge (hourIn s) m
+-- the file keeps its ranges, and its hour's charges and finals stand in the first places
+pub record Amounts (s : List ℕ) (charges finals : List ℤ) : Type 0 where
+  pub charged : Charged s charges
+  pub room : members (hourIn s) ≤ length finals
+  pub finals-are : (m : ℕ) → m < members (hourIn s) → getD finals m (pos 0) ≡ final (hourIn s) m
 
--- the answer that rows 1 to 7 give, and the charges where it is acceptance
-pub record Answered (s : List ℕ) (answer : Answer) (charges : List ℤ) : Type 0 where
+-- the answer that the statement's rows give, and the charges and finals where it is acceptance
+pub record Answered (s : List ℕ) (answer : Answer) (charges finals : List ℤ) : Type 0 where
   pub verdict-is : verdictOf answer ≡ verdict (hourRows s)
-  pub charged : answer ≡ Accepted → Charged s charges
+  pub amounts : answer ≡ Accepted → Amounts s charges finals

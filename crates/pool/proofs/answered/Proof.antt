@@ -2,11 +2,11 @@
 use mathlib.Core.Path.{_≡_, sym, _∙_, ap}
 use mathlib.Core.Option.{none}
 use borrow.Author.Needs.{needs}
-use Rattle.rules.specs.Refusals.{badArea}
+use Rattle.rules.specs.Refusals.{placeZeroIf, badArea, noDemand}
 use Rattle.rules.specs.Inner.Searched.{foundAt}
 use Rattle.hour.specs.Hour.{hourIn}
 use Rattle.tally.specs.Posted.{Tallied}
-use Rattle.pool.proofs.Answers.{area-refused, some-short, all-pass}
+use Rattle.pool.proofs.Answers.{area-refused, demand-refused, some-short, all-pass}
 use Rattle.pool.proofs.answered.Statement.{statement}
 use Rattle.pool.proofs.answered.Tie as tie
 
@@ -48,19 +48,12 @@ returns c =
 enum-told : tie.Need-enum-told
 enum-told c = search needs
 
--- ---- row 11
+-- ---- row 12
 
-too-short-requires : tie.Need-too-short-requires
-too-short-requires c κs = tt
-
--- answer::refused(Answer::TooShort)
-refused-requires-2 : tie.Need-refused-requires-2
-refused-requires-2 c κs = tt
-
--- no area is without demand, and the lengths are tested
-module _ (c : tie.After-too-short) where
+-- every area has demand, or nothing to share
+module _ (c : tie.After-enum-told) where
   abbrev searched : tie.After-area-without-demand
-  searched = c .before .before .before
+  searched = c .before .before
 
   abbrev figured : tie.After-ufe-figures
   figured = searched .before
@@ -69,26 +62,62 @@ module _ (c : tie.After-too-short) where
   begun = start (figured .before)
 
   areas-pass : badArea (hourIn (begun .args .file .now)) ≡ none
-  areas-pass = sym (searched .area-without-demand .ensures) ∙ ap foundAt (c .before .enum-told .given .1)
+  areas-pass = sym (searched .area-without-demand .ensures) ∙ ap foundAt (c .enum-told .given .1)
 
--- return answer::refused(Answer::TooShort)
+no-demand-requires : tie.Need-no-demand-requires
+no-demand-requires c κs = (begun c .pre .1, tallied (figured c .before))
+
+-- answer::refused(Answer::NoDemand)
+refused-requires-2 : tie.Need-refused-requires-2
+refused-requires-2 c κs = tt
+
+-- return answer::refused(Answer::NoDemand)
 returns-2 : tie.Need-returns-2
 returns-2 c =
+    let asked = c .before .before in
+    let p = asked .before in
+    let s = begun p in
+    let broken = sym (asked .no-demand .ensures) ∙ ap placeZeroIf (c .before .if1 .taken) in
+    rw (c .refused2 .ensures)
+    (record { says = λ b l. demand-refused (s .args .file .now) b (s .pre .0) (s .pre .1 .kept) (areas-pass p) broken })
+
+-- ---- row 11
+
+too-short-requires : tie.Need-too-short-requires
+too-short-requires c κs = tt
+
+-- answer::refused(Answer::TooShort)
+refused-requires-3 : tie.Need-refused-requires-3
+refused-requires-3 c κs = tt
+
+-- there is demand, or nothing left over, and the lengths are tested
+module _ (c : tie.After-too-short) where
+  abbrev passed : tie.After-enum-told
+  passed = c .before .before .before
+
+  demand-passes : noDemand (hourIn (begun passed .args .file .now)) ≡ none
+  demand-passes = sym (c .before .before .no-demand .ensures) ∙ ap placeZeroIf (c .before .if1 .left)
+
+-- return answer::refused(Answer::TooShort)
+returns-3 : tie.Need-returns-3
+returns-3 c =
     let t = c .before .before in
-    let s = begun t in
-    rw (c .refused2 .ensures) (record {
-      says = λ b l. some-short (s .args .file .now) b (s .pre .0) (s .pre .1 .kept) (areas-pass t) l (s .pre .1)
-          (sym (t .too-short .ensures) ∙ c .before .if1 .taken);
+    let p = passed t in
+    let s = begun p in
+    rw (c .refused3 .ensures) (record {
+      says = λ b l. some-short (s .args .file .now) b (s .pre .0) (s .pre .1 .kept) (areas-pass p) (demand-passes t) l (s .pre .1)
+          (sym (t .too-short .ensures) ∙ c .before .if2 .taken);
     })
 
 -- Settled { answer: Answer::Accepted, ufe: figures }
-returns-3 : tie.Need-returns-3
-returns-3 c =
+returns-4 : tie.Need-returns-4
+returns-4 c =
     let t = c .before in
-    let s = begun t in
+    let p = passed t in
+    let s = begun p in
     record {
-      says = λ b l. all-pass (s .args .file .now) b (s .pre .0) (s .pre .1 .kept) (areas-pass t) l (s .pre .1)
-          (sym (t .too-short .ensures) ∙ c .if1 .left) (figured t .ufe-figures .ensures);
+      says = λ b l. all-pass (s .args .file .now) b (s .pre .0) (s .pre .1 .kept) (areas-pass p) (demand-passes t) l (s .pre .1)
+          (sym (t .too-short .ensures) ∙ c .if2 .left) (figured p .ufe-figures .ensures);
     }
 
 pub answered-spec : {M : Type 1} → statement M
@@ -102,7 +131,10 @@ answered-spec =
     refused-requires
     returns
     enum-told
-    too-short-requires
+    no-demand-requires
     refused-requires-2
     returns-2
-    returns-3)
+    too-short-requires
+    refused-requires-3
+    returns-3
+    returns-4)

@@ -15,7 +15,8 @@ use Rattle.answer.proofs.Refusing.{no-other}
 use Rattle.examine.proofs.Examined.{accepted-kept}
 use Rattle.pool.specs.AsSettled.{Says}
 use Rattle.pool.specs.Buffers.{buffers}
-use Rattle.pool.proofs.Answers.{file-unchanged, unchanged, room, can-share, can-put-lines, can-put-charges, all-filled}
+use Rattle.pool.proofs.Answers.{file-unchanged, unchanged, room, can-share, can-put-lines, can-put-charges}
+use Rattle.pool.proofs.Answers.{can-put-finals, all-filled}
 use Rattle.pool.proofs.settle.Statement.{statement}
 use Rattle.pool.proofs.settle.Proof.Tie as tie
 
@@ -40,7 +41,8 @@ module _ (c : tie.After-examine) where
   file = start .args .file .now
 
   abbrev lent : Buffers
-  lent = buffers (start .args .charges .now) (start .args .shares .now) (start .args .deviations .now) (start .args .lines .now)
+  lent = buffers (start .args .charges .now) (start .args .finals .now) (start .args .shares .now) (start .args .deviations .now)
+      (start .args .lines .now)
 
 -- return answer::refused(examined)
 returns : tie.Need-returns
@@ -66,7 +68,7 @@ head-of-requires c κs = keeps c
 headed : (c : tie.After-head-of) → Headed (file (examined (c .before))) (c .head-of .result)
 headed c = record { kept = keeps (c .before); head-is = c .head-of .ensures }
 
--- ---- rows 6 and 11
+-- ---- rows 6, 12 and 11
 
 answered-requires : tie.Need-answered-requires
 answered-requires c κs = (passed (c .before), headed c)
@@ -77,7 +79,8 @@ module _ (c : tie.After-answered) where
   whole = examined (c .before .before)
 
   said : Says (file whole) (lent whole) (c .answered .result)
-  said = c .answered .ensures .says (lent whole) (record { of-charges = refl; of-lines = refl; of-shares = refl; of-deviations = refl })
+  said = c .answered .ensures .says (lent whole)
+      (record { of-charges = refl; of-finals = refl; of-lines = refl; of-shares = refl; of-deviations = refl })
 
 -- let Answer::Accepted = answer
 enum-told-2 : tie.Need-enum-told-2
@@ -112,7 +115,7 @@ put-deviations-requires c κs =
     let t = c .before in
     (with-head t, room (bytes t) (rooms t) (said (answer t)) (accepts t) .deviations-room)
 
--- the moments at which deviations, shares, lines and charges are put
+-- the moments at which deviations, shares, lines, charges and finals are put
 abbrev deviated : tie.After-put-shares-arg → tie.After-put-deviations
 deviated c = c .before .before .before
 
@@ -121,6 +124,9 @@ shared c = c .before .before .before .before
 
 abbrev lined : tie.After-put-charges-arg2 → tie.After-put-lines
 lined c = c .before .before .before
+
+abbrev charged : tie.After-put-finals-arg2 → tie.After-put-charges
+charged c = c .before .before .before
 
 put-shares-requires : tie.Need-put-shares-requires
 put-shares-requires c κs =
@@ -144,9 +150,16 @@ put-charges-requires c κs =
     can-put-charges (bytes t) (rooms t) (said (answer t)) (accepts t) (d .put-deviations .ensures) (p .put-shares .ensures)
     (l .put-lines .ensures) (head-members (with-head t))
 
--- when all is put
-abbrev charged : tie.After-charges → tie.After-put-charges
-charged c = c .before
+put-finals-requires : tie.Need-put-finals-requires
+put-finals-requires c κs =
+    let q = charged c in
+    let l = lined (q .before) in
+    let p = shared (l .before) in
+    let d = deviated (p .before) in
+    let t = d .before .before in
+    let can = can-put-finals (bytes t) (rooms t) (said (answer t)) (accepts t) (d .put-deviations .ensures) (p .put-shares .ensures)
+    (l .put-lines .ensures) (head-members (with-head t)) (q .put-charges .ensures) in
+    (with-head t, can .0, can .1)
 
 -- lines: &mut [Line]
 same-length : tie.Need-same-length
@@ -156,24 +169,29 @@ same-length c = search needs
 same-length-2 : tie.Need-same-length-2
 same-length-2 c = search needs
 
--- shares: &mut [i64]
+-- finals: &mut [i64]
 same-length-3 : tie.Need-same-length-3
 same-length-3 c = search needs
 
--- deviations: &mut [i64]
+-- shares: &mut [i64]
 same-length-4 : tie.Need-same-length-4
 same-length-4 c = search needs
+
+-- deviations: &mut [i64]
+same-length-5 : tie.Need-same-length-5
+same-length-5 c = search needs
 
 -- settled, at the end
 returns-3 : tie.Need-returns-3
 returns-3 c =
-    let q = charged c in
+    let f = c .before in
+    let q = charged (f .before) in
     let l = lined (q .before) in
     let p = shared (l .before) in
     let d = deviated (p .before) in
     let t = d .before .before in
     all-filled (bytes t) (rooms t) (said (answer t)) (accepts t) (d .put-deviations .ensures) (p .put-shares .ensures)
-    (l .put-lines .ensures) (head-members (with-head t)) (q .put-charges .ensures)
+    (l .put-lines .ensures) (head-members (with-head t)) (q .put-charges .ensures) (f .put-finals .ensures)
 
 pub settle-spec : {M : Type 1} → statement M
 settle-spec =
@@ -191,8 +209,10 @@ settle-spec =
     put-shares-requires
     put-lines-requires
     put-charges-requires
+    put-finals-requires
     same-length
     same-length-2
     same-length-3
     same-length-4
+    same-length-5
     returns-3)

@@ -28,13 +28,17 @@ settle-requires c κs = tt
 same-length : tie.Need-same-length
 same-length c = search needs
 
--- shares: &mut [i64]
+-- finals: &mut [i64]
 same-length-2 : tie.Need-same-length-2
 same-length-2 c = search needs
 
--- deviations: &mut [i64]
+-- shares: &mut [i64]
 same-length-3 : tie.Need-same-length-3
 same-length-3 c = search needs
+
+-- deviations: &mut [i64]
+same-length-4 : tie.Need-same-length-4
+same-length-4 c = search needs
 
 -- each of the lines is empty
 unseen : {s : List ℕ} {b after : Unlined} {r : Settled} {l : Line} {lines : List Line} →
@@ -43,8 +47,8 @@ unseen {lines = lines} e fits = record { lines = lines; fits = rw e at fits }
 
 returns : tie.Need-returns
 returns c =
-    let t = c .before .before .before .before in
-    let made = t .before .before .before .before .before in
+    let t = c .before .before .before .before .before in
+    let made = t .before .before .before .before .before .before in
     unseen (made .empty-line .ensures) (t .settle .ensures)
 
 pub settle-unlined-spec : {M : Type 1} → statement M
@@ -57,4 +61,5 @@ settle-unlined-spec =
     same-length
     same-length-2
     same-length-3
+    same-length-4
     returns)

@@ -14,7 +14,7 @@ use Rattle.report.proofs.put_accepted.Statement.{statement}
 use Rattle.report.proofs.put_accepted.Tie as tie
 
 headed : (c : tie.After-head-of) → Headed (c .before .before .before .before .args .file .now) (c .head-of .result)
-headed c = record { kept = c .before .before .before .before .pre .0 .kept; head-is = c .head-of .ensures }
+headed c = record { kept = c .before .before .before .before .pre .0 .charged .kept; head-is = c .head-of .ensures }
 
 -- the numbers that were read are the hour's
 line-1 : (c : tie.After-put-first-line) → let s = c .before .before .before .before .before .before .args in
@@ -33,7 +33,7 @@ cast-hour : tie.Need-cast-hour
 cast-hour c = search needs
 
 head-of-requires : tie.Need-head-of-requires
-head-of-requires c κs = c .before .before .before .pre .0 .kept
+head-of-requires c κs = c .before .before .before .pre .0 .charged .kept
 
 put-first-line-requires : tie.Need-put-first-line-requires
 put-first-line-requires c κs = search needs
@@ -44,7 +44,7 @@ put-members-requires c κs =
     let known = p .before .before .before .before .before in
     let s = known .before in
     let h = hourIn (s .args .file .now) in
-    let kept = s .pre .0 .kept .hour-kept in
+    let kept = s .pre .0 .charged .kept .hour-kept in
     let line = first-line-most h kept (hour-number-most (s .args .file .now) (λ i. known .shared-slice-known .given i .fits)) in (
       headed (p .before .before),
       s .pre .0,

@@ -1,15 +1,10 @@
 -- `report::put_answered` meets its contract: the statement is that of the answer.
-use mathlib.Core.List.{[], _∷_}
-use types.Run.{OneOf, miss}
 use borrow.Author.Needs.{needs}
+use Rattle.answer.proofs.Refusing.{no-other}
 use Rattle.printing.proofs.Putting.{put-as}
 use Rattle.report.proofs.Settled.{refused-statement, accepted-statement}
 use Rattle.report.proofs.put_answered.Statement.{statement}
 use Rattle.report.proofs.put_answered.Tie as tie
-
--- the answers but acceptance, as the code tells them apart
-no-other : OneOf (1 ∷ 2 ∷ 3 ∷ 4 ∷ 5 ∷ 6 ∷ 7 ∷ 8 ∷ 9 ∷ 10 ∷ 11 ∷ []) 0 → ⊥
-no-other = miss (1 ∷ 2 ∷ 3 ∷ 4 ∷ 5 ∷ 6 ∷ 7 ∷ 8 ∷ 9 ∷ 10 ∷ 11 ∷ []) 0 tt
 
 -- let Answer::Accepted = answer
 enum-told : tie.Need-enum-told
@@ -33,13 +28,13 @@ put-accepted-requires : tie.Need-put-accepted-requires
 put-accepted-requires c κs =
     let t = c .before in
     let s = t .before .before .before .before in
-    (s .pre .0 .charged (t .enum-told .given .1), s .pre .1)
+    (s .pre .0 .amounts (t .enum-told .given .1), s .pre .1)
 
 -- out, at the end
 same-length-2 : tie.Need-same-length-2
 same-length-2 c = search needs
 
--- put_accepted(file, charges, out)
+-- put_accepted(file, charges, finals, out)
 returns-2 : tie.Need-returns-2
 returns-2 c =
     let p = c .before .before in

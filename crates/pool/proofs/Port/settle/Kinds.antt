@@ -17,8 +17,8 @@ use mathlib.Core.List
 use mathlib.Core.Path as Path'
 use mir.Syntax as Syntax
 
-abbrev pub ps : List.List (Kinds.PK 5)
-ps = List._∷_ (ShrSlice.pShrS (Referent.rtF (Referent.fInt Syntax.w8)) 0 tt) (List._∷_ (MutSlice.pMutS (LineKit.R) 1 tt) (List._∷_ (MutSlice.pMutS (DenSigned.SInt Syntax.w64) 2 tt) (List._∷_ (MutSlice.pMutS (DenSigned.SInt Syntax.w64) 3 tt) (List._∷_ (MutSlice.pMutS (DenSigned.SInt Syntax.w64) 4 tt) List.[]))))
+abbrev pub ps : List.List (Kinds.PK 6)
+ps = List._∷_ (ShrSlice.pShrS (Referent.rtF (Referent.fInt Syntax.w8)) 0 tt) (List._∷_ (MutSlice.pMutS (LineKit.R) 1 tt) (List._∷_ (MutSlice.pMutS (DenSigned.SInt Syntax.w64) 2 tt) (List._∷_ (MutSlice.pMutS (DenSigned.SInt Syntax.w64) 3 tt) (List._∷_ (MutSlice.pMutS (DenSigned.SInt Syntax.w64) 4 tt) (List._∷_ (MutSlice.pMutS (DenSigned.SInt Syntax.w64) 5 tt) List.[])))))
 
-abbrev pub r : Kinds.RK 5
+abbrev pub r : Kinds.RK 6
 r = Value.rVal record { ty = Declared.row Settled.the-type; one = Path'.refl; val = Laws'.val Settled.the-type Laws.the-laws; tells = Laws'.tells Settled.the-type Laws.the-laws; still = Laws'.still Settled.the-type Laws.the-copy Exit.yes; row = Rows'.whole (Declared.row Settled.the-type); rd = λ x. x; mk = λ x. x } λ M 𝓤 H A W. record { copies = Laws'.copy Settled.the-type Laws.the-copy 𝓤 H A W; lawful = Laws'.lawful Settled.the-type Laws.the-laws 𝓤 H A W; makes = Laws'.makes Settled.the-type Laws.the-plain 𝓤 H A; in-mem = Local.mem-whole 𝓤 H A W (Declared.row Settled.the-type); of-mem = Local.whole-mem 𝓤 H A W (Declared.row Settled.the-type) }
