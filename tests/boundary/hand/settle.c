@@ -110,14 +110,15 @@ static void tally(const uint8_t *file, size_t areas, size_t records, figures *ou
 /* The shares of one area, whose demand is not 0. */
 static void share_area(const uint8_t *file, size_t area, size_t records, figures *out)
 {
-    size_t places[MOST_RECORDS], loads = 0;
+    uint8_t places[MOST_RECORDS]; /* of 250 at most, so that a byte holds one */
     uint32_t demands[MOST_RECORDS];
+    size_t loads = 0;
     int64_t shares[MOST_RECORDS];
     for (size_t at = 0; at < records; at++) {
         const uint8_t *record = record_at(file, at);
         if (word(record, AREA) != area || !is_load(word(record, KIND)))
             continue;
-        places[loads] = at;
+        places[loads] = (uint8_t)at;
         demands[loads++] = word(record, ACTUAL);
     }
     share_by_demand(out->ufe[area], out->demand[area], demands, loads, shares);
