@@ -132,8 +132,8 @@ def of_two_faults():
 # ---- Hours in which nobody takes anything: which are accepted hangs on N, the sum of all charges
 
 def idle_hour(price, *exported, ties=(0, 0), loads=()):
-    """Three members and one area; an export for each member and kWh over its plan, negative if under, and these loads. At 1,000 cents a MWh a
-    kWh over the plan is charged a cent."""
+    """Three members and one area; an export for each member and kWh over its plan, negative if under, and these loads. At 1,000 cents a MWh
+    a kWh over the plan is charged a cent."""
     exports = [hours.record(hours.EXPORT, member, 0, S=max(0, -kwh), A=max(0, kwh)) for member, kwh in exported]
     return hours.Hour(7, 3, [price], [[0, *ties]], [*exports, *loads])
 

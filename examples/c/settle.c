@@ -1,7 +1,8 @@
 /* Settles an hour through the C library:   settle [FILE]   without a file's name it reads standard input.
  *
  * Prints the answer's number and place, then for an accepted hour a line for each member: its records, its exact amount in grains, its
- * charge and its final amount. Exits with 0 where the hour is accepted, 1 where it is refused, 2 where it can't be read or the result can't be printed. */
+ * charge and its final amount. Exits with 0 where the hour is accepted, 1 where it is refused, 2 where it can't be read or the result
+ * can't be printed. */
 #include <stdint.h>
 #include <stdio.h>
 

@@ -1,5 +1,5 @@
-/* hand.h: the four functions of include/sneupelaar.h in C by hand, written from documents 01 and 02. The harness compares the archive's answers
-   with theirs, and the bench its instructions. */
+/* hand.h: the four functions of include/sneupelaar.h in C by hand, written from documents 01 and 02. The harness compares the archive's
+   answers with theirs, and the bench its instructions. */
 #ifndef HAND_H
 #define HAND_H
 
