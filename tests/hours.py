@@ -11,8 +11,8 @@ them at 1,000,000 cents come to 2.25 x 10^18 grains; the UFE of all areas togeth
 under 4 x 10^18. Refusal 11 comes from the buffers' lengths, not from the hour: see tests/compare.
 Refusals 8 to 10 belong to text amounts.
 
-Where the answer hangs on N, the sum of all charges (document 02, A1), the maker sees to it that N is known: an
-export of a price of 1,000 cents a MWh is charged a cent for each kWh that it left its schedule by.
+Where the answer hangs on N, the sum of all charges (document 02, A1), the maker sees to it that N is known: at a
+price of 1,000 cents a MWh an export is charged a cent for each kWh over its plan.
 """
 
 import itertools
@@ -269,8 +269,8 @@ def unavailable_energy(rng):
 
 # ---- Hours that are about N, the sum of all charges, and the finals (document 02, A1)
 
-# At this price, cents a MWh, an export is charged a cent for each kWh: it pays for what it took over its plan and
-# is paid for what it took less.
+# At this price, cents a MWh, a kWh is a cent: an export pays for what it took over its plan and is paid for what it
+# took less.
 CENT_A_KWH = 1_000
 
 
@@ -288,7 +288,7 @@ def export_over(rng, member, areas, kwh):
 
 
 def in_parts(rng, whole):
-    """A demand as one to three demands, none of them 0 but where all is."""
+    """A demand as at most three that are not 0."""
     parts = []
     while whole > 0:
         parts.append(whole if len(parts) == 2 else rng.randint(1, whole))
@@ -297,8 +297,8 @@ def in_parts(rng, whole):
 
 
 def cents_left_over(rng):
-    """A few different demands of whole members, each over several loads and areas, members without any among
-    them, and an N of a few cents: mostly cents are left over, and often equal remainders decide who gets them."""
+    """Members with one of two demands, each over several loads and areas, and an N of a few cents: mostly cents are
+    left over, and often equal remainders decide who gets them. One of the two may be 0."""
     members = rng.randint(2, 32)
     areas = random_areas(rng, 1, rng.randint(1, 8), 0)
     sizes = [rng.choice([0, 1, rng.randint(2, 60)]), rng.randint(1, 60)]
@@ -323,12 +323,24 @@ def largest_products(rng):
 # Hours in which nobody takes anything: they are accepted where N is 0, whatever the charges are.
 
 def nobody_takes_anything(rng, members, price, charged):
-    """An hour without demand: exports over their plan, given as member and kWh, and loads that took nothing, as planned."""
+    """An hour without demand: exports over their plan, given as member and kWh, and at times records of other kinds
+    that kept to the plan, loads that took nothing among them."""
     areas = random_areas(rng, 1, rng.randint(1, 8), 0)
     records = [export_over(rng, member, areas, kwh) for member, kwh in charged]
-    records += [record(rng.choice(LOADS), rng.randrange(members), rng.randrange(len(areas))) for _ in range(rng.choice([0, 0, 1, 9]))]
+    records += [idle_as_planned(rng, rng.randrange(members), areas) for _ in range(rng.choice([0, 0, 1, 9]))]
     rng.shuffle(records)
     return Hour(rng.randrange(10_000), members, [price], areas, records)
+
+
+def idle_as_planned(rng, member, areas):
+    """A load that took nothing, or a source without losses whose energy left by the tie of its area."""
+    kind, area, actual = rng.choice([*LOADS, GENERATOR, IMPORT]), rng.randrange(len(areas)), rng.randint(0, 99)
+    if kind in LOADS:
+        return record(kind, member, area)
+    if kind == IMPORT:
+        return record(kind, member, area, S=actual, A=actual, F=10_000, H=10_000)
+    areas[area][2] += actual
+    return record(kind, member, area, S=actual, A=actual, M=actual, F=10_000, H=10_000)
 
 
 def some_members(rng, least):

@@ -451,6 +451,17 @@ class MadeHours(unittest.TestCase):
             exact += sum(abs(amount) % 10**7 == 5 * 10**6 for amount, _ in settled.lines)
         self.assertGreater(exact, 50)
 
+    def test_cents_left_over(self):
+        """Often the earlier of members with equal remainders gets a cent, and members are without demand beside others."""
+        decided = without = 0
+        for turn in range(60):
+            hour = second.read_hour(hours.cents_left_over(random.Random(turn)).encode())
+            demands, neutrality = second.member_demands(hour), sum(second.work_out(hour)["charges"])
+            decided += compare.left_over(demands, abs(neutrality))[1]
+            without += not all(demands)
+        self.assertGreater(decided, 30)
+        self.assertGreater(without, 10)
+
     def test_hours_without_demand(self):
         """Each maker's hours have no demand, and the charges that it is named for."""
         for maker in hours.NO_DEMAND_AND_NO_N + hours.NO_DEMAND_FOR_N:
