@@ -832,6 +832,10 @@ class Pages(unittest.TestCase):
             data[at:at + 16] = bytes.fromhex(line)
         self.assertEqual(bytes(data), (ROOT / "examples" / "printed.hour").read_bytes())
 
+    def test_the_statement_of_the_format(self):
+        statement = second.statement((ROOT / "examples" / "neutrality.hour").read_bytes()).decode()
+        self.assertIn(f"```\n{statement}```\n", (ROOT / "docs" / "FORMAT.md").read_text())
+
     def test_stored_amounts(self):
         folder = HERE / "archive"
         self.assertEqual(second.amounts((folder / "amounts.in").read_bytes()), (folder / "amounts.out").read_bytes())
