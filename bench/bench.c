@@ -15,7 +15,8 @@ enum { AMOUNTS = 1000, WIDTH = 14 };
 static uint8_t file[SNEUPELAAR_MOST_BYTES];
 static size_t file_length;
 static sneupelaar_line lines[SNEUPELAAR_MOST_MEMBERS];
-static int64_t charges[SNEUPELAAR_MOST_MEMBERS], shares[SNEUPELAAR_MOST_RECORDS], deviations[SNEUPELAAR_MOST_RECORDS];
+static int64_t charges[SNEUPELAAR_MOST_MEMBERS], finals[SNEUPELAAR_MOST_MEMBERS];
+static int64_t shares[SNEUPELAAR_MOST_RECORDS], deviations[SNEUPELAAR_MOST_RECORDS];
 static int64_t cents[AMOUNTS];
 static uint8_t texts[AMOUNTS][WIDTH], field[WIDTH];
 static uint64_t sum;
@@ -51,8 +52,9 @@ static void read_hour(const char *folder, const char *name)
     static void settle_##who(void)                                                                                                \
     {                                                                                                                             \
         sneupelaar_settled settled = settle(file, file_length, lines, SNEUPELAAR_MOST_MEMBERS, charges, SNEUPELAAR_MOST_MEMBERS, \
-            shares, SNEUPELAAR_MOST_RECORDS, deviations, SNEUPELAAR_MOST_RECORDS);                                                \
-        sum += 1000 * settled.number + settled.place + (uint64_t)(charges[0] + shares[49] + deviations[59] + lines[7].amount);   \
+            finals, SNEUPELAAR_MOST_MEMBERS, shares, SNEUPELAAR_MOST_RECORDS, deviations, SNEUPELAAR_MOST_RECORDS);               \
+        sum += 1000 * settled.number + settled.place;                                                                             \
+        sum += (uint64_t)(charges[0] + finals[1] + shares[49] + deviations[59] + lines[7].amount);                                \
     }                                                                                                                             \
     static void write_##who(void)                                                                                                 \
     {                                                                                                                             \

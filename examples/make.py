@@ -44,7 +44,20 @@ def left_over():
         ])
 
 
-EXAMPLES = {"printed": printed_case, "two-zones": two_zones, "left-over": left_over}
+def neutrality():
+    """The pool collects 20 cents and pays 12: a cent of the 8 is left over, and two growers have the same remainder."""
+    return Hour(
+        number=1_402, members=4, prices=[1_000], areas=[[0, 0, 100], [0, 100, 0]],
+        records=[
+            record(GENERATOR, 0, 0, S=720, A=700, M=800, F=10_000, H=10_000),
+            record(REAL_TIME_LOAD, 2, 0, S=302, A=300),
+            record(REAL_TIME_LOAD, 1, 0, S=200, A=200),
+            record(PROFILE_LOAD, 1, 1, S=110, A=100),
+            record(REAL_TIME_LOAD, 3, 0, S=100, A=100),
+        ])
+
+
+EXAMPLES = {"printed": printed_case, "two-zones": two_zones, "left-over": left_over, "neutrality": neutrality}
 
 
 def main():

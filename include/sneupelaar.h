@@ -39,8 +39,10 @@ extern "C" {
  *        9  write     the field is shorter than the amount's text                              0
  *       10  read      the field is not an amount's text                                        0
  *       11  settle    a buffer is too short for the hour                                       0
+ *       12  settle    nobody has demand, and the sum of all charges isn't 0                    0
  *
- * Settling looks for 1 to 7 in this order, each over the whole file, then for 11; writing for 8, then 9. The first found is answered.
+ * Settling looks for 1 to 7 in this order, each over the whole file, then for 12, then for 11; writing for 8, then 9. The first found is
+ * answered.
  * Blocks, words of the head's block, records, areas and members count from 0. docs/FORMAT.md has the file's and the text's form. */
 
 /* A member's line. 16 bytes: amount at 0, records at 8, then 4 that are padding. */
@@ -77,16 +79,17 @@ typedef struct {
 
 /* Settles an hour file. Lengths are in elements.
  *
- * Accepted: for each member m of the hour, charges[m] is its charge in cents and lines[m] its exact amount and record count; for each
- * record i, shares[i] is its share of its area's UFE, 0 where it is no load, and deviations[i] its deviation, both in 1/10,000 kWh; ufe
- * has a figure for each area of the hour and 0 past them. What the buffers held there isn't read, and every element past the hour's
- * members or records is unchanged. A line's padding may change.
+ * Accepted: for each member m of the hour, lines[m] is its exact amount and record count, charges[m] its charge in cents and finals[m]
+ * its final amount in cents, which is the charge minus its share of the sum of all charges; the finals add up to 0. For each record i,
+ * shares[i] is its share of its area's UFE, 0 where it is no load, and deviations[i] its deviation, both in 1/10,000 kWh; ufe has a
+ * figure for each area of the hour and 0 past them. What the buffers held there isn't read, and every element past the hour's members or
+ * records is unchanged. A line's padding may change.
  *
- * Refused (1 to 7, 11): every buffer is unchanged, and ufe is all 0. 11 is answered where charges or lines are fewer than the hour's
- * members, or shares or deviations fewer than its records. */
+ * Refused (1 to 7, 11, 12): every buffer is unchanged, and ufe is all 0. 11 is answered where lines, charges or finals are fewer than the
+ * hour's members, or shares or deviations fewer than its records. */
 sneupelaar_settled sneupelaar_settle(const uint8_t *file, size_t file_length, sneupelaar_line *lines, size_t lines_length,
-                                     int64_t *charges, size_t charges_length, int64_t *shares, size_t shares_length,
-                                     int64_t *deviations, size_t deviations_length);
+                                     int64_t *charges, size_t charges_length, int64_t *finals, size_t finals_length,
+                                     int64_t *shares, size_t shares_length, int64_t *deviations, size_t deviations_length);
 
 /* Writes an amount of cents into the whole field: blanks, the sign, dollars, a point and two digits, to the right. No byte is added.
  * Refused (8, 9): the field is unchanged. 14 bytes are wide enough for any amount that isn't refused by 8. */

@@ -4,12 +4,15 @@
 in turn, so that a few hundred hours see each refusal that an hour file can bring about. Where the maker
 knows the answer (number and place) from the way the hour was made, it says so.
 
-Refusals 1 to 6 occur. Refusal 7 cannot: within the ranges of document 01 a record's deviation is at most
+Refusals 1 to 6 and 12 occur. Refusal 7 cannot: within the ranges of document 01 a record's deviation is at most
 9 x 10^9 units in size (2 scheduled, 4 metered less adjustment, 1 ancillary, 2 unavailable), so 250 of
 them at 1,000,000 cents come to 2.25 x 10^18 grains; the UFE of all areas together is at most
 8 x 10^11 units of ties and 250 x 2 x 10^9 of meters and losses, which makes 1.3 x 10^18 more. That is
 under 4 x 10^18. Refusal 11 comes from the buffers' lengths, not from the hour: see tests/compare.
 Refusals 8 to 10 belong to text amounts.
+
+Where the answer hangs on N, the sum of all charges (document 02, A1), the maker sees to it that N is known: at a
+price of 1,000 cents a MWh an export is charged a cent for each kWh over its plan.
 """
 
 import itertools
@@ -128,6 +131,7 @@ def random_hour(rng, count, most, kinds=KINDS):
     hour = Hour(rng.randrange(2**32), members, prices,
                 random_areas(rng, zones, areas, rng.choice([most, MOST_TIE])), records)
     give_demand(rng, hour)
+    give_somebody_demand(rng, hour)
     return hour
 
 
@@ -140,6 +144,15 @@ def give_demand(rng, hour):
             balance(rng, hour, area)
         elif not any(load["A"] for load in loads):
             rng.choice(loads)["A"] = rng.randint(1, 100)
+
+
+def give_somebody_demand(rng, hour):
+    """Leaves no hour with records and without demand, since somebody may be charged in it (refusal 12)."""
+    demanded = any(r["A"] for r in hour.records if r["kind"] in LOADS)
+    if hour.records and not demanded:
+        place = rng.randrange(len(hour.records))
+        member, area = hour.records[place]["member"], hour.records[place]["area"]
+        hour.records[place] = record(rng.choice(LOADS), member, area, S=rng.randint(0, 100), A=rng.randint(1, 100))
 
 
 def balance(rng, hour, area):
@@ -219,7 +232,7 @@ def most_units_left(rng):
 
 def halves(rng):
     """Charges that end on exactly half a cent: odd numbers of kWh at odd multiples of 500 cents a MWh
-    make odd multiples of 5,000,000 grains."""
+    make odd multiples of 5,000,000 grains. Loads that took what was planned and came in by the ties carry N."""
     zones = rng.randint(1, 4)
     prices = [500 * (2 * rng.randint(-9, 9) + 1) for _ in range(zones)]
     areas = random_areas(rng, zones, rng.randint(1, 8), 0)
@@ -227,6 +240,7 @@ def halves(rng):
     records = [record(EXPORT, rng.randrange(members), rng.randrange(len(areas)),
                       S=rng.randint(0, 9), A=rng.randint(0, 9), J=rng.randint(-9, 9))
                for _ in range(rng.randint(1, 40))]
+    records += [load_as_planned(rng, rng.randrange(members), areas, rng.randint(1, 9)) for _ in range(rng.randint(1, 9))]
     return Hour(rng.randrange(10_000), members, prices, areas, records)
 
 
@@ -236,6 +250,7 @@ def no_demand_no_ufe(rng):
     for area in range(len(hour.areas)):
         if rng.random() < 0.6:
             balance(rng, hour, area)
+    give_somebody_demand(rng, hour)
     return hour
 
 
@@ -250,6 +265,152 @@ def unavailable_energy(rng):
         else:
             each["O"] = max(0, each["A"] + each["N"] + nearly)
     return hour
+
+
+# ---- Hours that are about N, the sum of all charges, and the finals (document 02, A1)
+
+# At this price, cents a MWh, a kWh is a cent: an export pays for what it took over its plan and is paid for what it
+# took less.
+CENT_A_KWH = 1_000
+
+
+def load_as_planned(rng, member, areas, demand):
+    """A load that took what was planned, brought in by the tie of an area: no deviation and no UFE."""
+    area = rng.randrange(len(areas))
+    areas[area][1] += demand
+    return record(rng.choice(LOADS), member, area, S=demand, A=demand)
+
+
+def export_over(rng, member, areas, kwh):
+    """An export of so many kWh over its plan, or under it."""
+    planned = max(0, -kwh) + rng.randint(0, 9)
+    return record(EXPORT, member, rng.randrange(len(areas)), S=planned, A=planned + kwh)
+
+
+def in_parts(rng, whole):
+    """A demand as at most three that are not 0."""
+    parts = []
+    while whole > 0:
+        parts.append(whole if len(parts) == 2 else rng.randint(1, whole))
+        whole -= parts[-1]
+    return parts
+
+
+def cents_left_over(rng):
+    """Members with one of two demands, each over several loads and areas, and an N of a few cents: mostly cents are
+    left over, and often equal remainders decide who gets them. One of the two may be 0."""
+    members = rng.randint(2, 32)
+    areas = random_areas(rng, 1, rng.randint(1, 8), 0)
+    sizes = [rng.choice([0, 1, rng.randint(2, 60)]), rng.randint(1, 60)]
+    demands = [sizes[1]] + [rng.choice(sizes) for _ in range(members - 1)]
+    rng.shuffle(demands)
+    records = [load_as_planned(rng, member, areas, part)
+               for member, demand in enumerate(demands) for part in in_parts(rng, demand)]
+    records += [export_over(rng, rng.randrange(members), areas, rng.randint(-9, 9)) for _ in range(rng.randint(1, 9))]
+    records.append(export_over(rng, rng.randrange(members), areas, rng.randint(-3 * members, 3 * members)))
+    rng.shuffle(records)
+    return Hour(rng.randrange(10_000), members, [rng.choice([CENT_A_KWH, -CENT_A_KWH])], areas, records)
+
+
+def largest_products(rng):
+    """The largest demands there can be with the largest N that was thought of beside them."""
+    members = rng.choice([2, 32])
+    load = dict(A=100_000, J=-100_000, N=100_000)
+    records = [record(rng.choice(LOADS), rng.choice([0, members - 1]), place % 8, **load) for place in range(MOST_RECORDS)]
+    return Hour(1, members, [rng.choice([MOST_PRICE, -MOST_PRICE])], [[0, MOST_TIE, 0] for _ in range(8)], records)
+
+
+# Hours in which nobody takes anything: they are accepted where N is 0, whatever the charges are.
+
+def nobody_takes_anything(rng, members, price, charged):
+    """An hour without demand: exports over their plan, given as member and kWh, and at times records of other kinds
+    that kept to the plan, loads that took nothing among them."""
+    areas = random_areas(rng, 1, rng.randint(1, 8), 0)
+    records = [export_over(rng, member, areas, kwh) for member, kwh in charged]
+    records += [idle_as_planned(rng, rng.randrange(members), areas) for _ in range(rng.choice([0, 0, 1, 9]))]
+    rng.shuffle(records)
+    return Hour(rng.randrange(10_000), members, [price], areas, records)
+
+
+def idle_as_planned(rng, member, areas):
+    """A load that took nothing, or a source without losses whose energy left by the tie of its area."""
+    kind, area, actual = rng.choice([*LOADS, GENERATOR, IMPORT]), rng.randrange(len(areas)), rng.randint(0, 99)
+    if kind in LOADS:
+        return record(kind, member, area)
+    if kind == IMPORT:
+        return record(kind, member, area, S=actual, A=actual, F=10_000, H=10_000)
+    areas[area][2] += actual
+    return record(kind, member, area, S=actual, A=actual, M=actual, F=10_000, H=10_000)
+
+
+def some_members(rng, least):
+    """How many members there are, and some of them in any order, at least so many."""
+    members = rng.randint(least, 32)
+    return members, rng.sample(range(members), rng.randint(least, members))
+
+
+def exports_as_planned(rng):
+    members, some = some_members(rng, 1)
+    return nobody_takes_anything(rng, members, rng.randint(-MOST_PRICE, MOST_PRICE), [(member, 0) for member in some])
+
+
+def charges_that_cancel(rng):
+    members, some = some_members(rng, 2)
+    kwh = [rng.randint(-99, 99) for _ in some[1:]]
+    return nobody_takes_anything(rng, members, rng.choice([CENT_A_KWH, -CENT_A_KWH]), list(zip(some, [-sum(kwh), *kwh])))
+
+
+def charges_that_cancel_by_rounding(rng):
+    """Half a cent on one side, which is charged as a cent, and a whole cent on the other."""
+    members, some = some_members(rng, 2)
+    way = rng.choice([1, -1])
+    return nobody_takes_anything(rng, members, CENT_A_KWH // 2, [(some[0], way), (some[1], -2 * way)])
+
+
+def under_half_a_cent(rng):
+    """Amounts on either side that are charged as nothing; at times just under half a cent."""
+    members, some = some_members(rng, 1)
+    price = rng.choice([499, -499, rng.randint(-499, 499)])
+    return nobody_takes_anything(rng, members, price, [(member, rng.choice([1, 1, -1])) for member in some])
+
+
+def price_of_nothing(rng):
+    members, some = some_members(rng, 1)
+    return nobody_takes_anything(rng, members, 0, [(member, rng.randint(-99, 99)) for member in some])
+
+
+NO_DEMAND_AND_NO_N = (exports_as_planned, charges_that_cancel, charges_that_cancel_by_rounding, under_half_a_cent, price_of_nothing)
+
+
+# And they are refused with 12 where N isn't 0.
+
+def one_record_charged(rng):
+    """A single record, an export or a load that took nothing of what was planned."""
+    members = rng.choice([1, 2, rng.randint(1, 32)])
+    areas = random_areas(rng, 1, rng.randint(1, 8), 0)
+    kwh = rng.choice([1, rng.randint(1, 99)])
+    over = rng.choice([record(EXPORT, rng.randrange(members), rng.randrange(len(areas)), A=kwh),
+                       record(rng.choice(LOADS), rng.randrange(members), rng.randrange(len(areas)), S=kwh)])
+    # from half a cent on
+    return Hour(rng.randrange(10_000), members, [rng.choice([500, -500, rng.randint(500, MOST_PRICE)])], areas, [over])
+
+
+def several_charged(rng):
+    """Charges on both sides, as often as not a single cent short of cancelling."""
+    members, some = some_members(rng, 2)
+    kwh = [rng.randint(-99, 99) for _ in some[1:]]
+    left = rng.choice([1, -1, rng.randint(1, 99)])
+    return nobody_takes_anything(rng, members, rng.choice([CENT_A_KWH, -CENT_A_KWH]), list(zip(some, [left - sum(kwh), *kwh])))
+
+
+def cancelling_before_rounding(rng):
+    """Two halves of a cent against a whole one: the amounts cancel, the charges don't."""
+    members, some = some_members(rng, 3)
+    way = rng.choice([1, -1])
+    return nobody_takes_anything(rng, members, CENT_A_KWH // 2, [(some[0], way), (some[1], way), (some[2], -2 * way)])
+
+
+NO_DEMAND_FOR_N = (one_record_charged, several_charged, cancelling_before_rounding)
 
 
 # ---- Hours at the edges
@@ -268,7 +429,7 @@ def record_at_ends(rng, members, areas):
 
 
 def ends_as_they_fall(rng):
-    """Every count, price, tie and record field at an end of its range: accepted, or refused with 6."""
+    """Every count, price, tie and record field at an end of its range: accepted, or refused with 6 or 12."""
     members, zones, areas = rng.choice([1, 32]), rng.choice([1, 4]), rng.choice([1, 8])
     prices = [rng.choice([-MOST_PRICE, MOST_PRICE, 0]) for _ in range(zones)]
     rows = [[rng.choice([0, zones - 1]), rng.choice([0, MOST_TIE]), rng.choice([0, MOST_TIE])]
@@ -282,6 +443,7 @@ def ends_everywhere(rng):
     """The same, with demand where there is UFE."""
     hour = ends_as_they_fall(rng)
     give_demand(rng, hour)
+    give_somebody_demand(rng, hour)
     return hour
 
 
@@ -303,7 +465,7 @@ def largest_amounts(rng):
 
 HONEST = (printed_case, few_records, ordinary, many_records, no_records, full_file, full_blocks,
           equal_remainders, most_units_left, halves, no_demand_no_ufe, unavailable_energy,
-          ends_everywhere, largest_amounts)
+          ends_everywhere, largest_amounts, cents_left_over, largest_products)
 
 
 # ---- Faults. Each spoils one thing and hands back the number and place of the refusal that is due, or
@@ -328,6 +490,32 @@ def beyond(rng, highest):
 
 
 # Faults of the hour's figures, before it is encoded.
+
+def nobody_demands(rng, hour):
+    """Everybody keeps to the plan and takes nothing, but for some exports under their plan, each at a price of the
+    same sign and at least half a cent a kWh: so N isn't 0."""
+    way = rng.choice([1, -1])
+    hour.prices = [way * rng.randint(500, MOST_PRICE) for _ in hour.prices]
+    under = rng.sample(hour.records, min(len(hour.records), rng.randint(1, 3)))
+    for each in under:
+        each.update(record(EXPORT, each["member"], each["area"]))
+    for area in range(len(hour.areas)):
+        balance(rng, hour, area)
+    for each in hour.records:
+        keep_to_plan(each)
+    for each in under:
+        each["S"] = rng.randint(1, 99)
+    return 12, 0
+
+
+def keep_to_plan(each):
+    """What was metered was planned, without losses, adjustments or obligations: no deviation."""
+    actual, multiplier = each["A"], 10_000 if "F" in USED[each["kind"]] else 0
+    each.update(dict.fromkeys(LETTERS, 0))
+    each.update(S=actual, A=actual, F=multiplier, H=multiplier)
+    if each["kind"] == GENERATOR:
+        each["M"] = actual
+
 
 def spoil_area(rng, hour, area):
     """Gives an area UFE that no load can carry."""
@@ -668,7 +856,8 @@ def file_too_long(rng, data):
     return data + bytes(512 * (27 + rng.choice([0, 0, 5]) - len(data) // 512))
 
 
-HOUR_FAULTS = (no_demand, no_demand_twice)
+AREA_FAULTS = (no_demand, no_demand_twice)
+HOUR_FAULTS = (nobody_demands, *AREA_FAULTS)  # in this order: an area that is spoiled before would be in balance again
 LAYOUT_FAULTS = (wrong_mark, wrong_position, wrong_count_of_blocks, wrong_count_before_the_last,
                  wrong_count_in_the_last, *map(reserved_word, (3, 4, 5, 6)), word_past_records)
 HEAD_FAULTS = (*itertools.starmap(none_of, COUNTS), *itertools.starmap(too_many, COUNTS), price_too_high,
@@ -685,7 +874,7 @@ FAULTS = HOUR_FAULTS + WORD_FAULTS + SUM_FAULTS + LENGTH_FAULTS
 
 # Two faults of an area, of a sum or of the length can undo each other.
 PAIRS = [pair for pair in itertools.combinations(FAULTS, 2)
-         if not any(set(pair) <= set(stage) for stage in (HOUR_FAULTS, SUM_FAULTS, LENGTH_FAULTS))]
+         if not any(set(pair) <= set(stage) for stage in (AREA_FAULTS, SUM_FAULTS, LENGTH_FAULTS))]
 
 
 def spoil(rng, hour, faults):
@@ -755,20 +944,25 @@ def junk(rng):
 
 # ---- The endless list
 
+def answered(maker, expected):
+    return lambda rng: Made(maker.__name__, maker(rng).encode(), expected)
+
+
 def honest(maker):
-    return lambda rng: Made(maker.__name__, maker(rng).encode(), (0, 0))
+    return answered(maker, (0, 0))
 
 
 def unforeseen(maker):
     """For hours of which only the sums tell whether they are accepted."""
-    return lambda rng: Made(maker.__name__, maker(rng).encode(), None)
+    return answered(maker, None)
 
 
 def alone(fault):
     return lambda rng: damaged(rng, (fault,))
 
 
-ROUND = ([honest(maker) for maker in HONEST] * 2 + [unforeseen(ends_as_they_fall)] * 2
+ROUND = ([honest(maker) for maker in HONEST] * 2 + [unforeseen(ends_as_they_fall)] * 2 + [honest(cents_left_over)] * 2
+         + [honest(maker) for maker in NO_DEMAND_AND_NO_N] + [answered(maker, (12, 0)) for maker in NO_DEMAND_FOR_N]
          + [alone(fault) for fault in FAULTS + LONE_FAULTS] + [two_faults] * 8
          + [scattered] * 3 + [words_swapped, junk])
 

@@ -1,5 +1,6 @@
 """Hour files whose answers are known by hand, from document 01's table: refusals 1 to 5 at a first, a middle and a last place, the ends of
-several ranges, the longest file, the highest price, and two faults of which the table's order or the first place decides.
+several ranges, the longest file, the highest price, and two faults of which the table's order or the first place decides; and from document
+02, A1: hours in which nobody takes anything, with refusal 12 and without.
 
 `cases()` gives each file's name, the first line of its statement, and its bytes. No program had a part in those lines, and nothing here is
 left to chance, so that the files come out the same each time.
@@ -128,5 +129,37 @@ def of_two_faults():
     yield "first-of-two-records", "refused 5 at 20", words(five_blocks(), (*field(33, 0), 0), (*field(20, 11), 1))
 
 
+# ---- Hours in which nobody takes anything: which are accepted hangs on N, the sum of all charges
+
+def idle_hour(price, *exported, ties=(0, 0), loads=()):
+    """Three members and one area; an export for each member and kWh over its plan, negative if under, and these loads. At 1,000 cents a MWh
+    a kWh over the plan is charged a cent."""
+    exports = [hours.record(hours.EXPORT, member, 0, S=max(0, -kwh), A=max(0, kwh)) for member, kwh in exported]
+    return hours.Hour(7, 3, [price], [[0, *ties]], [*exports, *loads])
+
+
+def of_no_demand():
+    """Refusal 12, with N in the comment; without N, or with a kWh of demand, the hour is accepted."""
+    refused, of_records = "refused 12 at 0", "hour 7 members 3 records {}".format
+    idle_load = hours.record(hours.PROFILE_LOAD, 0, 0)
+    short_load = hours.record(hours.REAL_TIME_LOAD, 2, 0, S=1)
+    one_kwh = hours.record(hours.PROFILE_LOAD, 0, 0, S=1, A=1)
+    yield "no-demand-a-cent", refused, idle_hour(1_000, (1, 1)).encode()  # 1
+    yield "no-demand-minus-a-cent", refused, idle_hour(1_000, (2, -1), loads=[idle_load]).encode()  # -1
+    yield "no-demand-load-that-took-nothing", refused, idle_hour(1_000, loads=[short_load]).encode()  # -1
+    yield "no-demand-half-a-cent", refused, idle_hour(500, (0, 1)).encode()  # 1, rounded from half a cent
+    yield "no-demand-grains-cancel", refused, idle_hour(500, (0, 1), (1, 1), (2, -2)).encode()  # 1 + 1 - 1
+    yield "no-demand-both-directions", refused, idle_hour(1_000, (0, 30), (1, -10), (2, -19)).encode()  # 30 - 10 - 19
+    yield "no-demand-no-records", of_records(0), idle_hour(1_000).encode()
+    yield "no-demand-as-planned", of_records(2), idle_hour(1_000_000, (1, 0), loads=[idle_load]).encode()
+    yield "no-demand-under-half-a-cent", of_records(1), idle_hour(499, (0, 1)).encode()
+    yield "no-demand-price-0", of_records(2), idle_hour(0, (0, 99), (1, 3)).encode()
+    yield "no-demand-charges-cancel", of_records(3), idle_hour(-1_000, (0, 30), (1, -10), (2, -20)).encode()
+    yield "no-demand-cents-cancel", of_records(2), idle_hour(500, (0, 1), (1, -2)).encode()  # 1 - 1, of half a cent less a cent
+    yield "one-kwh-of-demand", of_records(2), idle_hour(1_000, (1, 1), ties=(1, 0), loads=[one_kwh]).encode()
+    yield "area-before-no-demand", "refused 6 at 0", idle_hour(1_000, (1, 1), ties=(1, 0)).encode()
+    yield "record-before-no-demand", "refused 5 at 1", words(idle_hour(1_000, (1, 1), (1, 1)).blocks(), (*field(1, 11), 1))
+
+
 def cases():
-    return itertools.chain(of_lengths(), of_blocks(), of_heads(), of_records(), of_two_faults())
+    return itertools.chain(of_lengths(), of_blocks(), of_heads(), of_records(), of_two_faults(), of_no_demand())

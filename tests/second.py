@@ -1,8 +1,8 @@
 #!/usr/bin/env python3
-"""The second program: settles an hour, writes and reads amounts as documents 01 and 003 say, apart from the proved programs.
+"""The second program: settles an hour, writes and reads amounts as documents 01, 02 and 003 say, apart from the proved programs.
 
     python3 tests/second.py statement < hour
-    python3 tests/second.py settled [C [L [S [D]]]] < hour
+    python3 tests/second.py settled [L [C [F [S [D]]]]] < hour
     python3 tests/second.py amounts < cases
 
 It is the other opinion that the proved programs are compared with, so it takes nothing from them. It
@@ -27,11 +27,11 @@ GRAINS_IN_A_CENT = 10_000_000
 MOST_GRAINS = 4 * 10**18
 MOST_CENTS = 999_999_999_999
 UFE_FIGURES = 8
-CHARGE_COLUMNS = 14
+AMOUNT_COLUMNS = 14
 
-# The lengths of the charges, lines, shares and deviations that program `settled` lends, if not told
+# The lengths of the lines, charges, finals, shares and deviations that program `settled` lends, if not told
 # otherwise; and what it lays in each place before settling, to show which places settling writes.
-USUAL_LENGTHS = (32, 32, 250, 250)
+USUAL_LENGTHS = (32, 32, 32, 250, 250)
 UNTOUCHED = 77
 
 # The blocks whose bodies it asks for: all that a file can have, the first that none has, and two so far
@@ -41,11 +41,11 @@ BLOCKS_ASKED_FOR = (*range(MOST_BLOCKS + 1), 2**55, 2**64 - 1)
 GENERATOR, REAL_TIME_LOAD, PROFILE_LOAD, IMPORT, EXPORT = 1, 2, 3, 4, 5
 LOADS = (REAL_TIME_LOAD, PROFILE_LOAD)
 
-Answer = namedtuple("Answer", "number place ufe charges shares deviations lines")
+Answer = namedtuple("Answer", "number place ufe charges finals shares deviations lines")
 
 
 class Refused(Exception):
-    """A row of document 01's refusal table: its number and its place."""
+    """A row of the refusal table, document 01's or one that document 02 adds: its number and its place."""
 
     def __init__(self, number, place=0):
         super().__init__(f"refused {number} at {place}")
@@ -251,24 +251,24 @@ def unaccounted_energy(hour, area):
     return units(Fraction(ties["in"] - ties["out"] + generated - demand(hour, area)) - losses)
 
 
-def exact_shares(demands, ufe):
-    """Each demand's fraction of the UFE, before any rounding."""
+def exact_shares(demands, shared):
+    """Each demand's fraction of what is shared, before any rounding."""
     whole = sum(demands)
-    return [Fraction(each * ufe, whole) if whole else Fraction(0) for each in demands]
+    return [Fraction(each * shared, whole) if whole else Fraction(0) for each in demands]
 
 
-def shares_of(demands, ufe):
-    """The UFE in whole units: what is left after the whole parts goes, one unit each, to the largest
-    remainders, on equal remainders to the earlier demand."""
-    exact = [abs(share) for share in exact_shares(demands, ufe)]
+def shares_of(demands, shared):
+    """A UFE in whole units, or N in whole cents: what is left after the whole parts goes, one each, to the
+    largest remainders, on equal remainders to the earlier demand."""
+    exact = [abs(share) for share in exact_shares(demands, shared)]
     sizes = [int(share) for share in exact]
     remainders = [share - size for share, size in zip(exact, sizes)]
-    left = abs(ufe) - sum(sizes) if sum(demands) else 0
+    left = abs(shared) - sum(sizes) if sum(demands) else 0
     # sorted keeps the order of equals, and reverse does not change that
     by_remainder = sorted(range(len(demands)), key=remainders.__getitem__, reverse=True)
     for place in by_remainder[:left]:
         sizes[place] += 1
-    return [-size if ufe < 0 else size for size in sizes]
+    return [-size if shared < 0 else size for size in sizes]
 
 
 def share_out(hour, ufe, sharing=shares_of):
@@ -300,8 +300,23 @@ def cents(grains):
     return -size if grains < 0 else size
 
 
-def work_out(hour):
-    """All figures of an hour, or refusals 6 and 7."""
+def member_demands(hour):
+    """What each member's loads took, in all areas, in kWh (document 02, A1)."""
+    return [sum(r["A"] for r in hour["records"] if r["member"] == member and r["kind"] in LOADS)
+            for member in range(hour["members"])]
+
+
+def finals_of(charges, demands):
+    """What each member pays once the sum of all charges is shared out too (document 02, A1); or refusal 12
+    where nobody's demand can carry it."""
+    neutrality = sum(charges)
+    if neutrality != 0 and not any(demands):
+        raise Refused(12)
+    return [charge - share for charge, share in zip(charges, shares_of(demands, neutrality))]
+
+
+def work_out_charges(hour):
+    """The figures of an hour up to the charges, or refusals 6 and 7."""
     ufe = [unaccounted_energy(hour, area) for area in range(len(hour["areas"]))]
     for area, energy in enumerate(ufe):
         if energy != 0 and demand(hour, area) == 0:
@@ -316,7 +331,13 @@ def work_out(hour):
             "charges": [cents(amount) for amount in amounts]}
 
 
-# ---- Settling into lent buffers (document 01, "The sums" and "Refusal numbers and their order")
+def work_out(hour):
+    """All figures of an hour, or refusals 6, 7 and 12."""
+    figures = work_out_charges(hour)
+    return {**figures, "finals": finals_of(figures["charges"], member_demands(hour))}
+
+
+# ---- Settling into lent buffers (document 01, "The sums" and "Refusal numbers and their order"; document 02, A1)
 
 def written_over(figures, buffer):
     """The figures in the first places of a buffer; the places past them stay as they were."""
@@ -324,24 +345,24 @@ def written_over(figures, buffer):
 
 
 def settle(data, lengths=USUAL_LENGTHS):
-    """What settling answers, and every buffer afterwards. `lengths` are those of the charges, lines,
+    """What settling answers, and every buffer afterwards. `lengths` are those of the lines, charges, finals,
     shares and deviations; every number in them is 77 before."""
-    charges, lines, shares, deviations = (
-        [before] * length
-        for before, length in zip((UNTOUCHED, (UNTOUCHED, UNTOUCHED), UNTOUCHED, UNTOUCHED), lengths))
+    lines = [(UNTOUCHED, UNTOUCHED)] * lengths[0]
+    charges, finals, shares, deviations = ([UNTOUCHED] * length for length in lengths[1:])
     no_ufe = [0] * UFE_FIGURES
     try:
         hour = read_hour(data)
         figures = work_out(hour)
         members, records = hour["members"], len(hour["records"])
-        if min(len(charges), len(lines)) < members or min(len(shares), len(deviations)) < records:
+        if min(len(lines), len(charges), len(finals)) < members or min(len(shares), len(deviations)) < records:
             raise Refused(11)
     except Refused as refused:
-        return Answer(refused.number, refused.place, no_ufe, charges, shares, deviations, lines)
+        return Answer(refused.number, refused.place, no_ufe, charges, finals, shares, deviations, lines)
     posted = [sum(r["member"] == member for r in hour["records"]) for member in range(members)]
     return Answer(0, 0,
                   written_over(figures["ufe"], no_ufe),
                   written_over(figures["charges"], charges),
+                  written_over(figures["finals"], finals),
                   written_over(figures["shares"], shares),
                   written_over(figures["deviations"], deviations),
                   written_over(list(zip(figures["amounts"], posted)), lines))
@@ -378,18 +399,24 @@ def read_amount(field):
 # ---- What the programs print
 
 def statement(data):
-    """Document 01, "The printed statement"."""
+    """Document 01, "The printed statement"; the second column is document 02's, A1."""
     try:
         hour = read_hour(data)
-        charges = work_out(hour)["charges"]
+        figures = work_out(hour)
     except Refused as refused:
         return b"refused %d at %d\n" % (refused.number, refused.place)
     text = b"hour %d members %d records %d\n" % (hour["number"], hour["members"], len(hour["records"]))
-    for member, charge in enumerate(charges):
-        number, field = write_amount(charge, CHARGE_COLUMNS)
-        assert number == 0, "4 x 10^18 grains are 4 x 10^11 cents, which fit 14 columns"
-        text += b"%02d %s\n" % (member, field)
+    for member, (charge, final) in enumerate(zip(figures["charges"], figures["finals"])):
+        text += b"%02d %s %s\n" % (member, column(charge), column(final))
     return text
+
+
+def column(cents):
+    """An amount as the statement has it. All members' amounts together come to less than 4 x 10^18 grains
+    (tests/hours.py), so a charge and a share of N are at most 4 x 10^11 cents each, and a final fits 14 columns."""
+    number, field = write_amount(cents, AMOUNT_COLUMNS)
+    assert number == 0
+    return field
 
 
 def settled(data, lengths=()):
@@ -400,6 +427,7 @@ def settled(data, lengths=()):
     rows = [["answer", answer.number, "at", answer.place],
             ["ufe", *answer.ufe],
             ["charges", *answer.charges],
+            ["finals", *answer.finals],
             ["shares", *answer.shares],
             ["deviations", *answer.deviations],
             ["lines", *(f"{amount}:{records}" for amount, records in answer.lines)],
@@ -470,7 +498,7 @@ PRINTED = {"statement": statement, "settled": settled, "amounts": amounts}
 
 
 def main(name="", *lengths):
-    if len(lengths) > {"statement": 0, "settled": 4, "amounts": 0}.get(name, -1):
+    if len(lengths) > {"statement": 0, "settled": 5, "amounts": 0}.get(name, -1):
         sys.exit(__doc__)
     words = [[int(length) for length in lengths]] if lengths else []
     sys.stdout.buffer.write(PRINTED[name](sys.stdin.buffer.read(), *words))

@@ -2,7 +2,8 @@
 
     python3 -m unittest tests/test_known.py       # `statement` from target/bin; the programs of tests/archive are made
 
-The files of tests/known.py, the printed case in buffers of several lengths, and text amounts, document 01's figures among them.
+The files of tests/known.py, the printed case and an hour with finals of its own in buffers of several lengths, and text amounts, document
+01's figures among them.
 """
 
 import sys
@@ -14,7 +15,9 @@ sys.path.insert(0, str(HERE))
 import known  # noqa: E402
 import programs  # noqa: E402
 
-PRINTED = (HERE.parent / "examples" / "printed.hour").read_bytes()
+EXAMPLES = HERE.parent / "examples"
+PRINTED = (EXAMPLES / "printed.hour").read_bytes()
+NEUTRALITY = (EXAMPLES / "neutrality.hour").read_bytes()
 COMMANDS = {}
 
 
@@ -44,29 +47,55 @@ class Files(unittest.TestCase):
 
 
 class Buffers(unittest.TestCase):
-    """The printed case. Places past the hour's members and records, and all where a buffer is a place short, are what they were."""
+    """Places past the hour's members and records, and all where the hour is refused, are what they were."""
 
     BODIES = "bodies 32:480 544:480" + " 0:0" * 27 + "\n"
 
-    def settled(self, charges, lines, shares, deviations):
+    def settled(self, lines, charges, finals, shares, deviations):
         """What must be printed of buffers that hold this."""
-        return (f"charges{charges}\nshares{shares}\ndeviations{deviations}\nlines{lines}\n" + self.BODIES)
+        return (f"charges{charges}\nfinals{finals}\nshares{shares}\ndeviations{deviations}\nlines{lines}\n" + self.BODIES)
+
+    def untouched(self, number, lengths):
+        lines, *others = lengths
+        return f"answer {number} at 0\nufe 0 0 0 0 0 0 0 0\n" + self.settled(" 77:77" * lines, *(" 77" * length for length in others))
 
     def test_usual_lengths(self):
         self.assertEqual(printed_by("settled", PRINTED), "answer 0 at 0\nufe 300000 0 0 0 0 0 0 0\n" + self.settled(
-            " 500 -500" + " 77" * 30, " 5000000000:1 -5000000000:1" + " 77:77" * 30,
+            " 5000000000:1 -5000000000:1" + " 77:77" * 30, " 500 -500" + " 77" * 30, " 500 -500" + " 77" * 30,
             " 0 300000" + " 77" * 248, " 1000000 1300000" + " 77" * 248))
 
     def test_just_long_enough(self):
-        self.assertEqual(printed_by("settled", PRINTED, 2, 2, 2, 2), "answer 0 at 0\nufe 300000 0 0 0 0 0 0 0\n" + self.settled(
-            " 500 -500", " 5000000000:1 -5000000000:1", " 0 300000", " 1000000 1300000"))
+        self.assertEqual(printed_by("settled", PRINTED, 2, 2, 2, 2, 2), "answer 0 at 0\nufe 300000 0 0 0 0 0 0 0\n" + self.settled(
+            " 5000000000:1 -5000000000:1", " 500 -500", " 500 -500", " 0 300000", " 1000000 1300000"))
+
+    def test_finals_that_are_not_the_charges(self):
+        """Worked by hand in examples/neutrality.md; the finals have two places more than the members."""
+        self.assertEqual(printed_by("settled", NEUTRALITY, 4, 4, 6, 5, 5), "answer 0 at 0\nufe 0 0 0 0 0 0 0 0\n" + self.settled(
+            " 200000000:1 -100000000:2 -20000000:1 0:1", " 20 -10 -2 0", " 20 -14 -5 -1 77 77", " 0 0 0 0 0",
+            " 200000 20000 0 100000 0"))
 
     def test_a_place_short(self):
-        for lengths in ((1, 2, 2, 2), (2, 1, 2, 2), (2, 2, 1, 2), (2, 2, 2, 1)):
+        for short in range(5):
+            lengths = [1 if place == short else 2 for place in range(5)]
             with self.subTest(lengths):
-                charges, lines, shares, deviations = lengths
-                self.assertEqual(printed_by("settled", PRINTED, *lengths), "answer 11 at 0\nufe 0 0 0 0 0 0 0 0\n" + self.settled(
-                    " 77" * charges, " 77:77" * lines, " 77" * shares, " 77" * deviations))
+                self.assertEqual(printed_by("settled", PRINTED, *lengths), self.untouched(11, lengths))
+
+    def test_no_demand_goes_before_short_buffers(self):
+        data = known.idle_hour(1_000, (1, 1)).encode()
+        for lengths in ((32, 32, 32, 250, 250), (3, 3, 3, 1, 1), (3, 3, 2, 1, 1), (2, 3, 3, 1, 1), (0, 0, 0, 0, 0)):
+            with self.subTest(lengths):
+                self.assertEqual(printed_by("settled", data, *lengths), self.untouched(12, lengths))
+
+
+class Statements(unittest.TestCase):
+    """The second column: document 02's printed case, and an hour that is worked by hand in examples/neutrality.md."""
+
+    def test_finals(self):
+        self.assertEqual(printed_by("statement", PRINTED), "hour 7 members 2 records 2\n"
+                         "00          +5.00          +5.00\n01          -5.00          -5.00\n")
+        self.assertEqual(printed_by("statement", NEUTRALITY), "hour 1402 members 4 records 5\n"
+                         "00          +0.20          +0.20\n01          -0.10          -0.14\n"
+                         "02          -0.02          -0.05\n03          +0.00          -0.01\n")
 
 
 class Amounts(unittest.TestCase):

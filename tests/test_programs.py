@@ -70,6 +70,8 @@ class CannotWrite(unittest.TestCase):
 class LengthsAndPrices(unittest.TestCase):
     """Document 01, "Figures to check by": the last of them, settled by the program that people run."""
 
+    NOTHING = "00          +0.00          +0.00\n"
+
     def statement(self, price, records):
         """What is printed of an hour of one member and so many loads that are all zero, and the hour's length."""
         loads = [hours.record(hours.REAL_TIME_LOAD, 0, 0)] * records
@@ -77,16 +79,16 @@ class LengthsAndPrices(unittest.TestCase):
         return len(data), programs.run(programs.command("statement"), data).decode()
 
     def test_lengths(self):
-        self.assertEqual(self.statement(5_000, 250), (13_312, "hour 7 members 1 records 250\n00          +0.00\n"))
+        self.assertEqual(self.statement(5_000, 250), (13_312, "hour 7 members 1 records 250\n" + self.NOTHING))
         self.assertEqual(self.statement(5_000, 260), (13_824, "refused 1 at 0\n"))
 
     def test_prices(self):
-        self.assertEqual(self.statement(1_000_000, 0), (512, "hour 7 members 1 records 0\n00          +0.00\n"))
+        self.assertEqual(self.statement(1_000_000, 0), (512, "hour 7 members 1 records 0\n" + self.NOTHING))
         self.assertEqual(self.statement(1_000_001, 0), (512, "refused 4 at 12\n"))
 
 
 class Settle(unittest.TestCase):
-    STATEMENT = "hour 7 members 2 records 2\n00          +5.00\n01          -5.00\n"
+    STATEMENT = "hour 7 members 2 records 2\n00          +5.00          +5.00\n01          -5.00          -5.00\n"
 
     def settle(self, *words, **streams):
         return ended([ROOT / "settle", *words], **streams)

@@ -3,7 +3,7 @@
     python3 -m unittest tests/test_second.py
 
 Document 01's own figures and printed case, every refusal, text amounts, the three bounds of demand 3 with
-exact fractions, and that tests/compare notices a wrong program.
+exact fractions, document 02's finals, and that tests/compare notices a wrong program.
 """
 
 import contextlib
@@ -120,21 +120,23 @@ class Figures(unittest.TestCase):
 class PrintedCase(unittest.TestCase):
     def test_statement(self):
         self.assertEqual(second.statement(hours.printed_case().encode()),
-                         b"hour 7 members 2 records 2\n00          +5.00\n01          -5.00\n")
+                         b"hour 7 members 2 records 2\n"
+                         b"00          +5.00          +5.00\n01          -5.00          -5.00\n")
 
     def test_settled(self):
-        self.assertEqual(second.settled(hours.printed_case().encode(), [3, 2, 4, 3]).decode(),
+        self.assertEqual(second.settled(hours.printed_case().encode(), [2, 3, 4, 4, 3]).decode(),
                          "answer 0 at 0\n"
                          "ufe 300000 0 0 0 0 0 0 0\n"
                          "charges 500 -500 77\n"
+                         "finals 500 -500 77 77\n"
                          "shares 0 300000 77 77\n"
                          "deviations 1000000 1300000 77\n"
                          "lines 5000000000:1 -5000000000:1\n"
                          "bodies 32:480 544:480" + " 0:0" * 27 + "\n")
 
     def test_settled_of_a_refusal(self):
-        self.assertEqual(second.settled(b"", [1, 2, 0, 1]).decode(),
-                         "answer 1 at 0\nufe 0 0 0 0 0 0 0 0\ncharges 77\nshares\ndeviations 77\n"
+        self.assertEqual(second.settled(b"", [2, 1, 3, 0, 1]).decode(),
+                         "answer 1 at 0\nufe 0 0 0 0 0 0 0 0\ncharges 77\nfinals 77 77 77\nshares\ndeviations 77\n"
                          "lines 77:77 77:77\nbodies" + " 0:0" * 29 + "\n")
 
     def test_as_a_command(self):
@@ -147,7 +149,7 @@ class PrintedCase(unittest.TestCase):
 
 
 class Refusals(unittest.TestCase):
-    """Document 01, "Refusal numbers and their order"."""
+    """Document 01, "Refusal numbers and their order"; document 02, A1."""
 
     def test_each_fault_alone_is_refused_with_its_number_and_place(self):
         for fault in hours.FAULTS + hours.LONE_FAULTS:
@@ -172,7 +174,7 @@ class Refusals(unittest.TestCase):
             hours.mend(block)
         blocks[1][7] ^= 1                  # 2 at block 1
         data = hours.to_bytes(blocks)
-        short = (1, 1, 1, 1)
+        short = (1, 1, 1, 1, 1)
         self.assertEqual(answer(data + b"\0", short), (1, 0))
         self.assertEqual(answer(data, short), (2, 1))
         blocks[1][7] ^= 1
@@ -184,6 +186,8 @@ class Refusals(unittest.TestCase):
         hours.mend(blocks[0])
         self.assertEqual(answer(hours.to_bytes(blocks), short), (5, 1))
         self.assertEqual(answer(hour, short), (6, 0))
+        hour.areas[0][2] = 905             # what came in and what was generated leaves
+        self.assertEqual(answer(hour, short), (12, 0))
         hour.records[1]["A"] = 870
         self.assertEqual(answer(hour, short), (11, 0))
         self.assertEqual(answer(hour), (0, 0))
@@ -209,20 +213,20 @@ class Refusals(unittest.TestCase):
 
     def test_short_buffers(self):
         data = Hour(1, 3, [1], [[0, 0, 0]], [record(EXPORT, 0, 0)] * 5).encode()
-        self.assertEqual(answer(data, (3, 3, 5, 5)), (0, 0))
-        for short in ((2, 3, 5, 5), (3, 2, 5, 5), (3, 3, 4, 5), (3, 3, 5, 4), (0, 0, 0, 0)):
+        self.assertEqual(answer(data, (3, 3, 3, 5, 5)), (0, 0))
+        for short in ((2, 3, 3, 5, 5), (3, 2, 3, 5, 5), (3, 3, 2, 5, 5), (3, 3, 3, 4, 5), (3, 3, 3, 5, 4), (0, 0, 0, 0, 0)):
             settled = second.settle(data, short)
             self.assertEqual(settled[:3], (11, 0, [0] * 8))
-            self.assertEqual(settled.charges + settled.shares + settled.deviations,
-                             [77] * (short[0] + short[2] + short[3]))
-            self.assertEqual(settled.lines, [(77, 77)] * short[1])
+            self.assertEqual([settled.charges, settled.finals, settled.shares, settled.deviations],
+                             [[77] * length for length in short[1:]])
+            self.assertEqual(settled.lines, [(77, 77)] * short[0])
 
     def test_a_refusal_changes_nothing(self):
         for index in range(200):
             made = hours.made("refused", index)
             settled = second.settle(made.data)
             if settled.number:
-                self.assertEqual(settled[2:], ([0] * 8, [77] * 32, [77] * 250, [77] * 250, [(77, 77)] * 32))
+                self.assertEqual(settled[2:], ([0] * 8, [77] * 32, [77] * 32, [77] * 250, [77] * 250, [(77, 77)] * 32))
 
     def test_every_word_of_a_small_file_is_looked_at(self):
         """One more is accepted in the words that hold a figure with room above it, and in no other."""
@@ -251,6 +255,10 @@ class Refusals(unittest.TestCase):
             self.assertEqual(answer(hours.printed_case()), (0, 0))
         with mock.patch.object(second, "MOST_GRAINS", 4_999_999_999):
             self.assertEqual(answer(hours.printed_case()), (7, 0))
+        nobody_demands = Hour(1, 2, [1_000], [[0, 0, 0]], [record(EXPORT, 1, 0, A=1)])
+        self.assertEqual(answer(nobody_demands), (12, 0))
+        with mock.patch.object(second, "MOST_GRAINS", 9_999_999):
+            self.assertEqual(answer(nobody_demands), (7, 1))
 
 
 class TextAmounts(unittest.TestCase):
@@ -347,6 +355,64 @@ class DemandThree(unittest.TestCase):
                              half_cent * hour["members"])
 
 
+class Finals(unittest.TestCase):
+    """Document 02, A1."""
+
+    def test_by_hand(self):
+        for charges, demands, finals in (
+                ([500, -500], [0, 870], [500, -500]),                 # the printed case: N is 0
+                ([20, -10, -2, 0], [0, 300, 300, 100], [20, -14, -5, -1]),  # examples/neutrality.md
+                ([10, 0, 0], [1, 1, 1], [6, -3, -3]),                 # shares 4, 3, 3: the first of equal remainders
+                ([0, 0, -10], [1, 1, 1], [4, 3, -7]),                 # shares -4, -3, -3
+                ([5, 0], [2, 1], [2, -2]),                            # shares 3, 2: the larger remainder
+                ([7, 0], [0, 5], [7, -7]),                            # who demands nothing gets nothing
+                ([1], [9], [0]),
+                ([4, -4, 0], [0, 0, 0], [4, -4, 0])):                 # nobody demands anything, and N is 0
+            self.assertEqual(second.finals_of(charges, demands), finals)
+            self.assertEqual(sum(finals), 0)
+
+    def test_no_demand(self):
+        for charges in ([1], [-1], [0, 3], [1, 1, -1]):
+            with self.assertRaises(second.Refused) as refused:
+                second.finals_of(charges, [0] * len(charges))
+            self.assertEqual((refused.exception.number, refused.exception.place), (12, 0))
+
+    def test_demand_is_of_all_loads_in_all_areas(self):
+        hour = Hour(1, 3, [1], [[0, 0, 0]] * 3, [
+            record(REAL_TIME_LOAD, 1, 0, A=5), record(PROFILE_LOAD, 1, 2, A=7), record(REAL_TIME_LOAD, 0, 1, S=9, A=1, J=4),
+            record(GENERATOR, 0, 0, A=100, F=1, H=1), record(IMPORT, 1, 0, A=100, F=1, H=1), record(EXPORT, 2, 0, A=100)])
+        self.assertEqual(second.member_demands(second.read_hour(hour.encode())), [1, 12, 0])
+
+    def test_bounds(self):
+        """All finals add up to exactly 0, and each share is less than a cent from its fraction; the products stay below 10^19."""
+        index = shared = 0
+        while shared < 200:
+            made = hours.made("finals", index)
+            index += 1
+            settled = second.settle(made.data)
+            if settled.number:
+                continue
+            hour = second.read_hour(made.data)
+            charges, finals = settled.charges[:hour["members"]], settled.finals[:hour["members"]]
+            demands, neutrality = second.member_demands(hour), sum(charges)
+            self.assertEqual(sum(finals), 0)
+            shared += neutrality != 0
+            for charge, final, demand in zip(charges, finals, demands):
+                exact = Fraction(demand * neutrality, sum(demands)) if neutrality else 0
+                self.assertLess(abs(charge - final - exact), 1)
+                self.assertLess(demand * abs(neutrality), 10**19)
+
+    def test_the_largest_products(self):
+        """The bound on N that tests/hours.py works out, times all the demand there can be; and what was thought of."""
+        most = (10**6 * (250 * 9 * 10**9 + 8 * 10**11 + 250 * 2 * 10**9) + 32 * 5 * 10**6) // 10**7
+        self.assertLess(25_000_000 * most, 10**19)
+        self.assertLess(2 * most, second.MOST_CENTS)
+        for turn in range(8):
+            hour = second.read_hour(hours.largest_products(random.Random(turn)).encode())
+            neutrality = abs(sum(second.work_out(hour)["charges"]))
+            self.assertGreater(max(second.member_demands(hour)) * neutrality, 10**18)
+
+
 class MadeHours(unittest.TestCase):
     """The maker says what it made, and its hours reach what they are made for."""
 
@@ -384,6 +450,27 @@ class MadeHours(unittest.TestCase):
             settled = second.settle(hours.halves(random.Random(turn)).encode())
             exact += sum(abs(amount) % 10**7 == 5 * 10**6 for amount, _ in settled.lines)
         self.assertGreater(exact, 50)
+
+    def test_cents_left_over(self):
+        """Often the earlier of members with equal remainders gets a cent, and members are without demand beside others."""
+        decided = without = 0
+        for turn in range(60):
+            hour = second.read_hour(hours.cents_left_over(random.Random(turn)).encode())
+            demands, neutrality = second.member_demands(hour), sum(second.work_out(hour)["charges"])
+            decided += compare.left_over(demands, abs(neutrality))[1]
+            without += not all(demands)
+        self.assertGreater(decided, 30)
+        self.assertGreater(without, 10)
+
+    def test_hours_without_demand(self):
+        """Each maker's hours have no demand, and the charges that it is named for."""
+        for maker in hours.NO_DEMAND_AND_NO_N + hours.NO_DEMAND_FOR_N:
+            for turn in range(20):
+                hour = second.read_hour(maker(random.Random(turn)).encode())
+                charges = second.work_out_charges(hour)["charges"]
+                self.assertEqual(second.member_demands(hour), [0] * hour["members"], maker.__name__)
+                self.assertEqual(sum(charges) != 0, maker in hours.NO_DEMAND_FOR_N, maker.__name__)
+                self.assertEqual(any(charges), maker not in (hours.exports_as_planned, hours.under_half_a_cent, hours.price_of_nothing))
 
     def test_both_unavailable_terms_are_at_work(self):
         generators = loads = 0
@@ -426,19 +513,58 @@ HOUR_SLIPS = {
     "import's ancillary energy subtracted": ('multiplier(r["H"]) + r["N"]', 'multiplier(r["H"]) - r["N"]'),
     "export's adjustment added": ('r["S"] - r["A"] - r["J"]', 'r["S"] - r["A"] + r["J"]'),
     "price of another zone": ('["areas"][area]["zone"]]', '["areas"][area]["zone"] - 1]'),
-    "share of a negative UFE positive": ("[-size if ufe < 0 else size for size in sizes]", "sizes"),
+    "share of a negative UFE positive": ("[-size if shared < 0 else size for size in sizes]", "sizes"),
     "tie out left out": ('ties["in"] - ties["out"]', 'ties["in"]'),
     "layout before sums": (
         "    check_sums(blocks)\n    check_layout(blocks)", "    check_layout(blocks)\n    check_sums(blocks)"),
     "sums without their highest bit": ("sum(block) % 2**32", "sum(block) % 2**31"),
     "no refusal 6": ("energy != 0 and demand(hour, area) == 0", "False"),
-    "charges short by one": ("min(len(charges), len(lines)) <", "min(len(charges) + 1, len(lines)) <"),
-    "lines short by one": ("min(len(charges), len(lines)) <", "min(len(charges), len(lines) + 1) <"),
+    "lines short by one": ("min(len(lines), len(charges)", "min(len(lines) + 1, len(charges)"),
+    "charges short by one": ("min(len(lines), len(charges)", "min(len(lines), len(charges) + 1"),
+    "finals short by one": ("len(finals)) <", "len(finals) + 1) <"),
     "shares short by one": ("min(len(shares), len(deviations)) <", "min(len(shares) + 1, len(deviations)) <"),
     "deviations short by one": ("min(len(shares), len(deviations)) <", "min(len(shares), len(deviations) + 1) <"),
     "record count of the next member": ('r["member"] == member for r', 'r["member"] == member + 1 for r'),
     "an invented record count": ('hour["members"], len(hour["records"]))\n    for', 'hour["members"], 2)\n    for'),
 }
+
+# The finals of document 02, A1.
+HOUR_SLIPS.update({
+    "share of N added": ("[charge - share for", "[charge + share for"),
+    "share of N with the other sign where N is negative": ("shares_of(demands, neutrality)", "shares_of(demands, abs(neutrality))"),
+    "demand of area 0 only": (
+        'r["member"] == member and r["kind"] in LOADS', 'r["member"] == member and r["kind"] in LOADS and r["area"] == 0'),
+    "demand of kind 2 only": (
+        'r["member"] == member and r["kind"] in LOADS', 'r["member"] == member and r["kind"] == REAL_TIME_LOAD'),
+    "demand of kind 3 only": (
+        'r["member"] == member and r["kind"] in LOADS', 'r["member"] == member and r["kind"] == PROFILE_LOAD'),
+    "demand of all kinds": ('r["member"] == member and r["kind"] in LOADS', 'r["member"] == member'),
+    "demand as scheduled": ('sum(r["A"] for r in hour["records"]', 'sum(r["S"] for r in hour["records"]'),
+    "cents left over dropped": (
+        "shares_of(demands, neutrality)", "[int(share) for share in exact_shares(demands, neutrality)]"),
+    "cents left over to the last member": (
+        "shares_of(demands, neutrality)",
+        "(lambda s: s[:-1] + [s[-1] + neutrality - sum(s)])([int(share) for share in exact_shares(demands, neutrality)])"),
+    "cent to the later of equal members": (
+        "shares_of(demands, neutrality)", "reversed(shares_of(demands[::-1], neutrality))"),
+    "N shared by head": ("shares_of(demands, neutrality)", "shares_of([1] * len(demands), neutrality)"),
+    "N of the exact amounts": (
+        'finals_of(figures["charges"], member_demands(hour))',
+        'finals_of(figures["charges"], member_demands(hour), cents(sum(figures["amounts"])))',
+        "def finals_of(charges, demands):", "def finals_of(charges, demands, neutrality):",
+        "    neutrality = sum(charges)\n", ""),
+    "12 where N is 0": ("neutrality != 0 and not any(demands)", "any(charges) and not any(demands)"),
+    "12 wherever nobody demands": ("neutrality != 0 and not any(demands)", "not any(demands)"),
+    "12 where somebody demands nothing": ("not any(demands)", "not all(demands)"),
+    "no refusal 12": ("neutrality != 0 and not any(demands)", "False"),
+    "12 before 6": ("raise Refused(6, area)", "raise Refused(6, area) if any(member_demands(hour)) else Refused(12)"),
+    "12 after 11": (
+        "        figures = work_out(hour)\n        members, records", "        members, records",
+        "            raise Refused(11)\n", "            raise Refused(11)\n        figures = work_out(hour)\n"),
+    "charges in the second column": ("column(charge), column(final)", "column(charge), column(charge)"),
+    "finals in the first column": ("column(charge), column(final)", "column(final), column(charge)"),
+    "no blank between the columns": ('b"%02d %s %s', 'b"%02d %s%s'),
+})
 
 # A refusal that names the last such place in place of the first.
 HOUR_SLIPS.update({
@@ -598,7 +724,9 @@ class Noticing(unittest.TestCase):
                 mock.patch.object(hours, "ROUND", only):
             status, said = self.run_compare("--hours", 500, "--programs", folder)
             self.assertEqual(status, 1)
-            self.assertIn("never answered in 500 hours: refused 1, refused 2, refused 3, refused 4, refused 5, refused 6\n", said)
+            self.assertIn("never occurred in 500 hours: refused 1; refused 2; refused 3; refused 4; refused 5; refused 6; refused 12; "
+                          "12, one record; 12, several members charged; 12, exact amounts that cancel; 12, a buffer too short as well; "
+                          "no demand, ", said)
 
     @staticmethod
     def wrong_program(name):
@@ -654,30 +782,37 @@ class Pages(unittest.TestCase):
             page = (ROOT / "examples" / f"{name}.md").read_text()
             self.assertEqual(data, hour().encode(), "python3 examples/make.py writes the hours")
             self.assertTrue(page.endswith(f"```\n{second.statement(data).decode()}```\n"), name)
-            settled = second.settle(data, (5, 5, 8, 8))
+            settled = second.settle(data, (5, 5, 5, 8, 8))
             amounts = [amount for amount, _ in settled.lines]
-            for figure in settled.ufe + settled.deviations + settled.shares + amounts + settled.charges:
+            for figure in settled.ufe + settled.deviations + settled.shares + amounts + settled.charges + settled.finals:
                 if figure != second.UNTOUCHED:
                     self.assertIn(self.printed(figure), page, name)
 
     def test_the_example_in_c(self):
         """What examples/c/check expects, and the example's page."""
         folder = ROOT / "examples" / "c"
-        for name in ("printed", "two-zones", "left-over"):
+        for name in load_script(ROOT / "examples" / "make.py").EXAMPLES:
             settled = second.settle((ROOT / "examples" / f"{name}.hour").read_bytes())
             text = f"answer {settled.number} at {settled.place}\n"
-            for member, ((amount, records), charge) in enumerate(zip(settled.lines, settled.charges)):
+            for member, ((amount, records), *cents) in enumerate(zip(settled.lines, settled.charges, settled.finals)):
                 if (amount, records) != (second.UNTOUCHED, second.UNTOUCHED):
-                    field = second.write_amount(charge, 14)[1].decode()
-                    text += f"member {member} records {records} grains {amount} charge {field}\n"
+                    charge, final = (second.column(each).decode() for each in cents)
+                    text += f"member {member} records {records} grains {amount} charge {charge} final {final}\n"
             self.assertEqual((folder / "expected" / f"{name}.txt").read_text(), text)
         printed = (folder / "expected" / "printed.txt").read_text()
         self.assertIn("".join(f"    {line}\n" for line in printed.splitlines()), (folder / "README.md").read_text())
 
-    def test_the_refusal_that_an_example_tells_of(self):
-        hour = load_script(ROOT / "examples" / "make.py").two_zones()
+    def test_the_refusals_that_examples_tell_of(self):
+        make = load_script(ROOT / "examples" / "make.py")
+        hour = make.two_zones()
         hour.areas[2] = [1, 700, 699]
         self.assertEqual(answer(hour), (6, 2))
+        hour = make.neutrality()
+        hour.areas = [[0, 0, 700], [0, 0, 0]]
+        for load in hour.records[1:]:
+            load["A"] = 0
+        self.assertEqual(answer(hour), (12, 0))
+        self.assertEqual(second.work_out_charges(second.read_hour(hour.encode()))["charges"], [20, -310, -302, -100])
 
     def test_change_a_byte(self):
         """Each row of the table in examples/printed.md, done to a copy in turn."""
@@ -696,6 +831,10 @@ class Pages(unittest.TestCase):
             at = int(place, 16)
             data[at:at + 16] = bytes.fromhex(line)
         self.assertEqual(bytes(data), (ROOT / "examples" / "printed.hour").read_bytes())
+
+    def test_the_statement_of_the_format(self):
+        statement = second.statement((ROOT / "examples" / "neutrality.hour").read_bytes()).decode()
+        self.assertIn(f"```\n{statement}```\n", (ROOT / "docs" / "FORMAT.md").read_text())
 
     def test_stored_amounts(self):
         folder = HERE / "archive"

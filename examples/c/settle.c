@@ -1,7 +1,8 @@
 /* Settles an hour through the C library:   settle [FILE]   without a file's name it reads standard input.
  *
- * Prints the answer's number and place, then for an accepted hour a line for each member: its records, its exact amount in grains and its
- * charge. Exits with 0 where the hour is accepted, 1 where it is refused, 2 where it can't be read or the result can't be printed. */
+ * Prints the answer's number and place, then for an accepted hour a line for each member: its records, its exact amount in grains, its
+ * charge and its final amount. Exits with 0 where the hour is accepted, 1 where it is refused, 2 where it can't be read or the result
+ * can't be printed. */
 #include <stdint.h>
 #include <stdio.h>
 
@@ -37,22 +38,29 @@ static size_t members(const uint8_t *file, size_t length)
     return word[0] + ((size_t)word[1] << 8) + ((size_t)word[2] << 16) + ((size_t)word[3] << 24);
 }
 
-static void print_member(size_t member, sneupelaar_line line, int64_t charge)
+static void print_cents(const char *name, int64_t cents)
 {
     uint8_t field[14];
-    sneupelaar_answer written = sneupelaar_write(charge, field, sizeof field);
-    printf("member %zu records %u grains %lld charge ", member, (unsigned)line.records, (long long)line.amount);
+    sneupelaar_answer written = sneupelaar_write(cents, field, sizeof field);
     if (written.number == 0)
-        printf("%.*s\n", (int)sizeof field, (const char *)field);
+        printf(" %s %.*s", name, (int)sizeof field, (const char *)field);
     else
-        printf("refused %llu\n", (unsigned long long)written.number);
+        printf(" %s refused %llu", name, (unsigned long long)written.number);
+}
+
+static void print_member(size_t member, sneupelaar_line line, int64_t charge, int64_t final)
+{
+    printf("member %zu records %u grains %lld", member, (unsigned)line.records, (long long)line.amount);
+    print_cents("charge", charge);
+    print_cents("final", final);
+    printf("\n");
 }
 
 int main(int count, char **words)
 {
     static uint8_t file[ROOM];
     static sneupelaar_line lines[SNEUPELAAR_MOST_MEMBERS];
-    static int64_t charges[SNEUPELAAR_MOST_MEMBERS];
+    static int64_t charges[SNEUPELAAR_MOST_MEMBERS], finals[SNEUPELAAR_MOST_MEMBERS];
     static int64_t shares[SNEUPELAAR_MOST_RECORDS], deviations[SNEUPELAAR_MOST_RECORDS];
     size_t length;
 
@@ -64,13 +72,13 @@ int main(int count, char **words)
         return FAILED;
 
     sneupelaar_settled settled =
-        sneupelaar_settle(file, length, lines, SNEUPELAAR_MOST_MEMBERS, charges, SNEUPELAAR_MOST_MEMBERS, shares,
-                          SNEUPELAAR_MOST_RECORDS, deviations, SNEUPELAAR_MOST_RECORDS);
+        sneupelaar_settle(file, length, lines, SNEUPELAAR_MOST_MEMBERS, charges, SNEUPELAAR_MOST_MEMBERS, finals,
+                          SNEUPELAAR_MOST_MEMBERS, shares, SNEUPELAAR_MOST_RECORDS, deviations, SNEUPELAAR_MOST_RECORDS);
 
     printf("answer %llu at %llu\n", (unsigned long long)settled.number, (unsigned long long)settled.place);
     if (settled.number == 0)
         for (size_t m = 0; m < members(file, length); m++)
-            print_member(m, lines[m], charges[m]);
+            print_member(m, lines[m], charges[m], finals[m]);
     if (fflush(stdout) != 0) {
         perror("standard output");
         return FAILED;

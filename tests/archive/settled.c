@@ -1,6 +1,6 @@
 /* settled.c: settles the hour on standard input through include/sneupelaar.h, and prints the answer, the UFE figures, every place of every
    buffer, and where the body of each block stands. Every place holds 77 before, so that one which was written, or was not, shows.
-     settled [CHARGES [LINES [SHARES [DEVIATIONS]]]]     the buffers' lengths; without them the buffers are long enough for any hour
+     settled [LINES [CHARGES [FINALS [SHARES [DEVIATIONS]]]]]     the buffers' lengths; without them the buffers are long enough for any hour
    tests/second.py prints the same. */
 #include <stdio.h>
 #include <stdlib.h>
@@ -12,7 +12,7 @@ enum { LINES = 40, RECORDS = 260, LAID = 77 };
 
 static uint8_t file[SNEUPELAAR_MOST_BYTES + 1]; /* a byte more than the longest, so that a longer input is seen */
 static sneupelaar_line lines[LINES];
-static int64_t charges[LINES], shares[RECORDS], deviations[RECORDS];
+static int64_t charges[LINES], finals[LINES], shares[RECORDS], deviations[RECORDS];
 
 /* The length that argument `at` names, or the usual one. */
 static size_t length(int count, char **words, int at, size_t usual, size_t most)
@@ -22,7 +22,7 @@ static size_t length(int count, char **words, int at, size_t usual, size_t most)
     char *end;
     size_t named = strtoul(words[at], &end, 10);
     if (end == words[at] || *end != '\0' || named > most)
-        fail("settled [CHARGES [LINES [SHARES [DEVIATIONS]]]]: at most 40, 40, 260 and 260");
+        fail("settled [LINES [CHARGES [FINALS [SHARES [DEVIATIONS]]]]]: at most 40, 40, 40, 260 and 260");
     return named;
 }
 
@@ -30,7 +30,7 @@ static void lay(void)
 {
     for (size_t at = 0; at < LINES; at++) {
         lines[at] = (sneupelaar_line){ LAID, LAID };
-        charges[at] = LAID;
+        charges[at] = finals[at] = LAID;
     }
     for (size_t at = 0; at < RECORDS; at++)
         shares[at] = deviations[at] = LAID;
@@ -71,17 +71,19 @@ static void print_bodies(size_t bytes)
 
 int main(int count, char **words)
 {
-    size_t charged = length(count, words, 1, SNEUPELAAR_MOST_MEMBERS, LINES);
-    size_t lined = length(count, words, 2, SNEUPELAAR_MOST_MEMBERS, LINES);
-    size_t shared = length(count, words, 3, SNEUPELAAR_MOST_RECORDS, RECORDS);
-    size_t deviated = length(count, words, 4, SNEUPELAAR_MOST_RECORDS, RECORDS);
+    size_t lined = length(count, words, 1, SNEUPELAAR_MOST_MEMBERS, LINES);
+    size_t charged = length(count, words, 2, SNEUPELAAR_MOST_MEMBERS, LINES);
+    size_t finished = length(count, words, 3, SNEUPELAAR_MOST_MEMBERS, LINES);
+    size_t shared = length(count, words, 4, SNEUPELAAR_MOST_RECORDS, RECORDS);
+    size_t deviated = length(count, words, 5, SNEUPELAAR_MOST_RECORDS, RECORDS);
     size_t bytes = read_input(file, sizeof file);
     lay();
     sneupelaar_settled settled =
-        sneupelaar_settle(file, bytes, lines, lined, charges, charged, shares, shared, deviations, deviated);
+        sneupelaar_settle(file, bytes, lines, lined, charges, charged, finals, finished, shares, shared, deviations, deviated);
     printf("answer %lu at %lu\n", (unsigned long)settled.number, (unsigned long)settled.place);
     print_numbers("ufe", settled.ufe, SNEUPELAAR_AREAS);
     print_numbers("charges", charges, charged);
+    print_numbers("finals", finals, finished);
     print_numbers("shares", shares, shared);
     print_numbers("deviations", deviations, deviated);
     print_lines(lined);

@@ -42,8 +42,8 @@ static int all_seen(const char *function, const unsigned long *counts, const uns
 /* Refusal 7 cannot occur: within the ranges no amount is that large, which is proved. */
 static int enough_seen(unsigned long cases)
 {
-    static const unsigned settling[] = { 0, 1, 2, 3, 4, 5, 6, 11 }, writing[] = { 0, 8, 9 }, reading[] = { 0, 10 };
-    int enough = all_seen("settle", seen.settled, settling, 8);
+    static const unsigned settling[] = { 0, 1, 2, 3, 4, 5, 6, 11, 12 }, writing[] = { 0, 8, 9 }, reading[] = { 0, 10 };
+    int enough = all_seen("settle", seen.settled, settling, 9);
     enough &= all_seen("write", seen.written, writing, 3);
     enough &= all_seen("read", seen.read, reading, 2);
     printf("  body: %lu positions\n", seen.bodies);

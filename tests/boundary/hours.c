@@ -8,6 +8,10 @@
 /* How large the numbers of an hour are. */
 static enum { SMALL, USUAL, WIDE, ENDS, MANNERS } manner;
 
+/* Who takes something: a load in every area, mostly; whoever it falls to; or nobody, with every area in balance, so that row 12 is all
+   that can be broken. */
+static enum { EVERY_AREA, ANYBODY, NOBODY } takers;
+
 /* Whether a kind uses words 3 to 10 of a record: bit 0 is word 3. */
 static const unsigned uses[] = { [GENERATOR] = 0xFF, [REAL_TIME_LOAD] = 0x1F, [PROFILE_LOAD] = 0x1F, [IMPORT] = 0xCF, [EXPORT] = 0x07 };
 
@@ -52,7 +56,7 @@ static void make_head(hour_file *hour, size_t zones, size_t areas)
         uint32_t *ties = words + FIRST_AREA + AREA_WORDS * area;
         ties[0] = (uint32_t)below(zones);
         ties[1] = number(0, 10000000);
-        ties[2] = hour->records == 0 ? ties[1] : number(0, 10000000); /* without records nobody takes UFE */
+        ties[2] = hour->records == 0 || takers == NOBODY ? ties[1] : number(0, 10000000); /* where nobody takes UFE */
     }
 }
 
@@ -73,17 +77,28 @@ static void make_record(uint32_t *words, size_t kind, size_t member, size_t area
     }
 }
 
-static void make_records(hour_file *hour, size_t areas, int demanded)
+/* Takes what a record adds to its area's UFE or demand out of it. */
+static void still(uint32_t *words)
+{
+    if (words[KIND] == IMPORT)
+        words[HOUR_AHEAD_MULTIPLIER] = 10000;
+    else if (words[KIND] != EXPORT)
+        words[ACTUAL] = 0;
+}
+
+static void make_records(hour_file *hour, size_t areas)
 {
     for (size_t record = 0; record < hour->records; record++) {
         uint32_t *words = record_words(hour, record);
         size_t member = below(hour->members), area = below(areas), kind = GENERATOR + below(EXPORT);
-        if (demanded && record < areas) { /* every area has a load that took something */
+        if (takers == EVERY_AREA && record < areas) { /* every area has a load that took something */
             make_record(words, kind == PROFILE_LOAD ? PROFILE_LOAD : REAL_TIME_LOAD, member, record);
             words[ACTUAL] += words[ACTUAL] == 0;
         } else {
             make_record(words, kind, member, area);
         }
+        if (takers == NOBODY)
+            still(words);
     }
 }
 
@@ -120,10 +135,10 @@ void make_hour(hour_file *hour)
     if (once_in(50))
         hour->records = MOST_RECORDS;
     size_t zones = 1 + below(MOST_ZONES), areas = 1 + below(MOST_AREAS);
-    int demanded = !once_in(12);
-    if (demanded && hour->records > 0 && hour->records < areas)
+    takers = once_in(12) ? ANYBODY : once_in(16) ? NOBODY : EVERY_AREA;
+    if (takers == EVERY_AREA && hour->records > 0 && hour->records < areas)
         areas = hour->records;
     make_head(hour, zones, areas);
-    make_records(hour, areas, demanded);
+    make_records(hour, areas);
     make_blocks(hour);
 }

@@ -7,20 +7,20 @@
 #include "hours.h"
 #include "trials.h"
 
-enum { FILE_BYTES, LINES, CHARGES, SHARES, DEVIATIONS, BUFFERS };
-static const char *const names[BUFFERS] = { "file", "lines", "charges", "shares", "deviations" };
-static const size_t sizes[BUFFERS] = { 1, sizeof(sneupelaar_line), 8, 8, 8 };
+enum { FILE_BYTES, LINES, CHARGES, FINALS, SHARES, DEVIATIONS, BUFFERS };
+static const char *const names[BUFFERS] = { "file", "lines", "charges", "finals", "shares", "deviations" };
+static const size_t sizes[BUFFERS] = { 1, sizeof(sneupelaar_line), 8, 8, 8, 8 };
 
 /* An accepted hour with records. */
 static void make_accepted(hour_file *hour)
 {
     sneupelaar_line lines[MOST_MEMBERS];
-    int64_t charges[MOST_MEMBERS], shares[MOST_RECORDS], deviations[MOST_RECORDS];
+    int64_t charges[MOST_MEMBERS], finals[MOST_MEMBERS], shares[MOST_RECORDS], deviations[MOST_RECORDS];
     uint64_t number;
     do {
         make_hour(hour);
-        number = hand_settle((const uint8_t *)hour->words, hour->bytes, lines, MOST_MEMBERS, charges, MOST_MEMBERS, shares, MOST_RECORDS,
-            deviations, MOST_RECORDS).number;
+        number = hand_settle((const uint8_t *)hour->words, hour->bytes, lines, MOST_MEMBERS, charges, MOST_MEMBERS, finals, MOST_MEMBERS,
+            shares, MOST_RECORDS, deviations, MOST_RECORDS).number;
     } while (number != 0 || hour->records == 0);
 }
 
@@ -29,7 +29,7 @@ static void lie_settling(size_t which, side where)
 {
     static hour_file hour;
     make_accepted(&hour);
-    const size_t stated[BUFFERS] = { hour.bytes, hour.members, hour.members, hour.records, hour.records };
+    const size_t stated[BUFFERS] = { hour.bytes, hour.members, hour.members, hour.members, hour.records, hour.records };
     uint8_t *at[BUFFERS];
     guarded rooms[BUFFERS];
     for (size_t each = 0; each < BUFFERS; each++) {
@@ -44,7 +44,7 @@ static void lie_settling(size_t which, side where)
     guard_only_read(&rooms[FILE_BYTES]);
     standing.function = "sneupelaar_settle";
     sneupelaar_settle(at[FILE_BYTES], stated[FILE_BYTES], (void *)at[LINES], stated[LINES], (void *)at[CHARGES], stated[CHARGES],
-        (void *)at[SHARES], stated[SHARES], (void *)at[DEVIATIONS], stated[DEVIATIONS]);
+        (void *)at[FINALS], stated[FINALS], (void *)at[SHARES], stated[SHARES], (void *)at[DEVIATIONS], stated[DEVIATIONS]);
 }
 
 /* A field that is a byte shorter than its text, or is lent from the byte before it. */

@@ -9,16 +9,16 @@
 enum { ROOM_LINES = 40, ROOM_RECORDS = 260 };
 
 typedef struct {
-    size_t lines, charges, shares, deviations;
+    size_t lines, charges, finals, shares, deviations;
 } lengths;
 
 /* The hand's buffers; what the archive is lent holds the same bytes before. */
 typedef struct {
     sneupelaar_line lines[ROOM_LINES];
-    int64_t charges[ROOM_LINES], shares[ROOM_RECORDS], deviations[ROOM_RECORDS];
+    int64_t charges[ROOM_LINES], finals[ROOM_LINES], shares[ROOM_RECORDS], deviations[ROOM_RECORDS];
 } buffers;
 
-static guarded file_room, lines_room, charges_room, shares_room, deviations_room;
+static guarded file_room, lines_room, charges_room, finals_room, shares_room, deviations_room;
 static hour_file hour;
 static buffers before, by_hand;
 
@@ -29,6 +29,7 @@ static void make_rooms(void)
     file_room = guard_room(sizeof hour.words);
     lines_room = guard_room(sizeof before.lines);
     charges_room = guard_room(sizeof before.charges);
+    finals_room = guard_room(sizeof before.finals);
     shares_room = guard_room(sizeof before.shares);
     deviations_room = guard_room(sizeof before.deviations);
 }
@@ -37,19 +38,20 @@ static void make_rooms(void)
 static lengths choose_lengths(void)
 {
     size_t members = hour.members, records = hour.records;
-    lengths chosen = { members, members, records, records };
-    size_t *each[] = { &chosen.lines, &chosen.charges, &chosen.shares, &chosen.deviations };
-    const size_t most[] = { ROOM_LINES, ROOM_LINES, ROOM_RECORDS, ROOM_RECORDS };
-    for (size_t at = 0; at < 4; at++)
+    lengths chosen = { members, members, members, records, records };
+    size_t *each[] = { &chosen.lines, &chosen.charges, &chosen.finals, &chosen.shares, &chosen.deviations };
+    const size_t most[] = { ROOM_LINES, ROOM_LINES, ROOM_LINES, ROOM_RECORDS, ROOM_RECORDS };
+    enum { LENGTHS = sizeof most / sizeof *most };
+    for (size_t at = 0; at < LENGTHS; at++)
         if (once_in(2))
             *each[at] = (size_t)between((int64_t)*each[at], (int64_t)most[at]);
     if (once_in(6)) {
-        size_t at = below(4);
-        size_t enough = at < 2 ? members : records;
+        size_t at = below(LENGTHS);
+        size_t enough = at < 3 ? members : records;
         *each[at] = enough > 0 ? enough - 1 : 0;
     }
     if (once_in(16))
-        for (size_t at = 0; at < 4; at++)
+        for (size_t at = 0; at < LENGTHS; at++)
             *each[at] = once_in(4) ? 0 : below(most[at] + 1);
     return chosen;
 }
@@ -87,9 +89,10 @@ static void compare_buffers(lengths lent, uint64_t number)
 {
     must(same_lines(lent.lines, number == 0 ? hour.words[MEMBERS] : 0), "a line differs");
     must(same_numbers(&charges_room, by_hand.charges), "a charge differs");
+    must(same_numbers(&finals_room, by_hand.finals), "a final differs");
     must(same_numbers(&shares_room, by_hand.shares), "a share differs");
     must(same_numbers(&deviations_room, by_hand.deviations), "a deviation differs");
-    const guarded *rooms[] = { &file_room, &lines_room, &charges_room, &shares_room, &deviations_room };
+    const guarded *rooms[] = { &file_room, &lines_room, &charges_room, &finals_room, &shares_room, &deviations_room };
     for (size_t at = 0; at < sizeof rooms / sizeof *rooms; at++)
         must(guard_kept(rooms[at]), "a byte beside a buffer was written");
 }
@@ -120,15 +123,16 @@ void try_settling(settle_function *settle)
     const uint8_t *file = lend(&file_room, hour.words, hour.bytes);
     sneupelaar_line *lines = lend(&lines_room, before.lines, lent.lines * sizeof *lines);
     int64_t *charges = lend(&charges_room, before.charges, lent.charges * sizeof *charges);
+    int64_t *finals = lend(&finals_room, before.finals, lent.finals * sizeof *finals);
     int64_t *shares = lend(&shares_room, before.shares, lent.shares * sizeof *shares);
     int64_t *deviations = lend(&deviations_room, before.deviations, lent.deviations * sizeof *deviations);
     guard_only_read(&file_room);
     standing.function = "sneupelaar_settle";
-    sneupelaar_settled settled =
-        settle(file, hour.bytes, lines, lent.lines, charges, lent.charges, shares, lent.shares, deviations, lent.deviations);
+    sneupelaar_settled settled = settle(file, hour.bytes, lines, lent.lines, charges, lent.charges, finals, lent.finals, shares,
+        lent.shares, deviations, lent.deviations);
     standing.function = "hand_settle";
     sneupelaar_settled wanted = hand_settle((const uint8_t *)hour.words, hour.bytes, by_hand.lines, lent.lines, by_hand.charges,
-        lent.charges, by_hand.shares, lent.shares, by_hand.deviations, lent.deviations);
+        lent.charges, by_hand.finals, lent.finals, by_hand.shares, lent.shares, by_hand.deviations, lent.deviations);
     standing.function = "sneupelaar_settle";
     must(same_answer(&settled, &wanted), "the answer differs");
     compare_buffers(lent, settled.number);

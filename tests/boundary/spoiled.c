@@ -2,13 +2,16 @@
 #include <stddef.h>
 #include <string.h>
 
+#include "hand/file.h"
+#include "hand/share.h"
 #include "trials.h"
 
 #define ARGUMENTS \
     const uint8_t *file, size_t file_length, sneupelaar_line *lines, size_t lines_length, int64_t *charges, size_t charges_length, \
-        int64_t *shares, size_t shares_length, int64_t *deviations, size_t deviations_length
+        int64_t *finals, size_t finals_length, int64_t *shares, size_t shares_length, int64_t *deviations, size_t deviations_length
 #define PASSED \
-    file, file_length, lines, lines_length, charges, charges_length, shares, shares_length, deviations, deviations_length
+    file, file_length, lines, lines_length, charges, charges_length, finals, finals_length, shares, shares_length, deviations, \
+        deviations_length
 
 static sneupelaar_settled wrong_place(ARGUMENTS)
 {
@@ -67,13 +70,57 @@ static sneupelaar_settled beside_charges(ARGUMENTS)
     return settled;
 }
 
+/* A share of N added to the charge instead of taken off. */
+static sneupelaar_settled share_added(ARGUMENTS)
+{
+    sneupelaar_settled settled = sneupelaar_settle(PASSED);
+    if (settled.number == 0)
+        for (size_t member = 0; member < word(file, MEMBERS); member++)
+            finals[member] = charges[member] + (charges[member] - finals[member]);
+    return settled;
+}
+
+/* N shared by what loads metered in real time took, and those alone. */
+static sneupelaar_settled real_time_alone(ARGUMENTS)
+{
+    sneupelaar_settled settled = sneupelaar_settle(PASSED);
+    if (settled.number != 0)
+        return settled;
+    uint32_t demands[MOST_MEMBERS] = { 0 }, total = 0;
+    int64_t sum = 0, parts[MOST_MEMBERS] = { 0 };
+    for (size_t at = 0; at < records_in(file, file_length); at++) {
+        const uint8_t *record = record_at(file, at);
+        uint32_t demand = word(record, KIND) == REAL_TIME_LOAD ? word(record, ACTUAL) : 0;
+        demands[word(record, MEMBER)] += demand;
+        total += demand;
+    }
+    size_t members = word(file, MEMBERS);
+    for (size_t member = 0; member < members; member++)
+        sum += charges[member];
+    if (total != 0)
+        share_by_demand(sum, total, demands, members, parts);
+    for (size_t member = 0; member < members; member++)
+        finals[member] = charges[member] - parts[member];
+    return settled;
+}
+
+/* Row 12 looked for after row 11. */
+static sneupelaar_settled twelve_last(ARGUMENTS)
+{
+    sneupelaar_settled settled = sneupelaar_settle(PASSED);
+    if (settled.number == 12 && finals_length < word(file, MEMBERS))
+        settled.number = 11;
+    return settled;
+}
+
 settle_function *spoiled(const char *how)
 {
     static const struct {
         const char *name;
         settle_function *settle;
     } faults[] = { { "place", wrong_place }, { "ufe", wrong_ufe }, { "line", last_line }, { "share", last_share },
-        { "deviation", first_deviation }, { "refusal", charge_on_refusal }, { "beside", beside_charges } };
+        { "deviation", first_deviation }, { "refusal", charge_on_refusal }, { "beside", beside_charges }, { "added", share_added },
+        { "kind", real_time_alone }, { "order", twelve_last } };
     for (size_t at = 0; at < sizeof faults / sizeof *faults; at++)
         if (strcmp(how, faults[at].name) == 0)
             return faults[at].settle;

@@ -7,11 +7,11 @@
 
 /* How often each number was answered by settling, writing and reading, and how often the block reader was asked. */
 extern struct seen {
-    unsigned long settled[12], written[12], read[12], bodies;
+    unsigned long settled[13], written[13], read[13], bodies;
 } seen;
 
 typedef sneupelaar_settled settle_function(const uint8_t *, size_t, sneupelaar_line *, size_t, int64_t *, size_t, int64_t *, size_t,
-    int64_t *, size_t);
+    int64_t *, size_t, int64_t *, size_t);
 
 /* Settling, by sneupelaar_settle or what stands in for it; the hour's file is then asked for each of its bodies. */
 void try_settling(settle_function *settle);

@@ -2,6 +2,7 @@
 #include <string.h>
 
 #include "file.h"
+#include "share.h"
 
 static const int64_t WHOLE = 10000;                /* a kWh in units; a multiplier of one */
 static const int64_t CENT = 10000000;              /* in grains */
@@ -14,11 +15,14 @@ typedef struct {
 } entry;
 
 typedef struct {
-    int64_t demand[MOST_AREAS];
+    uint32_t demand[MOST_AREAS];
+    uint32_t member_demand[MOST_MEMBERS];
     int64_t ufe[MOST_AREAS];
     int64_t deviations[MOST_RECORDS];
     int64_t shares[MOST_RECORDS];
     sneupelaar_line lines[MOST_MEMBERS];
+    int64_t charges[MOST_MEMBERS];
+    int64_t finals[MOST_MEMBERS];
 } figures;
 
 static entry entry_at(const uint8_t *file, size_t at)
@@ -90,53 +94,36 @@ static void tally(const uint8_t *file, size_t areas, size_t records, figures *ou
         out->demand[area] = 0;
         out->ufe[area] = area < areas ? WHOLE * ((int64_t)word(ties, 1) - word(ties, 2)) : 0;
     }
+    memset(out->member_demand, 0, sizeof out->member_demand);
     for (size_t at = 0; at < records; at++) {
         entry e = entry_at(file, at);
         out->deviations[at] = deviation(&e);
         out->shares[at] = 0;
         out->ufe[e.area] += energy(&e);
-        if (is_load(e.kind))
-            out->demand[e.area] += e.a;
-    }
-}
-
-/* The units left go one each to the largest remainder held, the earlier of equal ones, which is then spent. There are always more
-   remainders above 0 than units left. The largest is found first and its place after: the first loop is then done four at a time. */
-static void hand_out(int64_t left, int32_t *remainders, size_t loads, int64_t *sizes)
-{
-    for (; left > 0; left--) {
-        int32_t largest = 0;
-        for (size_t at = 0; at < loads; at++)
-            largest = remainders[at] > largest ? remainders[at] : largest;
-        size_t best = 0;
-        while (remainders[best] != largest)
-            best++;
-        sizes[best]++;
-        remainders[best] = 0;
+        if (is_load(e.kind)) {
+            out->demand[e.area] += (uint32_t)e.a;
+            out->member_demand[e.member] += (uint32_t)e.a;
+        }
     }
 }
 
 /* The shares of one area, whose demand is not 0. */
-static void share(const uint8_t *file, size_t area, size_t records, figures *out)
+static void share_area(const uint8_t *file, size_t area, size_t records, figures *out)
 {
-    size_t places[MOST_RECORDS], loads = 0;
-    int32_t remainders[MOST_RECORDS]; /* below the demand, which is at most 25,000,000 */
-    int64_t sizes[MOST_RECORDS];
-    uint64_t demand = (uint64_t)out->demand[area];
-    int64_t size = out->ufe[area] < 0 ? -out->ufe[area] : out->ufe[area], left = size;
+    uint8_t places[MOST_RECORDS]; /* of 250 at most, so that a byte holds one */
+    uint32_t demands[MOST_RECORDS];
+    size_t loads = 0;
+    int64_t shares[MOST_RECORDS];
     for (size_t at = 0; at < records; at++) {
         const uint8_t *record = record_at(file, at);
         if (word(record, AREA) != area || !is_load(word(record, KIND)))
             continue;
-        uint64_t product = (uint64_t)word(record, ACTUAL) * (uint64_t)size;
-        places[loads] = at;
-        sizes[loads] = (int64_t)(product / demand);
-        remainders[loads] = (int32_t)(product % demand);
-        left -= sizes[loads++];
+        places[loads] = (uint8_t)at;
+        demands[loads++] = word(record, ACTUAL);
     }
-    hand_out(left, remainders, loads, sizes);
+    share_by_demand(out->ufe[area], out->demand[area], demands, loads, shares);
     for (size_t at = 0; at < loads; at++)
-        out->shares[places[at]] = out->ufe[area] < 0 ? -sizes[at] : sizes[at];
+        out->shares[places[at]] = shares[at];
 }
 
 static void post(const uint8_t *file, size_t records, figures *out)
@@ -161,13 +148,33 @@ static int64_t cents(int64_t grains)
     return (grains + (grains < 0 ? -CENT / 2 : CENT / 2)) / CENT;
 }
 
+/* Charges, and finals: the charge less the member's share of N, the sum of all charges. 0 where nobody's demand can carry N: row 12. */
+static int charge(size_t members, figures *out)
+{
+    int64_t sum = 0, shares[MOST_MEMBERS] = { 0 };
+    uint32_t demand = 0;
+    for (size_t member = 0; member < members; member++) {
+        out->charges[member] = cents(out->lines[member].amount);
+        sum += out->charges[member];
+        demand += out->member_demand[member];
+    }
+    if (demand == 0 && sum != 0)
+        return 0;
+    if (sum != 0)
+        share_by_demand(sum, demand, out->member_demand, members, shares);
+    for (size_t member = 0; member < members; member++)
+        out->finals[member] = out->charges[member] - shares[member];
+    return 1;
+}
+
 static sneupelaar_settled refused(uint64_t number, uint64_t place)
 {
     return (sneupelaar_settled){ .number = number, .place = place };
 }
 
 sneupelaar_settled hand_settle(const uint8_t *file, size_t file_length, sneupelaar_line *lines, size_t lines_length,
-    int64_t *charges, size_t charges_length, int64_t *shares, size_t shares_length, int64_t *deviations, size_t deviations_length)
+    int64_t *charges, size_t charges_length, int64_t *finals, size_t finals_length, int64_t *shares, size_t shares_length,
+    int64_t *deviations, size_t deviations_length)
 {
     sneupelaar_answer examined = examine(file, file_length);
     if (examined.number != 0)
@@ -180,16 +187,19 @@ sneupelaar_settled hand_settle(const uint8_t *file, size_t file_length, sneupela
             return refused(6, area);
     for (size_t area = 0; area < areas; area++)
         if (worked.ufe[area] != 0)
-            share(file, area, records, &worked);
+            share_area(file, area, records, &worked);
     post(file, records, &worked);
     for (size_t member = 0; member < members; member++)
         if (worked.lines[member].amount > MOST_GRAINS || worked.lines[member].amount < -MOST_GRAINS)
             return refused(7, member);
-    if (charges_length < members || lines_length < members || shares_length < records || deviations_length < records)
+    if (!charge(members, &worked))
+        return refused(12, 0);
+    if (lines_length < members || charges_length < members || finals_length < members || shares_length < records
+        || deviations_length < records)
         return refused(11, 0);
-    for (size_t member = 0; member < members; member++)
-        charges[member] = cents(worked.lines[member].amount);
     memcpy(lines, worked.lines, members * sizeof *lines);
+    memcpy(charges, worked.charges, members * sizeof *charges);
+    memcpy(finals, worked.finals, members * sizeof *finals);
     if (records != 0) {
         memcpy(shares, worked.shares, records * sizeof *shares);
         memcpy(deviations, worked.deviations, records * sizeof *deviations);
