@@ -10,8 +10,8 @@ ghost use Rattle.rules.specs.Inner.Kept.{FileKept};
 ghost use Rattle.hour.specs.Hour.{hourIn, Headed};
 use hour::Head;
 
-// Record `i`'s. `neutrality` asks for it where no buffer may be filled yet.
-pub fn deviation_of(file: &[u8], i: usize) -> i64
+// Record `i`'s.
+fn deviation_of(file: &[u8], i: usize) -> i64
     requires { ⌜ FileKept (now file) × (i < hourIn (now file) .count) ⌝ }
     ensures { λ r. ⌜ r ≡ deviation (entryOf (hourIn (now (file .entry))) i) ⌝ }
 {

@@ -21,7 +21,6 @@ use Rattle.tally.proofs.tally_of.Reads as tally-of
 use Rattle.tally.proofs.ufe_figures.Reads as ufe-figures
 use Rattle.tally.proofs.area_without_demand.Reads as area-without-demand
 use Rattle.tally.proofs.nobody_demands.Reads as nobody-demands
-use Rattle.byrecord.proofs.deviations.deviation_of.Reads as deviation-of
 use Rattle.lines.proofs.grains.Reads as grains
 use Rattle.neutrality.proofs.no_demand.Reads as no-demand
 
@@ -75,9 +74,6 @@ one-area-without-demand κs a x y s t = agree-found
 
 pub one-nobody-demands : (κs : Lfts 1) → OneResult (nobody-demands.Post κs)
 one-nobody-demands κs a x y s t = agree
-
-pub one-deviation-of : (κs : Lfts 1) → OneResult (deviation-of.Post κs)
-one-deviation-of κs a x y s t = agree
 
 pub one-grains : (κs : Lfts 1) → OneResult (grains.Post κs)
 one-grains κs a x y s t = agree

@@ -12,7 +12,8 @@ use Rattle.whole.specs.Below.{replacingFirst}
 use Rattle.whole.proofs.Buffers.{getD-replacing, length-replacing}
 use Rattle.whole.proofs.Adding.{Added, totalsBy, added-at, next-total, all-added}
 use Rattle.whole.proofs.Machine.{Num, result, _:+_, fits, stored, back}
-use Rattle.rules.specs.Record.{Hour, members, memberOf, areaOf}
+use Rattle.rules.specs.Record.{Hour, members, memberOf, areaOf, entryOf}
+use Rattle.rules.specs.Deviation.{deviation}
 use Rattle.rules.specs.Charge.{shareOf, grains, amount}
 use Rattle.rules.specs.Neutrality.{hourDemand}
 use Rattle.rules.specs.Inner.Kept.{HourKept, FileKept}
@@ -20,7 +21,7 @@ use Rattle.rules.proofs.Fair.{none-to-share}
 use Rattle.rules.proofs.Bounds.{grains-under, amount-running}
 use Rattle.rules.proofs.Neutral.{no-area-demands}
 use Rattle.hour.specs.Hour.{hourIn}
-use Rattle.neutrality.specs.Charged.{Empty, Amounts}
+use Rattle.neutrality.specs.Charged.{Deviated, Empty, Amounts}
 
 module _ {h : Hour} (kept : HourKept h) where
   pub no-share : hourDemand h ≡ 0 → (i : ℕ) → i < h .count → pos 0 ≡ shareOf h i
@@ -52,6 +53,14 @@ module _ {h : Hour} (kept : HourKept h) where
       out ≡ replacingFirst (amount h) (members h) old
   unfolding amount
   amounts-are added ended = all-added added ended
+
+-- the deviations are put where there is room for them
+pub deviations-ready : {s : List ℕ} (lent : List ℤ) {deviations : List ℤ} → hourIn s .count ≤ length lent →
+    deviations ≡ replacingFirst (λ i. deviation (entryOf (hourIn s) i)) (hourIn s .count) lent → Deviated s deviations
+deviations-ready {s} lent room put = record {
+  room = rw (put, length-replacing (λ i. deviation (entryOf (hourIn s) i)) (hourIn s .count) lent room) room;
+  deviations-are = λ i l. rw put (getD-replacing (λ i. deviation (entryOf (hourIn s) i)) (hourIn s .count) lent i (pos 0) l);
+}
 
 -- the amounts are added up where nothing stood
 pub amounts-ready : {s : List ℕ} {lent amounts : List ℤ} → FileKept s → Empty (pos 0) (hourIn s) lent →

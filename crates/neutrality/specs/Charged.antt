@@ -4,7 +4,8 @@ use mathlib.Core.Path.{_≡_}
 use mathlib.Core.List.{List}
 use lib.IntN.{ℤ, pos, natAbs}
 use lib.ListN.{length, getD}
-use Rattle.rules.specs.Record.{Hour, members}
+use Rattle.rules.specs.Record.{Hour, members, entryOf}
+use Rattle.rules.specs.Deviation.{deviation}
 use Rattle.rules.specs.Share.{shareSize}
 use Rattle.rules.specs.Charge.{amount, charge}
 use Rattle.rules.specs.Neutrality.{everyMember, memberDemand, neutrality}
@@ -21,6 +22,11 @@ pub record Charged (s : List ℕ) (charges : List ℤ) : Type 0 where
 pub record Empty {A : Type 0} (nothing : A) (h : Hour) (places : List A) : Type 0 where
   pub as-many : length places ≡ members h
   pub zeros : (m : ℕ) → m < members h → getD places m nothing ≡ nothing
+
+-- each record's deviation stands in its place
+pub record Deviated (s : List ℕ) (deviations : List ℤ) : Type 0 where
+  pub room : hourIn s .count ≤ length deviations
+  pub deviations-are : (i : ℕ) → i < hourIn s .count → getD deviations i (pos 0) ≡ deviation (entryOf (hourIn s) i)
 
 -- each member's exact amount stands in its place
 pub record Amounts (s : List ℕ) (amounts : List ℤ) : Type 0 where

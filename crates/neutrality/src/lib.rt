@@ -15,7 +15,7 @@ ghost use Rattle.rules.specs.Refusals.{placeZeroIf, noDemand};
 ghost use Rattle.rules.specs.Inner.Kept.{FileKept};
 ghost use Rattle.hour.specs.Hour.{hourIn, Headed};
 ghost use Rattle.tally.specs.Posted.{Tallied};
-ghost use Rattle.neutrality.specs.Charged.{Charged, Empty, Amounts, Sized};
+ghost use Rattle.neutrality.specs.Charged.{Charged, Deviated, Empty, Amounts, Sized};
 use hour::Head;
 use rules::Tally;
 
@@ -107,8 +107,9 @@ pub fn put_finals(file: &[u8], head: Head, charges: &[i64], finals: &mut [i64])
 // ---- refusal 12
 
 // Each member's exact amount, added up in its place, in an hour in which nobody demands anything: there every share is 0.
-fn put_amounts(file: &[u8], head: Head, amounts: &mut [i64])
-    requires { ⌜ Headed (now file) head × (hourDemand (hourIn (now file)) ≡ 0) × Empty (pos 0) (hourIn (now file)) (now amounts) ⌝ }
+fn put_amounts(file: &[u8], head: Head, deviations: &[i64], amounts: &mut [i64])
+    requires { ⌜ Headed (now file) head × (hourDemand (hourIn (now file)) ≡ 0) × Deviated (now file) (now deviations)
+        × Empty (pos 0) (hourIn (now file)) (now amounts) ⌝ }
     ensures { λ _. ⌜ now (amounts .exit)
         ≡ replacingFirst (Charge.amount (hourIn (now (file .entry)))) (Record.members (hourIn (now (file .entry))))
         (now (amounts .entry)) ⌝ }
@@ -118,8 +119,7 @@ fn put_amounts(file: &[u8], head: Head, amounts: &mut [i64])
     while i < n {
         let member = hour::member_of(file, i);
         let area = hour::area_of(file, i);
-        let deviation = byrecord::deviations::deviation_of(file, i);
-        amounts[member] += lines::grains(file, i, head.prices[area], deviation, 0);
+        amounts[member] += lines::grains(file, i, head.prices[area], deviations[i], 0);
         i += 1;
     }
 }
@@ -138,24 +138,28 @@ fn sum_of_cents(file: &[u8], amounts: &[i64]) -> i64
     sum
 }
 
-// Whether N isn't 0, with room lent for the members' amounts.
-fn left_over_in(file: &[u8], head: Head, amounts: &mut [i64]) -> bool
-    requires { ⌜ Headed (now file) head × (hourDemand (hourIn (now file)) ≡ 0) × Empty (pos 0) (hourIn (now file)) (now amounts) ⌝ }
+// Whether N isn't 0, with room lent for the records' deviations and the members' amounts.
+fn left_over_in(file: &[u8], head: Head, deviations: &mut [i64], amounts: &mut [i64]) -> bool
+    requires { ⌜ Headed (now file) head × (hourDemand (hourIn (now file)) ≡ 0) × (hourIn (now file) .count ≤ length (now deviations))
+        × Empty (pos 0) (hourIn (now file)) (now amounts) ⌝ }
     ensures { λ r. ⌜ r ≡ not (eqb (natAbs (neutrality (hourIn (now (file .entry))))) 0) ⌝ }
 {
-    put_amounts(file, head, amounts);
+    byrecord::deviations::put_deviations(file, head, deviations);
+    put_amounts(file, head, deviations, amounts);
     sum_of_cents(file, amounts) != 0
 }
 
 // Whether N isn't 0, in an hour in which nobody demands anything: then there is nothing to share it by. It is asked before the first store,
-// so that no buffer of the caller has the charges yet.
+// so that no buffer of the caller has the charges yet. All deviations are worked at once: record by record the compiler would make a call
+// of each, here and in every other hour.
 fn left_over(file: &[u8], head: Head) -> bool
     requires { ⌜ Headed (now file) head × (hourDemand (hourIn (now file)) ≡ 0) ⌝ }
     ensures { λ r. ⌜ r ≡ not (eqb (natAbs (neutrality (hourIn (now (file .entry))))) 0) ⌝ }
 {
     let n = head.members;
+    let mut deviations = [0i64; 250];
     let mut amounts = [0i64; 32];
-    left_over_in(file, head, &mut amounts[..n])
+    left_over_in(file, head, &mut deviations, &mut amounts[..n])
 }
 
 // Refusal 12: nobody demands anything in the hour, and N isn't 0. N is worked only where nobody demands anything.

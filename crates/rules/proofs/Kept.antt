@@ -207,6 +207,6 @@ file-kept s e =
       hour-kept = hour-kept h (e .1 .1 .1 .0) (e .1 .1 .1 .1 .0) (count-most s (e .0) (e .1 .1 .0));
     }
 
--- so does a file that passes rows 1 to 7
+-- so does a file that passes the rows of a statement
 pub passed-kept : (s : List ℕ) → AllWhole (hourRows s) → FileKept s
 passed-kept s w = file-kept s (file-whole s w)

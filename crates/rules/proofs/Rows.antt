@@ -166,7 +166,7 @@ module _ (s : List ℕ) (b : Buffers) where
   settle-accepts = let r = accepts-when-whole (settleRows s b) (settle-numbered s b) in
       (λ e. r .0 (sym settle-verdict ∙ e), λ w. settle-verdict ∙ r .1 w)
 
-  -- accepted: rows 1 to 7 are whole, and no buffer is too short
+  -- accepted: rows 1 to 7 and 12 are whole, and no buffer is too short
   pub settle-whole : Accepts s b → AllWhole (hourRows s)
       × (tooShort (hourOf hourly s) (length (b .charges)) (length (b .finals)) (length (b .lines)) (length (b .shares)) (length (b .deviations)) ≡ none)
   settle-whole a = table-whole s (length (b .charges)) (length (b .finals)) (length (b .lines)) (length (b .shares)) (length (b .deviations)) (settle-accepts .0 a)

@@ -75,7 +75,7 @@ module _ (h : Hour) where
       sym (take-append-drop 33 lines) ∙ ap (λ (t : List ℕ). t ++ drop 33 lines) (line-stands n m l)
 
   -- place k of member m's line, in all lines of an accepted hour
-  from-place : (m k : ℕ) → m < members h → drop (memberPlace h m (acceptedLines h) + k) (acceptedLines h)
+  from-place : (m k : ℕ) → m < members h → drop (memberPlace h m + k) (acceptedLines h)
       ≡ drop k (line m ++ drop 33 (drop (33 * m) (memberLines h (members h))))
   unfolding memberPlace acceptedLines
   from-place m k l =

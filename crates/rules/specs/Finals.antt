@@ -47,16 +47,17 @@ pub record Neutrality : Type 0 where
 
 -- ---- the sheet tells charges and finals
 
--- the 14 columns of a member's charge, and of its final, in the statement of an hour
-module _ (h : Hour) (m : ℕ) (sheet : List ℕ) where
+module _ (h : Hour) (m : ℕ) where
+  -- where a member's line begins in the statement of an hour
   unfoldable pub memberPlace : ℕ
   memberPlace = length (firstLine (hourNumber h) (members h) (h .count)) + 33 * m
 
-  unfoldable pub chargeColumn : List ℕ
-  chargeColumn = take 14 (drop (memberPlace + 3) sheet)
+  -- the 14 columns of its charge, and of its final
+  unfoldable pub chargeColumn : List ℕ → List ℕ
+  chargeColumn sheet = take 14 (drop (memberPlace + 3) sheet)
 
-  unfoldable pub finalColumn : List ℕ
-  finalColumn = take 14 (drop (memberPlace + 18) sheet)
+  unfoldable pub finalColumn : List ℕ → List ℕ
+  finalColumn sheet = take 14 (drop (memberPlace + 18) sheet)
 
 -- two files of which the same is to be said: refused alike, or the same hour number and counts, and the same charges and finals
 pub record SameSheet (s t : List ℕ) : Type 0 where

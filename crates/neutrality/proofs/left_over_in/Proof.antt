@@ -3,24 +3,34 @@ use mathlib.Core.Path.{_∙_, ap}
 use mathlib.Core.Bool.{not}
 use lib.Dec.{eqb}
 use lib.IntN.{ℤ, natAbs}
-use borrow.Author.Needs.{sfits-of}
+use borrow.Author.Needs.{needs, sfits-of}
 use Rattle.whole.proofs.Machine.{zero-test}
-use Rattle.neutrality.proofs.Amounts.{amounts-ready}
+use Rattle.neutrality.proofs.Amounts.{deviations-ready, amounts-ready}
 use Rattle.neutrality.proofs.left_over_in.Statement.{statement}
 use Rattle.neutrality.proofs.left_over_in.Tie as tie
 
+put-deviations-requires : tie.Need-put-deviations-requires
+put-deviations-requires c κs = let pre = c .before .before .pre in (pre .0, pre .2)
+
 put-amounts-requires : tie.Need-put-amounts-requires
-put-amounts-requires c κs = c .before .before .pre
+put-amounts-requires c κs =
+    let put = c .before .before .before in
+    let begun = put .before .before .before in
+    (begun .pre .0, begun .pre .1, deviations-ready (begun .args .deviations .now) (begun .pre .2) (put .put-deviations .ensures), begun .pre .3)
 
 sum-of-cents-requires : tie.Need-sum-of-cents-requires
 sum-of-cents-requires c κs =
     let put = c .before .before in
-    let pre = put .before .before .before .pre in
-    amounts-ready (pre .0 .kept) (pre .2) (put .put-amounts .ensures)
+    let pre = put .before .before .before .before .before .before .before .pre in
+    amounts-ready (pre .0 .kept) (pre .3) (put .put-amounts .ensures)
+
+-- deviations: &mut [i64]
+same-length : tie.Need-same-length
+same-length c = search needs
 
 -- amounts: &mut [i64]
-same-length : tie.Need-same-length
-same-length c = c .before .before .before .put-amounts .kept .1 .1 .0
+same-length-2 : tie.Need-same-length-2
+same-length-2 c = search needs
 
 -- sum_of_cents(file, amounts) != 0
 returns : tie.Need-returns
@@ -28,4 +38,4 @@ returns c = ap not (zero-test (c .sum-of-cents .result) (sfits-of (c .sum-of-cen
 
 pub left-over-in-spec : {M : Type 1} → statement M
 left-over-in-spec =
-    tie.close (tie.spec put-amounts-requires sum-of-cents-requires same-length returns)
+    tie.close (tie.spec put-deviations-requires put-amounts-requires sum-of-cents-requires same-length same-length-2 returns)

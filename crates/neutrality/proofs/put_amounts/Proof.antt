@@ -17,14 +17,14 @@ use Rattle.neutrality.proofs.put_amounts.Statement.{statement}
 use Rattle.neutrality.proofs.put_amounts.Tie as tie
 
 abbrev Inv-loop : tie.InvT-loop
-Inv-loop file amounts₀ head n i₀ amounts i =
+Inv-loop file deviations amounts₀ head n i₀ amounts i =
     Added (totalsBy (memberOf (hourIn file)) (grains (hourIn file))) (members (hourIn file)) (hourIn file .count) i amounts₀ amounts
 
 abbrev μ-loop : tie.MeasureT-loop
-μ-loop file amounts₀ head n i₀ amounts i = n - i
+μ-loop file deviations amounts₀ head n i₀ amounts i = n - i
 
 loop-holds : tie.Need-loop-holds Inv-loop μ-loop
-loop-holds c = let pre = c .before .pre in no-total-added _ _ (omega (arith, pre .2 .as-many)) (pre .2 .zeros)
+loop-holds c = let pre = c .before .pre in no-total-added _ _ (omega (arith, pre .3 .as-many)) (pre .3 .zeros)
 
 -- a turn's record is there
 module _ (c : tie.In-loop Inv-loop μ-loop) where
@@ -42,6 +42,9 @@ module _ (c : tie.In-loop Inv-loop μ-loop) where
 
   there : at .loop .i < h .count
   there = omega (arith, head-records (start .pre .0))
+
+  in-deviations : at .loop .i < length (start .args .deviations .now)
+  in-deviations = omega (arith, there, start .pre .2 .room)
 
 member-of-requires : tie.Need-member-of-requires Inv-loop μ-loop
 member-of-requires c κs = (start c .pre .0 .kept, there c)
@@ -63,16 +66,21 @@ module _ (c : tie.After-area-of Inv-loop μ-loop) where
   price-is : getD (start turn .args .t2 .prices) (c .area-of .result) (pos 0) ≡ price (h turn) (areaOf (h turn) (at turn .loop .i))
   price-is = head-price (start turn .pre .0) (c .area-of .result) area-there ∙ ap (price (h turn)) (c .area-of .ensures)
 
-deviation-of-requires : tie.Need-deviation-of-requires Inv-loop μ-loop
-deviation-of-requires c κs = let t = turn c in (start t .pre .0 .kept, there t)
-
 -- the offset of head.prices[area]
 mul-grains : tie.Need-mul-grains Inv-loop μ-loop
-mul-grains c = omega (arith, area-few (c .before))
+mul-grains c = omega (arith, area-few c)
 
 -- head.prices[area]
 element-copy-out-grains : tie.Need-element-copy-out-grains Inv-loop μ-loop
-element-copy-out-grains c = area-few (c .before)
+element-copy-out-grains c = area-few c
+
+-- the offset of deviations[i]
+mul-grains-2 : tie.Need-mul-grains-2 Inv-loop μ-loop
+mul-grains-2 c = omega (arith, in-deviations (turn (c .before)))
+
+-- deviations[i]
+shared-slice-copy-out-grains : tie.Need-shared-slice-copy-out-grains Inv-loop μ-loop
+shared-slice-copy-out-grains c = in-deviations (turn (c .before))
 
 grains-requires : tie.Need-grains-requires Inv-loop μ-loop
 grains-requires c κs =
@@ -81,8 +89,8 @@ grains-requires c κs =
     record {
       kept = start t .pre .0 .kept;
       there = there t;
-      price-is = read-back (sfits-of (c .grains-arg .given)) ∙ price-is read;
-      deviation-is = read-back (sfits-of (c .before .deviation-of .ok)) ∙ c .before .deviation-of .ensures;
+      price-is = read-back (sfits-of (c .before .grains-arg .given)) ∙ price-is read;
+      deviation-is = read-back (sfits-of (c .grains-arg2 .given)) ∙ start t .pre .2 .deviations-are (at t .loop .i) (there t);
       share-is = no-share (kept t) (start t .pre .1) (at t .loop .i) (there t);
     }
 
@@ -101,7 +109,7 @@ module _ (c : tie.After-grains Inv-loop μ-loop) where
   few = omega (arith, member-there, kept (turn areaed) .members-most)
 
   place : areaed .before .member-of .result < length (at (turn areaed) .loop .amounts)
-  place = let t = turn areaed in omega (arith, member-there, added-length (at t .loop .inv), start t .pre .2 .as-many)
+  place = let t = turn areaed in omega (arith, member-there, added-length (at t .loop .inv), start t .pre .3 .as-many)
 
 -- the offset of amounts[member]
 mul-amounts : tie.Need-mul-amounts Inv-loop μ-loop
@@ -152,9 +160,10 @@ put-amounts-spec =
     loop-holds
     member-of-requires
     area-of-requires
-    deviation-of-requires
     mul-grains
     element-copy-out-grains
+    mul-grains-2
+    shared-slice-copy-out-grains
     grains-requires
     mul-amounts
     slice-copy-out-amounts
