@@ -196,7 +196,7 @@ module _ (s t : List ℕ) (same : statement s ≡ statement t) where
       same-head = head-told h g (accepted-kept s p .hour-kept) (accepted-kept t q .hour-kept) (hour-number-most s a) (hour-number-most t b)
           (sym (statement-accepted s p) ∙ same ∙ statement-accepted t q)
 
-      same-place : (m : ℕ) → memberPlace h m (statement s) ≡ memberPlace g m (statement t)
+      same-place : (m : ℕ) → memberPlace h m ≡ memberPlace g m
       unfolding memberPlace
       same-place m = rw (same-head .0, same-head .1, same-head .2)
 
