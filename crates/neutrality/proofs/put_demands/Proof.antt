@@ -1,5 +1,5 @@
 -- `neutrality::put_demands` meets its contract. The loop's invariant: each member's place holds what its records passed demand.
-use mathlib.Core.Path.{_≡_, ap}
+use mathlib.Core.Path.{ap}
 use Prim.Native.Nat.{ℕ, _-_, _<_}
 use native.Mathlib.Nat.{le-of-lt}
 use native.Mathlib.Omega.{arith}

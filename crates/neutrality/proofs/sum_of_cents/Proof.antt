@@ -2,15 +2,14 @@
 use mathlib.Core.Path.{_≡_, sym, _∙_, ap}
 use Prim.Native.Nat.{_-_, _≤_, _<_}
 use native.Mathlib.Omega.{arith}
-use lib.IntN.{pos}
-use lib.ListN.{length, getD}
+use lib.ListN.{length}
 use mir.Syntax.{w64}
 use mir.Val.{toZ}
 use Rattle.whole.specs.Below.{totalBelow}
 use Rattle.whole.proofs.Totals.{total-none}
 use Rattle.whole.proofs.Machine.{Num, result, gives, stored}
 use Rattle.rules.specs.Record.{Hour, members}
-use Rattle.rules.specs.Charge.{cents, amount, charge}
+use Rattle.rules.specs.Charge.{cents, charge}
 use Rattle.rules.specs.Neutrality.{neutrality}
 use Rattle.rules.specs.Refusals.{mostGrains}
 use Rattle.rules.proofs.Bounds.{amount-under}
