@@ -23,7 +23,7 @@ use Rattle.rules.proofs.Stated.{accepted-kept, room-for-all, statement-accepted
 use Rattle.hour.specs.Hour.{hourIn}
 use Rattle.answer.proofs.Refusing.{numbered}
 use Rattle.pool.specs.Unlined.{Unlined, withLines, ownLines, FitsUnlined}
-use Rattle.report.specs.Stated.{Amounts, Answered}
+use Rattle.report.specs.Stated.{Printable, Answered}
 
 -- the statement by the answer
 module _ {s : List ℕ} {a : Answer} {charges finals : List ℤ} (f : Answered s a charges finals) where
@@ -78,8 +78,8 @@ module _ {s : List ℕ} {b after : Unlined} {r : Settled} (rooms : Rooms b) (set
     unfolding filled
     finals-put = ap (λ (x : Buffers). x .finals) all-filled
 
-    amounts : Amounts s (after .charges) (after .finals)
-    amounts = record {
+    printable : Printable s (after .charges) (after .finals)
+    printable = record {
       charged = record {
         kept = kept;
         room = has-room (charge (hourIn s)) (b .charges) (rooms .charges-room) charges-put;
@@ -90,4 +90,4 @@ module _ {s : List ℕ} {b after : Unlined} {r : Settled} (rooms : Rooms b) (set
     }
 
   pub answered : Answered s (r .answer) (after .charges) (after .finals)
-  answered = record { verdict-is = same-verdict; amounts = amounts }
+  answered = record { verdict-is = same-verdict; printable = printable }

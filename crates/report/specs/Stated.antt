@@ -32,7 +32,7 @@ pub record HasStated (s out : List ℕ) (count : ℕ) (after : List ℕ) : Type 
   pub out-is : after ≡ stated s out .out
 
 -- the file keeps its ranges, and its hour's charges and finals stand in the first places
-pub record Amounts (s : List ℕ) (charges finals : List ℤ) : Type 0 where
+pub record Printable (s : List ℕ) (charges finals : List ℤ) : Type 0 where
   pub charged : Charged s charges
   pub room : members (hourIn s) ≤ length finals
   pub finals-are : (m : ℕ) → m < members (hourIn s) → getD finals m (pos 0) ≡ final (hourIn s) m
@@ -40,4 +40,4 @@ pub record Amounts (s : List ℕ) (charges finals : List ℤ) : Type 0 where
 -- the answer that the statement's rows give, and the charges and finals where it is acceptance
 pub record Answered (s : List ℕ) (answer : Answer) (charges finals : List ℤ) : Type 0 where
   pub verdict-is : verdictOf answer ≡ verdict (hourRows s)
-  pub amounts : answer ≡ Accepted → Amounts s charges finals
+  pub printable : answer ≡ Accepted → Printable s charges finals

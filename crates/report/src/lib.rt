@@ -8,7 +8,7 @@ ghost use Rattle.rules.specs.Refusals.{verdictOf};
 ghost use Rattle.rules.specs.Statement as Statement;
 ghost use Rattle.hour.specs.Hour.{hourIn, Headed};
 ghost use Rattle.printing.specs.Put.{Put};
-ghost use Rattle.report.specs.Stated.{Amounts, Answered, stated};
+ghost use Rattle.report.specs.Stated.{Printable, Answered, stated};
 use hour::Head;
 use rules::Answer;
 
@@ -24,7 +24,7 @@ fn put_members(
     out: &mut [u8],
     at: usize,
 ) -> usize
-    requires { ⌜ Headed (now file) head × Amounts (now file) (now charges) (now finals)
+    requires { ⌜ Headed (now file) head × Printable (now file) (now charges) (now finals)
         × (at + 33 * members (hourIn (now file)) ≤ length (now out)) ⌝ }
     ensures { λ r. let h = hourIn (now (file .entry)) in
         ⌜ Put (now (out .entry)) at (Statement.memberLines h (members h)) r (now (out .exit)) ⌝ }
@@ -41,7 +41,7 @@ fn put_members(
 
 // Line 1, with the hour's number and the counts as the file has them, and a line for each member.
 fn put_accepted(file: &[u8], charges: &[i64], finals: &[i64], out: &mut [u8]) -> usize
-    requires { ⌜ Amounts (now file) (now charges) (now finals) × (1095 ≤ length (now out)) ⌝ }
+    requires { ⌜ Printable (now file) (now charges) (now finals) × (1095 ≤ length (now out)) ⌝ }
     ensures { λ r. ⌜ Put (now (out .entry)) 0 (Statement.acceptedLines (hourIn (now (file .entry)))) r (now (out .exit)) ⌝ }
 {
     let hour = hour::head_word(file, 8) as u64;

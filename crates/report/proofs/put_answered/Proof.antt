@@ -28,7 +28,7 @@ put-accepted-requires : tie.Need-put-accepted-requires
 put-accepted-requires c κs =
     let t = c .before in
     let s = t .before .before .before .before in
-    (s .pre .0 .amounts (t .enum-told .given .1), s .pre .1)
+    (s .pre .0 .printable (t .enum-told .given .1), s .pre .1)
 
 -- out, at the end
 same-length-2 : tie.Need-same-length-2

@@ -22,12 +22,12 @@ use Rattle.hour.proofs.Figures.{head-members}
 use Rattle.rules.proofs.Stated.{member-lines-length}
 use Rattle.printing.specs.Put.{Put}
 use Rattle.printing.proofs.Putting.{put-nothing, put-length, put-on, put-as}
-use Rattle.report.specs.Stated.{Amounts}
+use Rattle.report.specs.Stated.{Printable}
 use Rattle.report.proofs.put_members.Statement.{statement}
 use Rattle.report.proofs.put_members.Tie as tie
 
 -- the charge and the final that stand at a member's place, as they are read back
-module _ {s : List ℕ} {charges finals : List ℤ} (c : Amounts s charges finals) (m : ℕ) (l : m < Record.members (hourIn s)) where
+module _ {s : List ℕ} {charges finals : List ℤ} (c : Printable s charges finals) (m : ℕ) (l : m < Record.members (hourIn s)) where
   charge-held : toZ w64 (ofZ w64 (getD charges m (pos 0))) ≡ charge (hourIn s) m
   charge-held = rw (c .charged .charges-are m l) (read-back (u-fits (charge-under (c .charged .kept .hour-kept) m) tt))
 
