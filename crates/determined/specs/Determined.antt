@@ -1,5 +1,5 @@
--- When a promise leaves no second result, and what it gives. A promise is a function's contract as its callers read it: a claim about the arguments, the
--- result and what the arguments are at exit.
+-- When a promise leaves no second result, and what it gives. A promise is a function's contract as its callers read it: a claim about the
+-- arguments, the result and what the arguments are at exit.
 use mathlib.Core.Path.{_≡_}
 use mathlib.Core.List.{List}
 use Prim.Native.Nat.{ℕ}
@@ -27,7 +27,8 @@ module _ {A X S : Type 0} (promise : A → X → S → Type 0) where
   abbrev pub Gives : (A → X → S → Type 0) → Type 0
   Gives property = (a : A) (x : X) (s : S) → promise a x s → property a x s
 
--- the three demands of a settling and what document 02, A1, asks of its finals, by its file, its buffers before, the verdict told, the UFE figures answered and its buffers afterwards
+-- the three demands of a settling and what document 02, A1, asks of its finals, by its file, its buffers before, the verdict told, the UFE
+-- figures answered and its buffers afterwards
 pub record KeepsDemands (file : List ℕ) (before : Buffers) (told : Verdict) (ufes : List ℤ) (after : Buffers) : Type 0 where
   -- 1: the first broken row of the table answers, and a refusal changes nothing
   pub by-the-table : told ≡ verdict (settleRows file before)

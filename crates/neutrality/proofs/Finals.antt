@@ -101,7 +101,8 @@ module _ {h : Hour} {lent demands sizes : List ℕ} (q : Asked h lent demands si
     everybody-takes-part : (m : ℕ) → m < n → shareSize everyone (at demands) n N m ≡ sizeOf h m
     unfolding sizeOf
     everybody-takes-part m l =
-        rw (all-count n, all-count m) at (gathered-shares everyMember (memberDemand h) (at demands) n N (λ j k t. rw (all-count j) (demand-at j k)) m l refl)
+        rw (all-count n, all-count m)
+        at (gathered-shares everyMember (memberDemand h) (at demands) n N (λ j k t. rw (all-count j) (demand-at j k)) m l refl)
 
     got-at : (m : ℕ) → m < n → getD got m 0 ≡ sizeOf h m
     got-at m l =

@@ -1,6 +1,6 @@
-// The neutrality amount N, the sum of all charges, shared over the members by what they demand; a member's final amount is its charge minus
-// its share (document 02, A1). The sharing itself is the engine's, `share::shares`. And refusal 12, which settling asks for before it writes
-// to any buffer.
+// The neutrality amount N, the sum of all charges, shared over the members by what they demand; a member's final amount is its charge
+// minus its share (document 02, A1). The sharing itself is the engine's, `share::shares`. And refusal 12, which settling asks for before it
+// writes to any buffer.
 ghost use mathlib.Core.Path.{_≡_};
 ghost use mathlib.Core.Bool.{not};
 ghost use Prim.Native.Nat.{_≤_, _<_};

@@ -21,12 +21,13 @@ use Rattle.rules.specs.Record.{Hour, members, entryOf}
 use Rattle.rules.specs.Deviation.{deviation}
 use Rattle.rules.specs.Charge.{shareOf, cents, charge}
 use Rattle.rules.specs.Neutrality.{final}
-use Rattle.rules.specs.Refusals.{Row, row, accepted, verdictOf, verdict, badArea, badAmount, noDemand, mostGrains, tooShort, tableRows, fileRows}
+use Rattle.rules.specs.Refusals.{Row, row, accepted, verdictOf, verdict, badArea, badAmount, noDemand, tooShort}
+use Rattle.rules.specs.Refusals.{mostGrains, tableRows, fileRows}
 use Rattle.rules.specs.Settling.{Buffers, lineOf, filled, settleRows, ufeFigures, noFigures, settle, emptyLine}
 use Rattle.rules.specs.Inner.Posting.{linesAfter}
 use Rattle.rules.specs.Promises.{Accepts, Fits}
 use Rattle.rules.specs.Inner.Kept.{FileKept}
-use Rattle.rules.proofs.Rows.{accepts-when-whole, passed-on, file-numbered, file-decides, one-answer}
+use Rattle.rules.proofs.Rows.{shortOf, accepts-when-whole, passed-on, file-numbered, file-decides, one-answer}
 use Rattle.rules.proofs.Rows.{settle-verdict, settle-whole, settle-changes-nothing, settle-fills}
 use Rattle.rules.proofs.Kept.{passed-kept}
 use Rattle.rules.proofs.Bounds.{amount-under, row-7-never}
@@ -59,7 +60,7 @@ module _ (s : List ℕ) (b : Buffers) where
 
   -- row 11, for these buffers
   abbrev lengthRow : Row
-  lengthRow = row 11 (tooShort h (length (b .charges)) (length (b .finals)) (length (b .lines)) (length (b .shares)) (length (b .deviations)))
+  lengthRow = row 11 (shortOf h b)
 
   -- rows 1 to 5, then 6, 7, 12 and 11
   in-order : settleRows s b ≡ fileRows s ++ row 6 (badArea h) ∷ row 7 (badAmount h) ∷ row 12 (noDemand h) ∷ lengthRow ∷ []

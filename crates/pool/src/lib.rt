@@ -130,7 +130,8 @@ pub fn settle_unlined(
     shares: &mut [i64],
     deviations: &mut [i64],
 ) -> Settled
-    ensures { λ r. ⌜ FitsUnlined (now (file .entry)) (unlined (now (charges .entry)) (now (finals .entry)) (now (shares .entry)) (now (deviations .entry))) r
+    ensures { λ r. ⌜ FitsUnlined (now (file .entry))
+        (unlined (now (charges .entry)) (now (finals .entry)) (now (shares .entry)) (now (deviations .entry))) r
         (unlined (now (charges .exit)) (now (finals .exit)) (now (shares .exit)) (now (deviations .exit))) ⌝ }
 {
     let mut lines = [formula::posting::empty_line(); 32];
@@ -147,7 +148,8 @@ pub extern "C" fn sneupelaar_settle(
     shares: &mut [i64],
     deviations: &mut [i64],
 ) -> boundary::NumberedSettled
-    ensures { λ r. ⌜ settlement r (buffers (now (charges .exit)) (now (finals .exit)) (now (shares .exit)) (now (deviations .exit)) (now (lines .exit)))
+    ensures { λ r. ⌜ settlement r
+        (buffers (now (charges .exit)) (now (finals .exit)) (now (shares .exit)) (now (deviations .exit)) (now (lines .exit)))
         ≡ Settling.settle (now (file .entry))
         (buffers (now (charges .entry)) (now (finals .entry)) (now (shares .entry)) (now (deviations .entry)) (now (lines .entry))) ⌝ }
 {

@@ -67,9 +67,9 @@ module _ {r : Entry} (kept : EntryKept r) where
 
   generator-under : Under (generatorDeviation r) 6000000000
   unfolding generatorUnavailable generatorDeviation
-  generator-under = rw (
-    spread-generator (r .S *ℤ r .F) (r .A) (r .J) (r .H) (unitsPerKWh *ℤ r .N) (unitsPerKWh *ℤ minℤ (pos 0) (r .M -ℤ r .A -ℤ (r .O -ℤ r .N))),
-    units-apart (r .N) (minℤ (pos 0) (r .M -ℤ r .A -ℤ (r .O -ℤ r .N))),
+  generator-under = let unavailable = minℤ (pos 0) (r .M -ℤ r .A -ℤ (r .O -ℤ r .N)) in rw (
+    spread-generator (r .S *ℤ r .F) (r .A) (r .J) (r .H) (unitsPerKWh *ℤ r .N) (unitsPerKWh *ℤ unavailable),
+    units-apart (r .N) unavailable,
   ) (scheduled-less-metered u+ units-under (ancillary-under (r .M) (r .A) (r .O) (r .N) M-in A-in O-in N-in))
 
   load-under : Under (loadDeviation r) 4000000000

@@ -29,7 +29,7 @@ use Rattle.rules.specs.Statement.{column, memberLine}
 use Rattle.rules.specs.Inner.Kept.{HourKept}
 use Rattle.rules.specs.Promises.{Accepts, AllWhole, Demand1, ByFormula, allZones, Demand2, FairOutcome, Demand3}
 use Rattle.rules.proofs.Tariff.{deviation-renders, ufe-renders, amount-is-IEC}
-use Rattle.rules.proofs.Rows.{no-place, accepts-when-whole, hour-numbered, settle-accepts, settle-whole, settle-refuses}
+use Rattle.rules.proofs.Rows.{shortOf, no-place, accepts-when-whole, hour-numbered, settle-accepts, settle-whole, settle-refuses}
 use Rattle.rules.proofs.Rows.{settle-changes-nothing, settle-fills, write-accepts, write-refuses, write-changes-nothing}
 use Rattle.rules.proofs.Text.{read-checks, read-accepts, read-refuses, written-read, read-written, text-fits-14, write-accepted-at}
 use Rattle.rules.proofs.Kept.{passed-kept}
@@ -56,8 +56,7 @@ pub record Room (h : Hour) (b : Buffers) : Type 0 where
   pub shares-room : h .count ≤ length (b .shares)
   pub deviations-room : h .count ≤ length (b .deviations)
 
-pub buffers-room : (h : Hour) (b : Buffers) →
-    tooShort h (length (b .charges)) (length (b .finals)) (length (b .lines)) (length (b .shares)) (length (b .deviations)) ≡ none → Room h b
+pub buffers-room : (h : Hour) (b : Buffers) → shortOf h b ≡ none → Room h b
 unfolding tooShort
 buffers-room h b enough =
     let c = ltb (length (b .charges)) (members h) in
@@ -157,7 +156,8 @@ in-its-column z in-range = ap (λ (w : Written). w .field) (write-accepted-at (r
 amounts-printed : (h : Hour) → HourKept h → (m : ℕ) → m < members h →
     (length (amountText (charge h m)) ≤ 14) × (length (amountText (final h m)) ≤ 14)
     × (memberLine m (charge h m) (final h m) ≡
-    digitByte (m / 10) ∷ digitByte (m % 10) ∷ bytes " " ++ amountField 14 (charge h m) ++ bytes " " ++ amountField 14 (final h m) ++ bytes "\n")
+    digitByte (m / 10) ∷ digitByte (m % 10) ∷ bytes " " ++ amountField 14 (charge h m)
+    ++ bytes " " ++ amountField 14 (final h m) ++ bytes "\n")
 unfolding memberLine
 amounts-printed h kept m l =
     let c : natAbs (charge h m) ≤ 999999999999 = let u = charge-under kept m in omega arith in

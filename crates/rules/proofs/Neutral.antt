@@ -1,7 +1,7 @@
 -- The neutrality amount: the shares of N add up to it, and the finals to nothing; of an hour that keeps its ranges, what the members demand
 -- and how large N and the finals are. Document 02, A1.
 use Prim.Native.Nat.{ℕ, _+_, _*_, _/_, _≤_, _<_}
-use native.Mathlib.Nat.{le-refl, le-trans, le-of-eq}
+use native.Mathlib.Nat.{le-refl, le-trans}
 use native.Mathlib.Omega.{arith}
 use mathlib.Core.Path.{_≡_, refl, sym, _∙_, ap, ap₂}
 use mathlib.Core.Bool.{Bool, true, false, cond, _&&_}
@@ -198,7 +198,7 @@ module _ {h : Hour} (kept : HourKept h) where
 
   pub neutrality-share-under : (m : ℕ) → m < members h → Under (neutralityShare h m) 280000000016
   unfolding neutralityShare share
-  neutrality-share-under m l = u-le (u-with-sign (neutrality h) (shareSize everyMember (memberDemand h) (members h) (natAbs (neutrality h)) m))
+  neutrality-share-under m l = u-le (u-with-sign (neutrality h) (sizeOf h m))
       (le-trans (size-at-most everyMember (memberDemand h) (members h) (natAbs (neutrality h)) m l) (neutrality-under .under))
 
   -- No final is over 560,000,000,016 cents in size, so that its text fits 14 columns.

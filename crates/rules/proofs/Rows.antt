@@ -3,7 +3,7 @@
 use mathlib.Core.Path.{_≡_, refl, sym, _∙_, ap, ap₂}
 use mathlib.Core.Logic.{_↔_}
 use mathlib.Core.Bool.{Bool, true, false, cond}
-use mathlib.Core.Option.{none, some}
+use mathlib.Core.Option.{Option, none, some}
 use mathlib.Core.List.{List, [], _∷_, _++_}
 use Prim.Native.Nat.{ℕ, suc, _≤_}
 use native.Mathlib.Omega.{arith}
@@ -16,7 +16,8 @@ use Rattle.rules.specs.declared.Answer.the-variants.{Accepted, BadLength
 use Rattle.rules.specs.declared.Answer.the-variants.{OutOfRange, TooNarrow, NotAnAmount, TooShort, NoDemand}
 use Rattle.rules.specs.Record.{Hour}
 use Rattle.rules.specs.HourFile.{hourly, hourOf}
-use Rattle.rules.specs.Refusals.{Row, row, Verdict, accepted, refusedAt, verdictOf, verdict, placeZeroIf, badArea, badAmount, noDemand, tooShort}
+use Rattle.rules.specs.Refusals.{Row, row, Verdict, accepted, refusedAt, verdictOf, verdict, placeZeroIf}
+use Rattle.rules.specs.Refusals.{badArea, badAmount, noDemand, tooShort}
 use Rattle.rules.specs.Refusals.{tableRows, fileRows, hourRows, writeRows}
 use Rattle.rules.specs.Settling.{Buffers, Settlement, isAccepted, settleRows, filled, ufeFigures, noFigures, settle, write}
 use Rattle.rules.specs.Promises.{Accepts, AllWhole, FirstBrokenRow, OneSettlement}
@@ -131,19 +132,23 @@ module _ (s : List ℕ) where
   file-whole w = whole-parts (fileRows s) (row 6 (badArea h) ∷ row 7 (badAmount h) ∷ row 12 (noDemand h) ∷ []) .0 (rw hour-in-parts at w) .0
 
   module _ (charges finals lines shares deviations : ℕ) where
-    pub table-in-parts : tableRows s charges finals lines shares deviations ≡ hourRows s ++ row 11 (tooShort h charges finals lines shares deviations) ∷ []
+    abbrev lengthRow : Row
+    lengthRow = row 11 (tooShort h charges finals lines shares deviations)
+
+    pub table-in-parts : tableRows s charges finals lines shares deviations ≡ hourRows s ++ lengthRow ∷ []
     unfolding hourRows tableRows
     table-in-parts = refl
 
     -- what rows 1 to 5 refuse, the table refuses alike
-    pub file-decides : (verdict (fileRows s) ≡ accepted → ⊥) → verdict (tableRows s charges finals lines shares deviations) ≡ verdict (fileRows s)
+    pub file-decides : (verdict (fileRows s) ≡ accepted → ⊥) →
+        verdict (tableRows s charges finals lines shares deviations) ≡ verdict (fileRows s)
     unfolding fileRows tableRows
-    file-decides = refused-first (fileRows s) (row 6 (badArea h) ∷ row 7 (badAmount h) ∷ row 12 (noDemand h) ∷ row 11 (tooShort h charges finals lines shares deviations) ∷ [])
+    file-decides = refused-first (fileRows s) (row 6 (badArea h) ∷ row 7 (badAmount h) ∷ row 12 (noDemand h) ∷ lengthRow ∷ [])
 
     pub table-whole : AllWhole (tableRows s charges finals lines shares deviations) →
         AllWhole (hourRows s) × (tooShort h charges finals lines shares deviations ≡ none)
     table-whole w =
-        let parts = whole-parts (hourRows s) (row 11 (tooShort h charges finals lines shares deviations) ∷ []) .0 (rw table-in-parts at w) in
+        let parts = whole-parts (hourRows s) (lengthRow ∷ []) .0 (rw table-in-parts at w) in
         (parts .0, parts .1 .0)
 
 pub write-numbered : (width : ℕ) (z : ℤ) → Numbered (writeRows width z)
@@ -151,6 +156,10 @@ unfolding writeRows
 write-numbered width z = omega arith
 
 -- ---- settling
+
+-- row 11, of these buffers
+abbrev pub shortOf : Hour → Buffers → Option ℕ
+shortOf h b = tooShort h (length (b .charges)) (length (b .finals)) (length (b .lines)) (length (b .shares)) (length (b .deviations))
 
 module _ (s : List ℕ) (b : Buffers) where
   pub settle-verdict : settle s b .verdict ≡ verdict (settleRows s b)
@@ -168,8 +177,8 @@ module _ (s : List ℕ) (b : Buffers) where
 
   -- accepted: rows 1 to 7 and 12 are whole, and no buffer is too short
   pub settle-whole : Accepts s b → AllWhole (hourRows s)
-      × (tooShort (hourOf hourly s) (length (b .charges)) (length (b .finals)) (length (b .lines)) (length (b .shares)) (length (b .deviations)) ≡ none)
-  settle-whole a = table-whole s (length (b .charges)) (length (b .finals)) (length (b .lines)) (length (b .shares)) (length (b .deviations)) (settle-accepts .0 a)
+      × (shortOf (hourOf hourly s) b ≡ none)
+  settle-whole a = table-whole s _ _ _ _ _ (settle-accepts .0 a)
 
   pub settle-refuses : (n p : ℕ) → (settle s b .verdict ≡ refusedAt (suc n) p) ↔ FirstBrokenRow (settleRows s b) (suc n) p
   settle-refuses n p = let r = refuses-at-first (settleRows s b) n p in

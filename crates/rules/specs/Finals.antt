@@ -64,8 +64,10 @@ pub record SameSheet (s t : List ℕ) : Type 0 where
   pub verdict-is : verdict (hourRows s) ≡ verdict (hourRows t)
   pub head-is : verdict (hourRows s) ≡ accepted → let h = hourOf hourly s in let g = hourOf hourly t in
       (hourNumber h ≡ hourNumber g) × (members h ≡ members g) × (h .count ≡ g .count)
-  pub charge-is : verdict (hourRows s) ≡ accepted → let h = hourOf hourly s in (m : ℕ) → m < members h → charge h m ≡ charge (hourOf hourly t) m
-  pub final-is : verdict (hourRows s) ≡ accepted → let h = hourOf hourly s in (m : ℕ) → m < members h → final h m ≡ final (hourOf hourly t) m
+  pub charge-is : verdict (hourRows s) ≡ accepted → let h = hourOf hourly s in let g = hourOf hourly t in
+      (m : ℕ) → m < members h → charge h m ≡ charge g m
+  pub final-is : verdict (hourRows s) ≡ accepted → let h = hourOf hourly s in let g = hourOf hourly t in
+      (m : ℕ) → m < members h → final h m ≡ final g m
 
 abbrev pub AreBytes : List ℕ → Type 0
 AreBytes s = (i : ℕ) → getD s i 0 < 256

@@ -110,7 +110,8 @@ pub record Demand2 : Type 0 where
   pub printed : (s : List ℕ) → verdict (hourRows s) ≡ accepted → let h = hourOf hourly s in (m : ℕ) → m < members h →
       (length (amountText (charge h m)) ≤ 14) × (length (amountText (final h m)) ≤ 14)
       × (memberLine m (charge h m) (final h m) ≡
-      digitByte (m / 10) ∷ digitByte (m % 10) ∷ bytes " " ++ amountField 14 (charge h m) ++ bytes " " ++ amountField 14 (final h m) ++ bytes "\n")
+      digitByte (m / 10) ∷ digitByte (m % 10) ∷ bytes " " ++ amountField 14 (charge h m)
+      ++ bytes " " ++ amountField 14 (final h m) ++ bytes "\n")
 
 -- ---- DEMAND 3: the sums come out whole, without fractions. Document 01, "The sums": the exact fraction, and how both are compared
 

@@ -16,7 +16,8 @@ put-amounts-requires : tie.Need-put-amounts-requires
 put-amounts-requires c κs =
     let put = c .before .before .before in
     let begun = put .before .before .before in
-    (begun .pre .0, begun .pre .1, deviations-ready (begun .args .deviations .now) (begun .pre .2) (put .put-deviations .ensures), begun .pre .3)
+    let ready = deviations-ready (begun .args .deviations .now) (begun .pre .2) (put .put-deviations .ensures) in
+    (begun .pre .0, begun .pre .1, ready, begun .pre .3)
 
 sum-of-cents-requires : tie.Need-sum-of-cents-requires
 sum-of-cents-requires c κs =
@@ -34,7 +35,8 @@ same-length-2 c = search needs
 
 -- sum_of_cents(file, amounts) != 0
 returns : tie.Need-returns
-returns c = ap not (zero-test (c .sum-of-cents .result) (sfits-of (c .sum-of-cents .ok)) ∙ ap (λ (z : ℤ). eqb (natAbs z) 0) (c .sum-of-cents .ensures))
+returns c = let N = c .sum-of-cents in
+    ap not (zero-test (N .result) (sfits-of (N .ok)) ∙ ap (λ (z : ℤ). eqb (natAbs z) 0) (N .ensures))
 
 pub left-over-in-spec : {M : Type 1} → statement M
 left-over-in-spec =
