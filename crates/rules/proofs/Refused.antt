@@ -13,7 +13,7 @@ use Rattle.rules.specs.Ranges
 use Rattle.rules.specs.Refusals
 use Rattle.rules.specs.Settling
 use Rattle.rules.specs.Printed.{wordBytes, usedBuffers}
-use Rattle.rules.specs.Refused.{RefusedRight, sealed, exported, refusals}
+use Rattle.rules.specs.Refused.{RefusedRight, sealed, refusals}
 
 pub refused-right : RefusedRight
 unfolding Below.sumBelow Below.totalBelow Below.firstBelow orElse Record.signed Record.kindOf Record.zoneOf Record.tieIn Record.tieOut
@@ -24,5 +24,5 @@ unfolding Below.sumBelow Below.totalBelow Below.firstBelow orElse Record.signed 
     Refusals.badAmount Record.entry Record.memberOf Record.areaOf Record.entryOf Record.price Record.zonePrice Deviation.deviation
     Deviation.exportDeviation Ufe.inArea Share.shareSize Share.share Charge.entering Charge.shareOf Charge.grains Charge.nearestCent
     Charge.cents Charge.charge Neutrality.neutrality Neutrality.memberDemand Neutrality.hourDemand Refusals.noDemand Refusals.tooShort
-    Refusals.tableRows Settling.settle wordBytes usedBuffers sealed exported refusals
+    Refusals.tableRows Settling.settle wordBytes usedBuffers sealed refusals
 refused-right = (refl, (refl, (refl, (refl, (refl, (refl, (refl, (refl, (refl, tt)))))))))

@@ -24,10 +24,6 @@ first others body = sealed (1 ∷ 0 ∷ others ∷ 0 ∷ 0 ∷ 0 ∷ 0 ∷ body)
 abbrev pub plainHead : ℕ → List ℕ
 plainHead members = 7 ∷ members ∷ 1 ∷ 1 ∷ 5000 ∷ []
 
--- a second block of one record: an export of a kWh, scheduled and not taken
-unfoldable pub exported : List ℕ
-exported = sealed (2 ∷ 1 ∷ 1 ∷ 0 ∷ 0 ∷ 0 ∷ 0 ∷ 5 ∷ 0 ∷ 0 ∷ 1 ∷ [])
-
 -- all figures are 0, and the buffers, with three places each, are as they were
 abbrev pub refused : (number place : ℕ) → List ℕ → Case
 refused number place s = settle s usedBuffers is record { verdict = refusedAt number place; ufe = noFigures; buffers = usedBuffers }
@@ -45,11 +41,10 @@ refusals =
     ∷ refused 4 12 (first 0 (7 ∷ 2 ∷ 1 ∷ 1 ∷ 1000001 ∷ []))
     -- two records: an export of nothing, and one of kind 6
     ∷ refused 5 1 (first 1 (plainHead 2) ++ sealed (2 ∷ 1 ∷ 2 ∷ 0 ∷ 0 ∷ 0 ∷ 0 ∷ 5 ∷ replicate 11 0 ++ 6 ∷ []))
-    -- two areas: one without ties, and one with a kWh coming in and no load. Nobody demands anything and the export of a kWh that is not
-    -- taken leaves 5 cents over, but 6 is looked for before 12
-    ∷ refused 6 1 (first 1 (7 ∷ 2 ∷ 1 ∷ 2 ∷ 5000 ∷ replicate 8 0 ++ 1 ∷ []) ++ exported)
-    -- that export, and four members for three places: 12 is looked for before 11
-    ∷ refused 12 0 (first 1 (plainHead 4) ++ exported)
+    -- two areas: one without ties, and one with a kWh coming in and no load
+    ∷ refused 6 1 (first 0 (7 ∷ 2 ∷ 1 ∷ 2 ∷ 5000 ∷ replicate 8 0 ++ 1 ∷ []))
+    -- an export of a kWh, scheduled and not taken, no load, and four members for three places: 12 is looked for before 11
+    ∷ refused 12 0 (first 1 (plainHead 4) ++ sealed (2 ∷ 1 ∷ 1 ∷ 0 ∷ 0 ∷ 0 ∷ 0 ∷ 5 ∷ 0 ∷ 0 ∷ 1 ∷ []))
     -- four members and no record, so that N is 0
     ∷ refused 11 0 (first 0 (plainHead 4))
     ∷ []
