@@ -1,5 +1,5 @@
 -- Functions that fill a caller's buffers.
-use mathlib.Core.Path.{_≡_, refl, ap}
+use mathlib.Core.Path.{refl, ap}
 use contract.Lifetimes.{Lfts}
 use denote.Ref.{now}
 use Rattle.amount.proofs.RoundTrips.{one-reading}

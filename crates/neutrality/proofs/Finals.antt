@@ -54,7 +54,7 @@ module _ {h : Hour} (kept : HourKept h) where
   demand-running i m l there = omega (
     arith,
     sum-prefix (λ j. cond (eqb (memberOf h j) m) (demandOf h j) 0) i (h .count) l,
-    member-demand-by-record kept m,
+    member-demand-by-record h m,
     sum-at (memberDemand h) (members h) m there,
     hour-demand-most kept,
   )
@@ -62,7 +62,7 @@ module _ {h : Hour} (kept : HourKept h) where
   pub demands-are : {i : ℕ} {old out : List ℕ} → Added demandsAfter (members h) (h .count) i old out → h .count ≤ i →
       out ≡ replacingFirst (memberDemand h) (members h) old
   demands-are {i} {old} added ended =
-      all-added added ended ∙ replacing-ext _ (memberDemand h) (members h) old (λ m l. sym (member-demand-by-record kept m))
+      all-added added ended ∙ replacing-ext _ (memberDemand h) (members h) old (λ m l. sym (member-demand-by-record h m))
 
 -- ---- the engine is asked: in `demands` stand the members', which were put where `lent` was
 

@@ -1,6 +1,6 @@
 -- How large the numbers of an hour that keeps its ranges can be: deviations, UFE, shares, grains, amounts and charges, and every sum
 -- on the way to them. All fit 64 bits, and row 7 is never broken. Document 01, "Units and ranges", "The sums".
-use mathlib.Core.Path.{_≡_, refl, _∙_}
+use mathlib.Core.Path.{_≡_, refl}
 use mathlib.Core.Bool.{cond}
 use mathlib.Core.Option.{none}
 use Prim.Native.Nat.{ℕ, _+_, _*_, _≤_, _<_, zero-le}
@@ -14,7 +14,7 @@ use Rattle.whole.specs.Signed.{Under, Upto, minℤ, maxℤ}
 use Rattle.whole.proofs.Tests.{cond-ind}
 use Rattle.whole.proofs.Linear.{zr, all1, all2, all4, all5, all6}
 use Rattle.whole.proofs.Ranges.{_u+_, _u-_, _u*_, u-neg, u-lit, u-more, u-le, u-upto, u-apart, upto-mul, u-zero, u-cond, u-picked}
-use Rattle.whole.proofs.Sums.{sum-ext, sum-mono, sum-prefix, sum-at, sum-add, sum-mul, sum-const, sum-by}
+use Rattle.whole.proofs.Sums.{sum-mono, sum-prefix, sum-at, sum-add, sum-mul, sum-const, sum-by}
 use Rattle.whole.proofs.Totals.{total-under, total-within}
 use Rattle.whole.proofs.Search.{none-below}
 use Rattle.whole.proofs.Division.{nearest-under}
@@ -23,7 +23,7 @@ use Rattle.rules.specs.declared.Kind.the-variants.{Generator, RealTimeLo
 use Rattle.rules.specs.Record.{Hour, Entry, members, areas, price, zoneOf, tieIn, tieOut, memberOf, areaOf, entryOf, isLoad}
 use Rattle.rules.specs.Deviation.{unitsPerKWh, generatorUnavailable, generatorDeviation, loadUnavailable, loadDeviation}
 use Rattle.rules.specs.Deviation.{importDeviation, exportDeviation, deviationAs, deviation}
-use Rattle.rules.specs.Ufe.{inArea, ufe, demand, demands}
+use Rattle.rules.specs.Ufe.{inArea, ufe, demand}
 use Rattle.rules.specs.Charge.{enteringAs, entering, nearestCent, cents, shareOf, grains, amount, charge}
 use Rattle.rules.specs.Inner.Posting.{accountedAs, accounted}
 use Rattle.rules.specs.Refusals.{mostGrains, badAmount}

@@ -148,7 +148,7 @@ demand1 = record {
 -- ---- demand 2
 
 -- an amount in range fills its 14 columns whole
-pub in-its-column : (z : ℤ) → natAbs z ≤ 999999999999 → column z ≡ amountField 14 z
+in-its-column : (z : ℤ) → natAbs z ≤ 999999999999 → column z ≡ amountField 14 z
 unfolding column
 in-its-column z in-range = ap (λ (w : Written). w .field) (write-accepted-at (replicate 14 32) z in-range (text-fits-14 z in-range))
 

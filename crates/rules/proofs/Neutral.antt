@@ -1,14 +1,15 @@
 -- The neutrality amount: the shares of N add up to it, and the finals to nothing; of an hour that keeps its ranges, what the members demand
 -- and how large N and the finals are. Document 02, A1.
-use Prim.Native.Nat.{ℕ, _+_, _*_, _/_, _≤_, _<_}
+use Prim.Native.Nat.{ℕ, _+_, _*_, _/_, _≤_, _<_, zero-le}
 use native.Mathlib.Nat.{le-refl, le-trans}
 use native.Mathlib.Omega.{arith}
 use mathlib.Core.Path.{_≡_, refl, sym, _∙_, ap, ap₂}
-use mathlib.Core.Bool.{Bool, true, false, cond, _&&_}
+use mathlib.Core.Bool.{cond}
 use lib.IntN.{ℤ, pos, natAbs, _-ℤ_, _*ℤ_}
 use lib.Dec.{eqb}
 use Rattle.whole.specs.Below.{sumBelow, totalBelow}
 use Rattle.whole.specs.Signed.{Under, withSignOf}
+use Rattle.whole.proofs.Tests.{cond-both, cond-ind}
 use Rattle.whole.proofs.Linear.{zr, all1, all2}
 use Rattle.whole.proofs.Ranges.{_u-_, u-lit, u-le, u-picked, abs-with-sign, u-with-sign}
 use Rattle.whole.proofs.Sums.{sum-ext, sum-mono, sum-prefix, sum-at, sum-add, sum-mul, sum-const, sum-by}
@@ -52,7 +53,7 @@ module _ (h : Hour) where
       ap (λ (size : ℕ). charge h m -ℤ withSignOf (neutrality h) size)
       (ranked everyMember (memberDemand h) (members h) (natAbs (neutrality h)) m l)
 
-  pub share-of-N : (m : ℕ) → charge h m -ℤ final h m ≡ neutralityShare h m
+  share-of-N : (m : ℕ) → charge h m -ℤ final h m ≡ neutralityShare h m
   unfolding final
   share-of-N m = taken-off (charge h m) (neutralityShare h m)
 
@@ -109,32 +110,29 @@ module _ (h : Hour) where
 
 -- ---- demand
 
-one-test : (b c : Bool) (d : ℕ) → cond (b && c) d 0 ≡ cond b (cond c d 0) 0
-one-test true c d = refl
-one-test false c d = refl
-
-module _ {h : Hour} (kept : HourKept h) where
-  -- A member's demand is that of its records.
+module _ (h : Hour) where
+  -- A member's demand is that of its records, and an area's of its own.
   pub member-demand-by-record : (m : ℕ) → memberDemand h m ≡ sumBelow (λ i. cond (eqb (memberOf h i) m) (demandOf h i) 0) (h .count)
   unfolding memberDemand demandBy entryOf entry
   member-demand-by-record m =
-      sum-ext _ _ (h .count) (λ i l. one-test (eqb (memberOf h i) m) (isLoad (entryOf h i .kind)) (demand h i))
+      sum-ext _ _ (h .count) (λ i l. cond-both (eqb (memberOf h i) m) (isLoad (entryOf h i .kind)) (demand h i))
 
   area-demand-by-record : (a : ℕ) → demands h a ≡ sumBelow (λ i. cond (eqb (areaOf h i) a) (demandOf h i) 0) (h .count)
   unfolding demands allDemand inArea demandBy entryOf entry
   area-demand-by-record a =
-      sum-ext _ _ (h .count) (λ i l. one-test (eqb (areaOf h i) a) (isLoad (entryOf h i .kind)) (demand h i))
+      sum-ext _ _ (h .count) (λ i l. cond-both (eqb (areaOf h i) a) (isLoad (entryOf h i .kind)) (demand h i))
 
+module _ {h : Hour} (kept : HourKept h) where
   -- The demand in the hour is that of all records, and that of all areas.
-  pub hour-demand-by-record : hourDemand h ≡ sumBelow (demandOf h) (h .count)
+  hour-demand-by-record : hourDemand h ≡ sumBelow (demandOf h) (h .count)
   unfolding hourDemand allDemand
   hour-demand-by-record =
-      sum-ext _ _ (members h) (λ m l. member-demand-by-record m)
+      sum-ext _ _ (members h) (λ m l. member-demand-by-record h m)
       ∙ sum-by (demandOf h) (memberOf h) (members h) (h .count) (λ i l. kept .record-kept i l .member-there)
 
   pub hour-demand-by-area : hourDemand h ≡ sumBelow (demands h) (areas h)
   hour-demand-by-area = hour-demand-by-record ∙ sym (
-      sum-ext _ _ (areas h) (λ a l. area-demand-by-record a)
+      sum-ext _ _ (areas h) (λ a l. area-demand-by-record h a)
       ∙ sum-by (demandOf h) (areaOf h) (areas h) (h .count) (λ i l. kept .record-kept i l .area-there))
 
   -- Where nobody demands anything in the hour, no area does.
@@ -143,11 +141,8 @@ module _ {h : Hour} (kept : HourKept h) where
 
   demand-of-most : (i : ℕ) → i < h .count → demandOf h i ≤ 100000
   unfolding demandBy entryOf entry
-  demand-of-most i l = let d = kept .record-kept i l .demand-most in cond-most (isLoad (entryOf h i .kind)) (demand h i) d
-    where
-      cond-most : (b : Bool) (d : ℕ) → d ≤ 100000 → cond b d 0 ≤ 100000
-      cond-most true d p = p
-      cond-most false d p = omega arith
+  demand-of-most i l =
+      cond-ind (isLoad (entryOf h i .kind)) (demand h i) 0 (λ d. d ≤ 100000) (λ t. kept .record-kept i l .demand-most) (λ t. zero-le)
 
   -- At most 25,000,000 kWh are demanded in an hour.
   pub hour-demand-most : hourDemand h ≤ 25000000
@@ -166,7 +161,7 @@ module _ {h : Hour} (kept : HourKept h) where
   amount-within m = total-within _ _ (h .count) (λ i l. u-picked (eqb (memberOf h i) m) (u-lit (grains h i))) .under
 
   -- All amounts together are at most 2.8×10^18 grains in size.
-  pub all-amounts-most : sumBelow (λ m. natAbs (amount h m)) (members h) ≤ 2800000000000000000
+  all-amounts-most : sumBelow (λ m. natAbs (amount h m)) (members h) ≤ 2800000000000000000
   all-amounts-most = omega (
     arith,
     sum-mono _ _ (members h) (λ m l. amount-within m),

@@ -1,7 +1,7 @@
 -- Postings as values give the figures of the definitions: the tally an area's demand and UFE, the lines each member's amount and count.
-use mathlib.Core.Path.{_≡_, refl, sym, _∙_, ap}
+use mathlib.Core.Path.{_≡_, refl, sym, _∙_, ap, ap₂}
 use mathlib.Core.Logic.{_≢_}
-use mathlib.Core.Bool.{Bool, true, false, cond, _&&_}
+use mathlib.Core.Bool.{Bool, true, false, cond}
 use mathlib.Core.List.{List}
 use Prim.Native.Nat.{ℕ, zero, suc, _+_, _<_}
 use native.Mathlib.Nat.{add-zero}
@@ -11,6 +11,8 @@ use lib.IntN.{ℤ, pos, +ℤ-idr, _+ℤ_, _-ℤ_, _*ℤ_}
 use lib.ListN.{length, getD, length-set, getD-replicate}
 use lib.Seq.{getD-set-other}
 use Rattle.whole.specs.Below.{oneIf, countBelow, sumBelow, totalBelow, replacingFirst}
+use Rattle.whole.proofs.Tests.{cond-both}
+use Rattle.whole.proofs.Sums.{grown-if}
 use Rattle.whole.proofs.Totals.{added-if}
 use Rattle.whole.proofs.Buffers.{getD-changed, replacing-changed, replacing-ext}
 use Rattle.rules.specs.declared.Line.{Line}
@@ -31,11 +33,6 @@ unfolding entryOf entry
 demand-is-actual h i = refl
 
 -- ---- the tally
-
--- a posting adds to its own area's figures, and nothing to another's
-demand-grows : (here load : Bool) (x d : ℕ) → cond here (x + cond load d 0) x ≡ x + cond (here && load) d 0
-demand-grows true load x d = refl
-demand-grows false load x d = sym (add-zero x)
 
 module _ (h : Hour) where
   -- The tally counts the records posted.
@@ -62,8 +59,8 @@ module _ (h : Hour) where
     tally-demand zero = getD-replicate 8 a 0 0 area
     tally-demand (suc n) =
         getD-changed (λ x. x + demandOf h n) (tallyAfter h n .demand) (areaOf h n) a 0 (let e = tally-demand-length n in omega arith)
-        ∙ demand-grows (eqb (areaOf h n) a) (isLoad (entryOf h n .kind)) (getD (tallyAfter h n .demand) a 0) (demand h n)
-        ∙ ap (λ (x : ℕ). x + cond (inArea h a isLoad n) (demand h n) 0) (tally-demand n)
+        ∙ grown-if (eqb (areaOf h n) a) (getD (tallyAfter h n .demand) a 0) (demandOf h n)
+        ∙ ap₂ (λ (x y : ℕ). x + y) (tally-demand n) (sym (cond-both (eqb (areaOf h n) a) (isLoad (entryOf h n .kind)) (demand h n)))
 
     -- After n records an area's energy is what its records among them are accounted for.
     pub tally-energy : (n : ℕ) →

@@ -1,16 +1,15 @@
 -- A loop that adds to one of the first k places of a buffer a turn, in each to what stood there: its invariant, and what a turn and the end
 -- make of it.
-use mathlib.Core.Path.{_≡_, refl, sym, _∙_, ap}
-use mathlib.Core.Bool.{Bool, true, false, cond}
+use mathlib.Core.Path.{_≡_, sym, _∙_, ap}
+use mathlib.Core.Bool.{cond}
 use mathlib.Core.List.{List}
 use Prim.Native.Nat.{ℕ, _+_, _≤_, _<_, zero-le}
-use native.Mathlib.Nat.{add-zero}
 use native.Mathlib.Omega.{arith}
 use lib.Dec.{eqb}
 use lib.IntN.{ℤ, pos, _+ℤ_}
 use lib.ListN.{length, getD, set}
 use Rattle.whole.specs.Below.{sumBelow, totalBelow, replacingFirst}
-use Rattle.whole.proofs.Sums.{sum-none, sum-add-one}
+use Rattle.whole.proofs.Sums.{grown-if, sum-none, sum-add-one}
 use Rattle.whole.proofs.Totals.{added-if, total-none, total-add-one}
 use Rattle.whole.proofs.Buffers.{getD-replacing, length-replacing, replacing-ext, replacing-same, replacing-changed}
 
@@ -21,7 +20,7 @@ pub record Added {ℓ} {A : Type ℓ} (after : ℕ → ℕ → A) (k n i : ℕ) 
   pub holds : out ≡ replacingFirst (after i) k old
 
 module _ {ℓ} {A : Type ℓ} {after : ℕ → ℕ → A} {k n : ℕ} {old : List A} where
-  pub none-added : (d : A) → k ≤ length old → ((m : ℕ) → m < k → after 0 m ≡ getD old m d) → Added after k n 0 old old
+  none-added : (d : A) → k ≤ length old → ((m : ℕ) → m < k → after 0 m ≡ getD old m d) → Added after k n 0 old old
   none-added d room same = record { reached = zero-le; room = room; holds = sym (replacing-same (after 0) k old d room same) }
 
   module _ {i : ℕ} {out : List A} (added : Added after k n i old out) where
@@ -53,10 +52,6 @@ module _ (of : ℕ → ℕ) (f : ℕ → ℕ) where
   abbrev pub sumsBy : ℕ → ℕ → ℕ
   sumsBy i m = sumBelow (λ j. cond (eqb (of j) m) (f j) 0) i
 
-  grown : (b : Bool) (x d : ℕ) → cond b (x + d) x ≡ x + cond b d 0
-  grown true x d = refl
-  grown false x d = sym (add-zero x)
-
   module _ {k n : ℕ} {old : List ℕ} where
     pub no-sum-added : k ≤ length old → ((m : ℕ) → m < k → getD old m 0 ≡ 0) → Added sumsBy k n 0 old old
     no-sum-added room zeros = none-added 0 room (λ m l. sum-none _ ∙ sym (zeros m l))
@@ -64,7 +59,7 @@ module _ (of : ℕ → ℕ) (f : ℕ → ℕ) where
     pub next-sum : {i : ℕ} {out : List ℕ} {m d : ℕ} → Added sumsBy k n i old out → i < n → of i < k → m ≡ of i → d ≡ f i →
         Added sumsBy k n (i + 1) old (set out m (getD out m 0 + d))
     next-sum {i} {out} added turn there at is = rw (at, is) (next-changed added (λ x. x + f i) 0 (of i) there turn (λ j l.
-        grown (eqb (of i) j) (sumsBy i j) (f i) ∙ sym (sum-add-one _ i)))
+        grown-if (eqb (of i) j) (sumsBy i j) (f i) ∙ sym (sum-add-one _ i)))
 
 module _ (of : ℕ → ℕ) (f : ℕ → ℤ) where
   abbrev pub totalsBy : ℕ → ℕ → ℤ

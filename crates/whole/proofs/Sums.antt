@@ -2,7 +2,7 @@
 use mathlib.Core.Path.{_≡_, refl, sym, _∙_, ap, ap₂}
 use mathlib.Core.Bool.{Bool, true, false, cond}
 use Prim.Native.Nat.{ℕ, zero, suc, _+_, _*_, _%_, _≤_, _<_, zero-le}
-use native.Mathlib.Nat.{add-le-add, le-refl, not-suc-le-zero, mul-one, mod-add-mod}
+use native.Mathlib.Nat.{add-zero, add-le-add, le-refl, not-suc-le-zero, mul-one, mod-add-mod}
 use native.Mathlib.Numerals.{add-one}
 use native.Mathlib.Omega.{arith}
 use lib.Dec.{eqb}
@@ -63,6 +63,11 @@ sum-none f = refl
 pub sum-add-one : (f : ℕ → ℕ) (n : ℕ) → sumBelow f (n + 1) ≡ sumBelow f n + f n
 unfolding sumBelow
 sum-add-one f n = ap (sumBelow f) (add-one n)
+
+-- what a test lets be added
+pub grown-if : (b : Bool) (x d : ℕ) → cond b (x + d) x ≡ x + cond b d 0
+grown-if true x d = refl
+grown-if false x d = sym (add-zero x)
 
 pub sum-ext : (f g : ℕ → ℕ) (n : ℕ) → ((i : ℕ) → i < n → f i ≡ g i) → sumBelow f n ≡ sumBelow g n
 unfolding sumBelow

@@ -1,9 +1,7 @@
 -- `report::put_accepted` meets its contract: line 1 with the file's own numbers, and the members' lines after it.
-use mathlib.Core.List.{List}
-use Prim.Native.Nat.{ℕ}
 use native.Mathlib.Omega.{arith}
 use borrow.Author.Needs.{needs}
-use Rattle.rules.specs.Record.{Hour, hourNumber, members}
+use Rattle.rules.specs.Record.{hourNumber, members}
 use Rattle.rules.specs.Statement.{firstLine, acceptedLines}
 use Rattle.rules.proofs.Stated.{hour-number-most, first-line-most}
 use Rattle.hour.specs.Hour.{hourIn, Headed}
