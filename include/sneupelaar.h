@@ -25,24 +25,29 @@ extern "C" {
 #define SNEUPELAAR_MOST_RECORDS 250
 #define SNEUPELAAR_AREAS 8
 
+/* The words of a head, which is the body of an hour file's first block, and of a record. */
+#define SNEUPELAAR_HEAD_WORDS 120
+#define SNEUPELAAR_RECORD_WORDS 12
+
 /* An answer is a number and a place. Number 0 is acceptance, at place 0; any other is a refusal:
  *
- *   number  given by  what is wrong                                                            place
- *        1  settle    the file's length: 0, no multiple of 512, or more than 13,312            0
- *        2  settle    the 128 words of a block don't add up to 0 modulo 2^32                   the first such block
- *        3  settle    words 0 to 6 of a block, or something after its last record              the first such block
- *        4  settle    a word of the head is out of its range                                   the first such word, 9 to 127
- *        5  settle    a record's kind, member, area or another word is out of its range        the first such record
- *        6  settle    an area has unaccounted for energy (UFE) and no demand to share it over  the first such area
- *        7  settle    a member's exact amount is beyond 4*10^18 grains                         the first such member
- *        8  write     the amount is beyond 999,999,999,999 cents in size                       0
- *        9  write     the field is shorter than the amount's text                              0
- *       10  read      the field is not an amount's text                                        0
- *       11  settle    a buffer is too short for the hour                                       0
- *       12  settle    nobody has demand, and the sum of all charges isn't 0                    0
+ *   number  given by            what is wrong                                                            place
+ *        1  settle              the file's length: 0, no multiple of 512, or more than 13,312            0
+ *        1  write_hour          a length: no head of 120 words, no whole records, or more than 250       0
+ *        2  settle              the 128 words of a block don't add up to 0 modulo 2^32                   the first such block
+ *        3  settle              words 0 to 6 of a block, or something after its last record              the first such block
+ *        4  settle, write_hour  a word of the head is out of its range                                   the first such word, 9 to 127
+ *        5  settle, write_hour  a record's kind, member, area or another word is out of its range        the first such record
+ *        6  settle              an area has unaccounted for energy (UFE) and no demand to share it over  the first such area
+ *        7  settle              a member's exact amount is beyond 4*10^18 grains                         the first such member
+ *        8  write               the amount is beyond 999,999,999,999 cents in size                       0
+ *        9  write               the field is shorter than the amount's text                              0
+ *       10  read                the field is not an amount's text                                        0
+ *       11  settle, write_hour  a buffer is too short for the hour                                       0
+ *       12  settle              nobody has demand, and the sum of all charges isn't 0                    0
  *
- * Settling looks for 1 to 7 in this order, each over the whole file, then for 12, then for 11; writing for 8, then 9. The first found is
- * answered.
+ * Settling looks for 1 to 7 in this order, each over the whole file, then for 12, then for 11; writing an hour for 1, 4, 5, then 11;
+ * writing an amount for 8, then 9. The first found is answered.
  * Blocks, words of the head's block, records, areas and members count from 0. docs/FORMAT.md has the file's and the text's form. */
 
 /* A member's line. 16 bytes: amount at 0, records at 8, then 4 that are padding. */
@@ -71,6 +76,13 @@ typedef struct {
     int64_t amount; /* in cents */
 } sneupelaar_reading;
 
+/* 24 bytes: number at 0, place at 8, length at 16. */
+typedef struct {
+    uint64_t number;
+    uint64_t place;
+    size_t length; /* of the file that was written, in bytes; 0 where it is refused */
+} sneupelaar_written;
+
 /* A part of a file. 16 bytes: from at 0, length at 8. */
 typedef struct {
     size_t from; /* where its first byte stands in the file */
@@ -90,6 +102,18 @@ typedef struct {
 sneupelaar_settled sneupelaar_settle(const uint8_t *file, size_t file_length, sneupelaar_line *lines, size_t lines_length,
                                      int64_t *charges, size_t charges_length, int64_t *finals, size_t finals_length,
                                      int64_t *shares, size_t shares_length, int64_t *deviations, size_t deviations_length);
+
+/* Writes an hour file. Lengths are in words, and in bytes of the file. The head is words 8 to 127 of the first block; the records stand
+ * one behind the other, twelve words each. docs/FORMAT.md says what each word means.
+ *
+ * Accepted: the first `length` bytes of file are the hour, 512 for the head and 512 for every ten records or what is left of them, which
+ * settling reads as that head and those records; every byte past them is unchanged. Head and records of an hour file that settling accepts
+ * are written as the same bytes.
+ *
+ * Refused (1, 4, 5, 11): file is unchanged. A word of the head is counted as in the first block, so that head[1] is at 9. 11 is answered
+ * where file is shorter than the hour; SNEUPELAAR_MOST_BYTES are enough for any. */
+sneupelaar_written sneupelaar_write_hour(const uint32_t *head, size_t head_length, const uint32_t *records, size_t records_length,
+                                         uint8_t *file, size_t file_length);
 
 /* Writes an amount of cents into the whole field: blanks, the sign, dollars, a point and two digits, to the right. No byte is added.
  * Refused (8, 9): the field is unchanged. 14 bytes are wide enough for any amount that isn't refused by 8. */

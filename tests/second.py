@@ -1,8 +1,11 @@
 #!/usr/bin/env python3
-"""The second program: settles an hour, writes and reads amounts as documents 01, 02 and 003 say, apart from the proved programs.
+"""The second program: settles an hour, writes an hour file, writes and reads amounts as documents 01, 02 and 003 say, apart from the
+proved programs.
 
     python3 tests/second.py statement < hour
     python3 tests/second.py settled [L [C [F [S [D]]]]] < hour
+    python3 tests/second.py write_hour < words
+    python3 tests/second.py written [H [R]] < words
     python3 tests/second.py amounts < cases
 
 It is the other opinion that the proved programs are compared with, so it takes nothing from them. It
@@ -15,12 +18,15 @@ import struct
 import sys
 from collections import namedtuple
 from fractions import Fraction
+from itertools import chain
 
 BLOCK_BYTES = 512
 MOST_BLOCKS = 26
 FIRST_BODY_WORD = 8
 RECORD_WORDS = 12
 RECORDS_IN_A_BLOCK = 10
+HEAD_WORDS = 120
+MOST_RECORDS = 250
 
 UNITS_IN_A_KWH = 10_000
 GRAINS_IN_A_CENT = 10_000_000
@@ -33,6 +39,9 @@ AMOUNT_COLUMNS = 14
 # otherwise; and what it lays in each place before settling, to show which places settling writes.
 USUAL_LENGTHS = (32, 32, 32, 250, 250)
 UNTOUCHED = 77
+
+# How many words program `written` takes for the head, and how many bytes it lends for the file, if not told otherwise.
+USUAL_WRITING = (HEAD_WORDS, MOST_BLOCKS * BLOCK_BYTES)
 
 # The blocks whose bodies it asks for: all that a file can have, the first that none has, and two so far
 # that the places of their bytes would go round 2^64.
@@ -165,15 +174,19 @@ def record_holds(record, members, areas):
                for letter, allowed in RECORD_RANGES.items())
 
 
-def read_records(blocks, members, areas):
+def records_held(blocks):
+    """The words of each record that the blocks hold, in file order."""
+    return [block[at:at + RECORD_WORDS] for block in blocks[1:]
+            for at in range(FIRST_BODY_WORD, FIRST_BODY_WORD + RECORD_WORDS * block[2], RECORD_WORDS)]
+
+
+def read_records(held, members, areas):
     records = []
-    for block in blocks[1:]:
-        for held in range(block[2]):
-            at = FIRST_BODY_WORD + RECORD_WORDS * held
-            record = read_record(block[at:at + RECORD_WORDS])
-            if not record_holds(record, members, areas):
-                raise Refused(5, len(records))
-            records.append(record)
+    for words in held:
+        record = read_record(words)
+        if not record_holds(record, members, areas):
+            raise Refused(5, len(records))
+        records.append(record)
     return records
 
 
@@ -183,8 +196,38 @@ def read_hour(data):
     check_sums(blocks)
     check_layout(blocks)
     hour = read_head(blocks[0])
-    hour["records"] = read_records(blocks, hour["members"], len(hour["areas"]))
+    hour["records"] = read_records(records_held(blocks), hour["members"], len(hour["areas"]))
     return hour
+
+
+# ---- Writing an hour file (document 02, A2)
+
+def sealed(mark, position, count, body):
+    """A block's bytes: the front, the word that makes the sum zero, the body, and zeros up to the block's end."""
+    front = [mark, position, count, 0, 0, 0, 0]
+    seal = -(sum(front) + sum(body)) % 2**32
+    return struct.pack(f"<{FIRST_BODY_WORD + len(body)}I", *front, seal, *body).ljust(BLOCK_BYTES, b"\0")
+
+
+def hour_file(head, records):
+    """The file of a head and of records: ten in each block but the last, and no block for none."""
+    tens = [records[first:first + RECORDS_IN_A_BLOCK] for first in range(0, len(records), RECORDS_IN_A_BLOCK)]
+    others = (sealed(2, position, len(ten), [*chain(*ten)]) for position, ten in enumerate(tens, 1))
+    return b"".join([sealed(1, 0, len(tens), head), *others])
+
+
+def write_hour(head, words, room):
+    """The hour file of a head and of the words of records, one record after the other, for a buffer of `room` bytes; or refusals 1, 4,
+    5 and 11."""
+    if len(head) != HEAD_WORDS or len(words) % RECORD_WORDS != 0 or len(words) > RECORD_WORDS * MOST_RECORDS:
+        raise Refused(1)
+    read = read_head((0,) * FIRST_BODY_WORD + tuple(head))
+    records = [words[first:first + RECORD_WORDS] for first in range(0, len(words), RECORD_WORDS)]
+    read_records(records, read["members"], len(read["areas"]))
+    file = hour_file(head, records)
+    if room < len(file):
+        raise Refused(11)
+    return file
 
 
 # ---- The sums (document 003, D 2.1 and D 2.2; document 01, "The sums")
@@ -398,13 +441,18 @@ def read_amount(field):
 
 # ---- What the programs print
 
+def refusal(refused):
+    """A refusal as the programs print it that people run."""
+    return b"refused %d at %d\n" % (refused.number, refused.place)
+
+
 def statement(data):
     """Document 01, "The printed statement"; the second column is document 02's, A1."""
     try:
         hour = read_hour(data)
         figures = work_out(hour)
     except Refused as refused:
-        return b"refused %d at %d\n" % (refused.number, refused.place)
+        return refusal(refused)
     text = b"hour %d members %d records %d\n" % (hour["number"], hour["members"], len(hour["records"]))
     for member, (charge, final) in enumerate(zip(figures["charges"], figures["finals"])):
         text += b"%02d %s %s\n" % (member, column(charge), column(final))
@@ -433,6 +481,34 @@ def settled(data, lengths=()):
             ["lines", *(f"{amount}:{records}" for amount, records in answer.lines)],
             ["bodies", *(f"{begins}:{length}" for begins, length in bodies(data, BLOCKS_ASKED_FOR))]]
     return "".join(" ".join(map(str, row)) + "\n" for row in rows).encode()
+
+
+def words_in(data):
+    """Bytes as little-endian words; some left over are no word."""
+    return struct.unpack(f"<{len(data) // 4}I", data[:len(data) // 4 * 4])
+
+
+def written_hour(data):
+    """Program `write_hour`: the head's words and the records' words to an hour file (document 02, A2). Its own buffer is long enough."""
+    try:
+        if len(data) % 4 != 0:
+            raise Refused(1)
+        words = words_in(data)
+        return write_hour(words[:HEAD_WORDS], words[HEAD_WORDS:], MOST_BLOCKS * BLOCK_BYTES)
+    except Refused as refused:
+        return refusal(refused)
+
+
+def written(data, lengths=()):
+    """The answer and the whole file buffer after writing an hour, as program `written` prints them: of so many words as the head and all
+    others as records, into so many bytes. Lengths that are not given are the usual ones."""
+    split, room = tuple(lengths) + USUAL_WRITING[len(lengths):]
+    words, buffer = words_in(data), bytes([UNTOUCHED]) * room
+    try:
+        file = write_hour(words[:split], words[split:], room)
+    except Refused as refused:
+        return b"answer %d at %d length 0\n" % (refused.number, refused.place) + buffer
+    return b"answer 0 at 0 length %d\n" % len(file) + file + buffer[len(file):]
 
 
 def answered(number):
@@ -494,11 +570,12 @@ def pool_total(hour, ufe):
     return total
 
 
-PRINTED = {"statement": statement, "settled": settled, "amounts": amounts}
+PRINTED = {"statement": statement, "settled": settled, "write_hour": written_hour, "written": written, "amounts": amounts}
+MOST_LENGTHS = {"settled": len(USUAL_LENGTHS), "written": len(USUAL_WRITING)}
 
 
 def main(name="", *lengths):
-    if len(lengths) > {"statement": 0, "settled": 5, "amounts": 0}.get(name, -1):
+    if name not in PRINTED or len(lengths) > MOST_LENGTHS.get(name, 0):
         sys.exit(__doc__)
     words = [[int(length) for length in lengths]] if lengths else []
     sys.stdout.buffer.write(PRINTED[name](sys.stdin.buffer.read(), *words))

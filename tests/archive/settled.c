@@ -3,28 +3,16 @@
      settled [LINES [CHARGES [FINALS [SHARES [DEVIATIONS]]]]]     the buffers' lengths; without them the buffers are long enough for any hour
    tests/second.py prints the same. */
 #include <stdio.h>
-#include <stdlib.h>
 
 #include "sneupelaar.h"
 #include "streams.h"
 
 enum { LINES = 40, RECORDS = 260, LAID = 77 };
 
+static const char usage[] = "settled [LINES [CHARGES [FINALS [SHARES [DEVIATIONS]]]]]: at most 40, 40, 40, 260 and 260";
 static uint8_t file[SNEUPELAAR_MOST_BYTES + 1]; /* a byte more than the longest, so that a longer input is seen */
 static sneupelaar_line lines[LINES];
 static int64_t charges[LINES], finals[LINES], shares[RECORDS], deviations[RECORDS];
-
-/* The length that argument `at` names, or the usual one. */
-static size_t length(int count, char **words, int at, size_t usual, size_t most)
-{
-    if (at >= count)
-        return usual;
-    char *end;
-    size_t named = strtoul(words[at], &end, 10);
-    if (end == words[at] || *end != '\0' || named > most)
-        fail("settled [LINES [CHARGES [FINALS [SHARES [DEVIATIONS]]]]]: at most 40, 40, 40, 260 and 260");
-    return named;
-}
 
 static void lay(void)
 {
@@ -71,11 +59,11 @@ static void print_bodies(size_t bytes)
 
 int main(int count, char **words)
 {
-    size_t lined = length(count, words, 1, SNEUPELAAR_MOST_MEMBERS, LINES);
-    size_t charged = length(count, words, 2, SNEUPELAAR_MOST_MEMBERS, LINES);
-    size_t finished = length(count, words, 3, SNEUPELAAR_MOST_MEMBERS, LINES);
-    size_t shared = length(count, words, 4, SNEUPELAAR_MOST_RECORDS, RECORDS);
-    size_t deviated = length(count, words, 5, SNEUPELAAR_MOST_RECORDS, RECORDS);
+    size_t lined = length_named(count, words, 1, SNEUPELAAR_MOST_MEMBERS, LINES, usage);
+    size_t charged = length_named(count, words, 2, SNEUPELAAR_MOST_MEMBERS, LINES, usage);
+    size_t finished = length_named(count, words, 3, SNEUPELAAR_MOST_MEMBERS, LINES, usage);
+    size_t shared = length_named(count, words, 4, SNEUPELAAR_MOST_RECORDS, RECORDS, usage);
+    size_t deviated = length_named(count, words, 5, SNEUPELAAR_MOST_RECORDS, RECORDS, usage);
     size_t bytes = read_input(file, sizeof file);
     lay();
     sneupelaar_settled settled =

@@ -12,6 +12,17 @@ void fail(const char *why)
     exit(FAILED);
 }
 
+size_t length_named(int count, char **words, int at, size_t usual, size_t most, const char *usage)
+{
+    if (at >= count)
+        return usual;
+    char *end;
+    size_t named = strtoul(words[at], &end, 10);
+    if (end == words[at] || *end != '\0' || named > most)
+        fail(usage);
+    return named;
+}
+
 size_t read_input(uint8_t *room, size_t length)
 {
     size_t bytes = fread(room, 1, length, stdin);

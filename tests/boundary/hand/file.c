@@ -71,49 +71,55 @@ static int block_bad(const uint8_t *block, size_t position, size_t blocks)
     return !zeros(block, BODY_WORD + RECORD_WORDS * third, BLOCK_WORDS);
 }
 
-/* The first word from `at` on that is not zero, or `to`. */
-static size_t first_not_zero(const uint8_t *block, size_t at, size_t to)
+/* A word of the first body by its place in the block. */
+static uint32_t head_word(const uint8_t *head, size_t at)
 {
-    while (at < to && word(block, at) == 0)
+    return word(head, at - BODY_WORD);
+}
+
+/* The first word from `at` on that is not zero, or `to`. */
+static size_t first_not_zero(const uint8_t *head, size_t at, size_t to)
+{
+    while (at < to && head_word(head, at) == 0)
         at++;
     return at;
 }
 
 /* The first word of an area that breaks its range, or the next area's first. */
-static size_t bad_area_word(const uint8_t *block, size_t at, uint32_t zones)
+static size_t bad_area_word(const uint8_t *head, size_t at, uint32_t zones)
 {
-    if (word(block, at) >= zones)
+    if (head_word(head, at) >= zones)
         return at;
-    if (!keeps(word(block, at + 1), tie))
+    if (!keeps(head_word(head, at + 1), tie))
         return at + 1;
-    if (!keeps(word(block, at + 2), tie))
+    if (!keeps(head_word(head, at + 2), tie))
         return at + 2;
-    return word(block, at + 3) != 0 ? at + 3 : at + AREA_WORDS;
+    return head_word(head, at + 3) != 0 ? at + 3 : at + AREA_WORDS;
 }
 
 /* The first word of the first body that breaks row 4, or BLOCK_WORDS. */
-static size_t bad_head_word(const uint8_t *block)
+static size_t bad_head_word(const uint8_t *head)
 {
-    uint32_t zones = word(block, ZONES), areas = word(block, AREAS);
-    if (!keeps(word(block, MEMBERS), (range)RANGE(1, MOST_MEMBERS)))
+    uint32_t zones = head_word(head, ZONES), areas = head_word(head, AREAS);
+    if (!keeps(head_word(head, MEMBERS), (range)RANGE(1, MOST_MEMBERS)))
         return MEMBERS;
     if (!keeps(zones, (range)RANGE(1, MOST_ZONES)))
         return ZONES;
     if (!keeps(areas, (range)RANGE(1, MOST_AREAS)))
         return AREAS;
     for (size_t zone = 0; zone < zones; zone++)
-        if (!keeps(word(block, PRICES + zone), price))
+        if (!keeps(head_word(head, PRICES + zone), price))
             return PRICES + zone;
-    size_t found = first_not_zero(block, PRICES + zones, FIRST_AREA);
+    size_t found = first_not_zero(head, PRICES + zones, FIRST_AREA);
     if (found < FIRST_AREA)
         return found;
     size_t end = FIRST_AREA + AREA_WORDS * areas;
     for (size_t at = FIRST_AREA; at < end; at += AREA_WORDS) {
-        found = bad_area_word(block, at, zones);
+        found = bad_area_word(head, at, zones);
         if (found < at + AREA_WORDS)
             return found;
     }
-    return first_not_zero(block, end, BLOCK_WORDS);
+    return first_not_zero(head, end, BLOCK_WORDS);
 }
 
 static int record_bad(const uint8_t *record, uint32_t members, uint32_t areas)
@@ -138,13 +144,25 @@ sneupelaar_answer examine(const uint8_t *file, size_t file_length)
     for (size_t block = 0; block < blocks; block++)
         if (block_bad(block_at(file, block), block, blocks))
             return (sneupelaar_answer){ 3, block };
-    size_t bad = bad_head_word(file);
+    size_t bad = bad_head_word(file + 4 * BODY_WORD);
     if (bad < BLOCK_WORDS)
         return (sneupelaar_answer){ 4, bad };
     uint32_t members = word(file, MEMBERS), areas = word(file, AREAS);
     size_t records = records_in(file, file_length);
     for (size_t record = 0; record < records; record++)
         if (record_bad(record_at(file, record), members, areas))
+            return (sneupelaar_answer){ 5, record };
+    return (sneupelaar_answer){ 0, 0 };
+}
+
+sneupelaar_answer examine_parts(const uint8_t *head, const uint8_t *records, size_t count)
+{
+    size_t bad = bad_head_word(head);
+    if (bad < BLOCK_WORDS)
+        return (sneupelaar_answer){ 4, bad };
+    uint32_t members = head_word(head, MEMBERS), areas = head_word(head, AREAS);
+    for (size_t record = 0; record < count; record++)
+        if (record_bad(records + 4 * RECORD_WORDS * record, members, areas))
             return (sneupelaar_answer){ 5, record };
     return (sneupelaar_answer){ 0, 0 };
 }

@@ -5,6 +5,7 @@
 #include "hand.h"
 
 enum { BLOCK_BYTES = 512, MOST_BLOCKS = 26, BLOCK_WORDS = 128, BODY_WORD = 8 };
+enum { HEAD_WORDS = BLOCK_WORDS - BODY_WORD, SUM_WORD = 7 };
 enum { RECORD_WORDS = 12, BLOCK_RECORDS = 10, MOST_RECORDS = 250, MOST_MEMBERS = 32, MOST_ZONES = 4, MOST_AREAS = 8 };
 
 /* words of the first block */
@@ -40,5 +41,8 @@ static inline size_t records_in(const uint8_t *file, size_t file_length)
 
 /* Refusals 1 to 5, in their order over the whole file. */
 sneupelaar_answer examine(const uint8_t *file, size_t file_length);
+
+/* Refusals 4 and 5 of a first body and of records that stand one behind the other. */
+sneupelaar_answer examine_parts(const uint8_t *head, const uint8_t *records, size_t count);
 
 #endif
