@@ -3,7 +3,7 @@
     python3 -m unittest tests/test_second.py
 
 Document 01's own figures and printed case, every refusal, text amounts, the three bounds of demand 3 with
-exact fractions, document 02's finals, and that tests/compare notices a wrong program.
+exact fractions, document 02's finals and hour files that are written, and that tests/compare notices a wrong program.
 """
 
 import contextlib
@@ -13,6 +13,7 @@ import io
 import random
 import re
 import shutil
+import struct
 import subprocess
 import sys
 import tempfile
@@ -30,6 +31,7 @@ import hours  # noqa: E402
 import known  # noqa: E402
 import programs  # noqa: E402
 import second  # noqa: E402
+import to_write  # noqa: E402
 from hours import EXPORT, GENERATOR, IMPORT, PROFILE_LOAD, REAL_TIME_LOAD, Hour, record  # noqa: E402
 
 
@@ -413,6 +415,118 @@ class Finals(unittest.TestCase):
             self.assertGreater(max(second.member_demands(hour)) * neutrality, 10**18)
 
 
+class Written(unittest.TestCase):
+    """Document 02, A2."""
+
+    # The printed case, and then records of it, so that any count is right.
+    PARTS = to_write.taken_apart(hours.printed_case().blocks())
+    HEAD, RECORDS = second.words_in(PARTS[:480]), second.words_in(PARTS[480:])
+
+    def answer(self, head, words, room=13_312):
+        """Number and place, or the file."""
+        try:
+            return second.write_hour(head, words, room)
+        except second.Refused as refused:
+            return refused.number, refused.place
+
+    def blocks(self, count):
+        """The words of the file of so many records."""
+        return list(struct.iter_unpack("<128I", self.answer(self.HEAD, self.RECORDS[:12] * count)))
+
+    def changed(self, words, *changes):
+        """Words with some changed, each given as its place and its new value."""
+        words = list(words)
+        for place, value in changes:
+            words[place] = value
+        return tuple(words)
+
+    def test_the_printed_case(self):
+        printed = (ROOT / "examples" / "printed.hour").read_bytes()
+        self.assertEqual(self.answer(self.HEAD, self.RECORDS), printed)
+        self.assertEqual(second.written_hour(self.PARTS), printed)
+        self.assertEqual(second.written(self.PARTS, (120, 1_026)), b"answer 0 at 0 length 1024\n" + printed + b"MM")
+
+    def test_whole_blocks(self):
+        """Ten records in all but the last, which has what is left, and no block for none."""
+        for count, held in ((0, []), (1, [1]), (9, [9]), (10, [10]), (11, [10, 1]), (250, [10] * 25)):
+            first, *others = self.blocks(count)
+            self.assertEqual(first[:7], (1, 0, len(held), 0, 0, 0, 0))
+            self.assertEqual([block[:7] for block in others], [(2, place, each, 0, 0, 0, 0) for place, each in enumerate(held, 1)])
+            self.assertEqual([len(block) - 8 - 12 * each for block, each in zip(others, held)],
+                             [block[8 + 12 * each:].count(0) for block, each in zip(others, held)])
+
+    def test_every_sum_is_zero(self):
+        """With word 7 in it, which the other words alone decide."""
+        for count in (0, 1, 10, 25):
+            for block in self.blocks(count):
+                self.assertEqual(sum(block) % 2**32, 0)
+                self.assertEqual(block[7], -sum(block[:7] + block[8:]) % 2**32)
+
+    def test_lengths(self):
+        head, words = self.HEAD, self.RECORDS[:12]
+        for length in (0, 119, 121, 108, 132):
+            self.assertEqual(self.answer((head * 2)[:length], words), (1, 0))
+        for length in (1, 11, 13, 251 * 12, 260 * 12, 251 * 12 - 1):
+            self.assertEqual(self.answer(head, (words * 261)[:length]), (1, 0))
+        self.assertEqual(len(self.answer(head, words * 250)), 13_312)
+
+    def test_the_first_such_word_and_record(self):
+        for places, first in (((1,), 9), ((119,), 127), ((119, 4), 12), ((60, 61), 68)):
+            self.assertEqual(self.answer(self.changed(self.HEAD, *((place, 2_000_000) for place in places)), self.RECORDS), (4, first))
+        for places, first in (((0,), 0), ((6,), 6), ((12,), 12), ((12, 3), 3)):
+            words = self.changed(self.RECORDS[:12] * 13, *((12 * place + 11, 1) for place in places))
+            self.assertEqual(self.answer(self.HEAD, words), (5, first))
+
+    def test_one_refusal_after_the_other(self):
+        """Faults of every number, taken away one by one."""
+        head, words = self.changed(self.HEAD, (1, 0)), self.changed(self.RECORDS, (12, 6))
+        for split in ((119, 24), (120, 23)):
+            self.assertEqual(self.answer(head[:split[0]], words[:split[1]], 0), (1, 0))
+        self.assertEqual(self.answer(head, words, 0), (4, 9))
+        self.assertEqual(self.answer(self.HEAD, words, 0), (5, 1))
+        self.assertEqual(self.answer(self.HEAD, self.RECORDS, 1_023), (11, 0))
+        self.assertEqual(len(self.answer(self.HEAD, self.RECORDS, 1_024)), 1_024)
+
+    def test_room(self):
+        for count, needed in ((0, 512), (1, 1_024), (10, 1_024), (11, 1_536), (250, 13_312)):
+            words = self.RECORDS[:12] * count
+            self.assertEqual(len(self.answer(self.HEAD, words, needed)), needed)
+            for room in (needed - 1, needed - 512, 0):
+                self.assertEqual(self.answer(self.HEAD, words, room), (11, 0))
+
+    def test_the_program_takes_whole_words(self):
+        for length in (0, 1, 476, 479, 481, 482, 483, 484, 524, 527, 529):
+            self.assertEqual(second.written_hour((self.PARTS + bytes(99))[:length]), b"refused 1 at 0\n")
+        self.assertEqual(len(second.written_hour(self.PARTS[:480])), 512)
+        self.assertEqual(len(second.written_hour(self.PARTS[:480] + self.PARTS[480:528] * 250)), 13_312)
+        self.assertEqual(second.written_hour(self.PARTS[:480] + self.PARTS[480:528] * 251), b"refused 1 at 0\n")
+
+    def test_a_refusal_changes_nothing(self):
+        for lengths, number in (((119, 9), 1), ((120, 9), 11)):
+            self.assertEqual(second.written(self.PARTS, lengths), b"answer %d at 0 length 0\nMMMMMMMMM" % number)
+
+    def test_read_and_written_again(self):
+        """An hour file that keeps rows 1 to 5, taken apart, gives the same bytes; what is written is read as the same hour."""
+        again = 0
+        for index in range(3 * len(hours.ROUND)):
+            made = hours.made("again", index)
+            if answer(made.data)[0] in (0, 6, 11, 12):
+                again += 1
+                self.assertEqual(second.written_hour(to_write.taken_apart(to_write.blocks_of(made.data))), made.data, made.name)
+        self.assertGreater(again, 100)
+
+    def test_what_is_made(self):
+        """The maker says what is due, and its hours are read as they were given."""
+        for index in range(4 * len(to_write.ROUND)):
+            made = to_write.made("due", index)
+            wrote = second.written_hour(made.data)
+            if made.due:
+                self.assertEqual(wrote, b"refused %d at %d\n" % made.due[0], (index, made.name))
+            elif made.due is not None:
+                second.read_hour(wrote)
+                self.assertEqual(to_write.taken_apart(to_write.blocks_of(wrote)), made.data, (index, made.name))
+
+
 class MadeHours(unittest.TestCase):
     """The maker says what it made, and its hours reach what they are made for."""
 
@@ -577,7 +691,7 @@ HOUR_SLIPS.update({
         "raise Refused(4, place)", "bad.append(place)",
         '    head["prices"] =', '    if bad:\n        raise Refused(4, bad[-1])\n    head["prices"] ='),
     "last record": (
-        "    records = []\n    for block in blocks[1:]", "    records, bad = [], []\n    for block in blocks[1:]",
+        "    records = []\n    for words in held", "    records, bad = [], []\n    for words in held",
         "raise Refused(5, len(records))", "bad.append(len(records))",
         "    return records\n", "    if bad:\n        raise Refused(5, bad[-1])\n    return records\n"),
     "last area": ("for area, energy in enumerate(ufe):", "for area, energy in reversed([*enumerate(ufe)]):"),
@@ -597,6 +711,54 @@ for name, (low, high) in ENDS.items():
 for most in (32, 4, 8):
     for down, up in STEPS:
         HOUR_SLIPS[f"1 to {most} {down:+} {up:+}"] = (f"range(1, {most + 1})", f"range({1 + down}, {most + up + 1})")
+
+# Hour files written otherwise than document 02, A2, says; the made hours to write must show every one. The slips of heads and records above
+# that name the last place in place of the first are the writer's too.
+ROOM_FIRST = "    if room < 512 * (1 + (len(words) + 119) // 120):\n        raise Refused(11)\n"
+WRITING_SLIPS = {
+    "word 2 of the last block ten": ("sealed(2, position, len(ten),", "sealed(2, position, 10,"),
+    "word 7 one too large": ("% 2**32\n    return struct.pack(f", "% 2**32 + 1\n    return struct.pack(f"),
+    "word 7 of the body alone": ("-(sum(front) + sum(body))", "-sum(body)"),
+    "word 7 left out of its own sum": ("*front, seal, *body)", "*front, 0, *body)"),
+    "word 7 without its highest bit": ("sum(body)) % 2**32", "sum(body)) % 2**31"),
+    "one other block too many": ("sealed(1, 0, len(tens), head)", "sealed(1, 0, len(tens) + 1, head)"),
+    "the blocks counted, not the others": ("sealed(1, 0, len(tens), head)", "sealed(1, 0, len(tens) or 1, head)"),
+    "a block for no records": ("range(0, len(records), RECORDS_IN_A_BLOCK)]", "range(0, len(records) or 1, RECORDS_IN_A_BLOCK)]"),
+    "a block after full blocks": (
+        "range(0, len(records), RECORDS_IN_A_BLOCK)]", "range(0, len(records) + (len(records) > 0), RECORDS_IN_A_BLOCK)]"),
+    "positions from 0": ("enumerate(tens, 1)", "enumerate(tens)"),
+    "marks as the first block's": ("sealed(2, position,", "sealed(1, position,"),
+    "251 records": ("RECORD_WORDS * MOST_RECORDS:", "RECORD_WORDS * MOST_RECORDS + 12:"),
+    "249 records": ("RECORD_WORDS * MOST_RECORDS:", "RECORD_WORDS * MOST_RECORDS - 12:"),
+    "a part of a record left out": (
+        "len(words) % RECORD_WORDS != 0", "False",
+        "range(0, len(words), RECORD_WORDS)]\n    read", "range(0, len(words) - 11, RECORD_WORDS)]\n    read"),
+    "a head too short filled with zeros": (
+        "len(head) != HEAD_WORDS", "len(head) > HEAD_WORDS", "+ tuple(head))", "+ tuple(head) + (0,) * (120 - len(head)))"),
+    "a head too long": ("len(head) != HEAD_WORDS", "len(head) < HEAD_WORDS"),
+    "a part of a word": ("if len(data) % 4 != 0:", "if False:"),
+    "words of the head counted from 0": (
+        "    read = read_head((0,) * FIRST_BODY_WORD + tuple(head))\n",
+        "    try:\n        read = read_head((0,) * FIRST_BODY_WORD + tuple(head))\n"
+        "    except Refused as refused:\n        raise Refused(4, refused.place - FIRST_BODY_WORD)\n"),
+    "ten records in all": (
+        "range(0, len(words), RECORD_WORDS)]\n    read", "range(0, len(words), RECORD_WORDS)][:10]\n    read"),
+    "5 not looked for": ('    read_records(records, read["members"], len(read["areas"]))\n', ""),
+    "5 before 4": (
+        "    read = read_head((0,) *",
+        "    read_records([words[at:at + 12] for at in range(0, len(words), 12)], 32, 8)\n    read = read_head((0,) *"),
+    "4 before 1": (
+        "    if len(head) != HEAD_WORDS or", "    if len(head) == HEAD_WORDS:\n        read_head((0,) * 8 + tuple(head))\n"
+        "    if len(head) != HEAD_WORDS or"),
+    "11 before 4": ("    read = read_head((0,) *", f"{ROOM_FIRST}    read = read_head((0,) *"),
+    "11 before 5": ("    records = [words[first", f"{ROOM_FIRST}    records = [words[first"),
+    "no refusal 11": ("    if room < len(file):\n        raise Refused(11)\n", ""),
+    "a byte too much room asked for": ("if room < len(file)", "if room <= len(file)"),
+    "a byte too little": ("if room < len(file)", "if room + 1 < len(file)"),
+    "bytes past the last block": ("+ file + buffer[len(file):]", "+ file.ljust(room, b'\\0')"),
+    "a length on refusal": ("length 0\\n", "length 512\\n"),
+    "a refused file cleared": ("(refused.number, refused.place) + buffer", "(refused.number, refused.place) + bytes(room)"),
+}
 
 # What document 01 says of text amounts, each broken; the made amounts must show every one.
 AMOUNT_SLIPS = {
@@ -624,7 +786,7 @@ AMOUNT_SLIPS = {
     "a line feed after the cents is read": ('{2})")', r'{2})\n?")'),
     "plus read as minus": ('0, -size if sign == b"-"', '0, -size if sign == b"+"'),
 }
-SLIPS = {**HOUR_SLIPS, **AMOUNT_SLIPS}
+SLIPS = {**HOUR_SLIPS, **WRITING_SLIPS, **AMOUNT_SLIPS}
 
 
 def slipped(name):
@@ -648,11 +810,11 @@ class Noticing(unittest.TestCase):
         return status, said.getvalue()
 
     @contextlib.contextmanager
-    def stand_ins(self, statement=SECOND, settled=SECOND, amounts=SECOND):
-        """A folder with programs of these names that are these Python texts."""
+    def stand_ins(self, **texts):
+        """A folder with the programs, each of which is the Python text under its name, or the second program."""
         with tempfile.TemporaryDirectory() as folder:
-            for name, text in (("statement", statement), ("settled", settled), ("amounts", amounts)):
-                program = Path(folder, name)
+            for name in second.PRINTED:
+                program, text = Path(folder, name), texts.get(name, SECOND)
                 Path(folder, name + ".py").write_text(text)
                 program.write_text(f'#!/bin/sh\nexec "{sys.executable}" "$0.py" {name} "$@"\n')
                 program.chmod(0o755)
@@ -664,20 +826,32 @@ class Noticing(unittest.TestCase):
                                             "--save", folder / "saved")
             self.assertEqual((status, (folder / "saved").exists()), (0, False), said)
             self.assertIn("30 hours of seed 1 against the second program: every byte agreed", said)
+            self.assertIn("30 hours to write of seed 1 against the second program: every byte agreed", said)
             self.assertIn("2500 amounts of seed 1 against the second program: every byte agreed", said)
             self.assertNotIn("passed", said)
 
     def test_a_wrong_program(self):
         wrong = slipped("loads added")
-        for texts in ((wrong, SECOND), (SECOND, wrong)):
-            with self.stand_ins(*texts) as folder:
+        for name in ("statement", "settled"):
+            with self.stand_ins(**{name: wrong}) as folder:
                 status, said = self.run_compare("--hours", 30, "--programs", folder, "--save", folder / "saved")
                 self.assertEqual(status, 1, said)
                 self.assertIn("---- second program wrote:", said)
-                saved = sorted((folder / "saved").iterdir())
+                saved = sorted((folder / "saved").glob("*.hour"))
                 self.assertTrue(saved)
                 data = saved[0].read_bytes()
                 self.assertEqual(data, hours.made(1, int(saved[0].stem.split("-")[-1])).data)
+
+    def test_a_program_that_writes_hours_wrong(self):
+        wrong = slipped("word 2 of the last block ten")
+        for name in ("write_hour", "written"):
+            with self.stand_ins(**{name: wrong}) as folder:
+                status, said = self.run_compare("--hours", 10, "--programs", folder, "--save", folder / "saved")
+                self.assertEqual(status, 1, said)
+                self.assertIn("bytes, from byte ", said)
+                case = min((folder / "saved").glob("*.writing"))
+                self.assertEqual(case.read_bytes(), to_write.made(1, int(case.stem.split("-")[-1])).data)
+                self.assertEqual(bool([*(folder / "saved").glob("*.again")]), name == "write_hour")
 
     def test_a_program_that_writes_amounts_wrong(self):
         for name in ("minus zero is read", "cut off from the left"):
@@ -692,15 +866,16 @@ class Noticing(unittest.TestCase):
 
     def test_a_program_that_ends_badly(self):
         for ending in ("\n    sys.exit(3)\n", "\n    print('oh', file=sys.stderr)\n"):
-            with self.stand_ins(statement=SECOND + ending, amounts=SECOND + ending) as folder:
+            with self.stand_ins(statement=SECOND + ending, write_hour=SECOND + ending, amounts=SECOND + ending) as folder:
                 for what in ("--hours", "--amounts"):
                     status, said = self.run_compare(what, 2, "--programs", folder, "--save", folder / "saved")
                     self.assertEqual(status, 1, said)
 
-    def test_by_hand_the_statement_is_left_out(self):
-        with self.stand_ins(statement="") as folder:
+    def test_by_hand_the_programs_are_left_out(self):
+        with self.stand_ins(statement="", write_hour="") as folder:
             status, said = self.run_compare("--hand", "--hours", 5, "--programs", folder)
             self.assertEqual(status, 0, said)
+            self.assertIn("taken apart and written again: 5", said)
 
     def test_no_programs(self):
         with tempfile.TemporaryDirectory() as folder:
@@ -728,6 +903,15 @@ class Noticing(unittest.TestCase):
                           "12, one record; 12, several members charged; 12, exact amounts that cancel; 12, a buffer too short as well; "
                           "no demand, ", said)
 
+    def test_it_says_if_a_side_of_writing_never_occurred(self):
+        only = [to_write.honest(10)]
+        with self.stand_ins() as folder, mock.patch.object(programs, "run", self.without_starting), \
+                mock.patch.object(to_write, "ROUND", only):
+            status, said = self.run_compare("--hours", 500, "--programs", folder)
+            self.assertEqual(status, 1)
+            self.assertIn("never occurred in 500 hours to write: refused 4; refused 5; written, 0 records; written, 1 records; "
+                          "written, 9 records; written, 11 records; written, 250 records; 1, no bytes; ", said)
+
     @staticmethod
     def wrong_program(name):
         wrong = types.ModuleType("wrong")
@@ -739,6 +923,16 @@ class Noticing(unittest.TestCase):
         for name in AMOUNT_SLIPS:
             with self.subTest(name):
                 self.assertNotEqual(self.wrong_program(name).amounts(data), second.amounts(data))
+
+    def test_the_hours_to_write_show_every_slip(self):
+        cases = [compare.writing_of(1, index) for index in range(500)]
+        cases.sort(key=lambda case: len(case.made.data))
+        for name in (*WRITING_SLIPS, "last word of the head", "last record"):
+            wrong = self.wrong_program(name)
+            with self.subTest(name):
+                self.assertTrue(any(wrong.written_hour(case.made.data) != case.file
+                                    or wrong.written(case.made.data, (case.made.split, case.made.room)) != case.called
+                                    for case in cases))
 
     def test_the_hours_show_every_slip(self):
         cases = [compare.case_of(1, index) for index in range(500)]
