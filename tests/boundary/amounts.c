@@ -25,12 +25,11 @@ static size_t some_width(void)
     return once_in(16) ? below(WIDEST + 1) : below(20);
 }
 
-static uint8_t *lend_field(size_t width)
+static uint8_t *lend_field(const uint8_t *bytes, size_t width)
 {
     if (room.pages == NULL)
         room = guard_room(WIDEST);
-    uint8_t *field = guard_place(&room, width, once_in(2) ? FRONT : BACK);
-    return width == 0 && once_in(2) ? NULL : field;
+    return guard_lend(&room, bytes, width);
 }
 
 void try_writing(void)
@@ -39,8 +38,7 @@ void try_writing(void)
     int64_t cents = some_cents();
     size_t width = some_width();
     random_bytes(by_hand, width);
-    uint8_t *field = lend_field(width);
-    memcpy(room.at, by_hand, width);
+    uint8_t *field = lend_field(by_hand, width);
     standing.function = "sneupelaar_write";
     sneupelaar_answer answer = sneupelaar_write(cents, field, width), wanted = hand_write(cents, by_hand, width);
     must(answer.number == wanted.number && answer.place == wanted.place, "the answer differs");
@@ -76,8 +74,7 @@ void try_reading(void)
         size_t at = below(width);
         text[at] = once_in(8) ? (uint8_t)chance() : (uint8_t)bytes[below(sizeof bytes - 1)];
     }
-    uint8_t *field = lend_field(width);
-    memcpy(room.at, text, width);
+    uint8_t *field = lend_field(text, width);
     guard_only_read(&room);
     standing.function = "sneupelaar_read";
     sneupelaar_reading reading = sneupelaar_read(field, width), wanted = hand_read(text, width);

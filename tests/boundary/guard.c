@@ -9,6 +9,8 @@
 #include <sys/mman.h>
 #include <unistd.h>
 
+#include "chance.h"
+
 enum { PAGES = 65536 }; /* a multiple of every page size in use, also of the machine below an emulator */
 enum { PAINT = 0xDB };
 enum { OUT_OF_BOUNDS = 3, WRONG = 4 };
@@ -56,6 +58,14 @@ void *guard_place(guarded *buffer, size_t length, side flush)
     buffer->at = flush == FRONT ? buffer->pages : buffer->pages + buffer->room - length;
     buffer->length = length;
     return buffer->at;
+}
+
+void *guard_lend(guarded *buffer, const void *bytes, size_t length)
+{
+    void *placed = guard_place(buffer, length, once_in(2) ? FRONT : BACK);
+    if (length == 0)
+        return once_in(2) ? NULL : placed;
+    return memcpy(placed, bytes, length);
 }
 
 void guard_only_read(const guarded *buffer)

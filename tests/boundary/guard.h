@@ -30,6 +30,11 @@ guarded guard_room(size_t most);
 /* A buffer with nothing between it and the protected page on that side; it may be written. */
 void *guard_place(guarded *buffer, size_t length, side flush);
 void guard_only_read(const guarded *buffer);
+
+/* Bytes in a buffer of their length, flush with either side; none may be a null pointer. */
+void *guard_lend(guarded *buffer, const void *bytes, size_t length);
+
+/* From now on the buffer may not be touched at all. */
 void guard_untouchable(const guarded *buffer);
 
 /* Whether the bytes beside the buffer are as painted. */

@@ -1,7 +1,7 @@
 /* harness.c: tries the archive's functions from C.
-     harness CASES SEED               that many cases: a call each of settle, write and read, and body at every position
+     harness CASES SEED               that many cases: a call each of settle, write, read and write_hour, and body at every position
      harness lie BUFFER SIDE          a caller that lies about a buffer: the protected pages must end it (status 3)
-     harness spoiled FAULT CASES SEED settling with a fault put in: the cases must end it (status 3 or 4)
+     harness spoiled FAULT CASES SEED settling, or writing an hour, with a fault put in: the cases must end it (status 3 or 4)
    Status 0: all as by hand, and every answer that can occur was seen; 1: not every one was seen; 2: not called as above. */
 #include <stdio.h>
 #include <stdlib.h>
@@ -13,7 +13,7 @@
 
 struct seen seen;
 
-static void try_cases(unsigned long cases, settle_function *settle)
+static void try_cases(unsigned long cases, settle_function *settle, write_hour_function *write_hour)
 {
     for (unsigned long at = 0; at < cases; at++) {
         standing.case_number = at;
@@ -21,6 +21,7 @@ static void try_cases(unsigned long cases, settle_function *settle)
         try_settling(settle);
         try_writing();
         try_reading();
+        try_writing_hour(write_hour);
     }
 }
 
@@ -43,11 +44,13 @@ static int all_seen(const char *function, const unsigned long *counts, const uns
 static int enough_seen(unsigned long cases)
 {
     static const unsigned settling[] = { 0, 1, 2, 3, 4, 5, 6, 11, 12 }, writing[] = { 0, 8, 9 }, reading[] = { 0, 10 };
+    static const unsigned writing_hours[] = { 0, 1, 4, 5, 11 };
     int enough = all_seen("settle", seen.settled, settling, 9);
     enough &= all_seen("write", seen.written, writing, 3);
     enough &= all_seen("read", seen.read, reading, 2);
+    enough &= all_seen("write_hour", seen.hours_written, writing_hours, 5);
     printf("  body: %lu positions\n", seen.bodies);
-    return enough && seen.settled[0] >= cases / 5;
+    return enough && seen.settled[0] >= cases / 5 && seen.hours_written[0] >= cases / 5;
 }
 
 static int usage(void)
@@ -64,12 +67,13 @@ int main(int count, char **words)
         return 0;
     }
     int spoils = count == 5 && strcmp(words[1], "spoiled") == 0;
-    settle_function *settle = spoils ? spoiled(words[2]) : sneupelaar_settle;
-    if ((count != 3 && !spoils) || settle == NULL)
+    settle_function *settle = spoils ? spoiled(words[2]) : NULL;
+    write_hour_function *write_hour = spoils ? miswritten(words[2]) : NULL;
+    if (spoils ? settle == NULL && write_hour == NULL : count != 3)
         return usage();
     unsigned long cases = strtoul(words[count - 2], NULL, 10);
     standing.seed = strtoul(words[count - 1], NULL, 10);
-    try_cases(cases, settle);
+    try_cases(cases, settle != NULL ? settle : sneupelaar_settle, write_hour != NULL ? write_hour : sneupelaar_write_hour);
     printf("%lu cases of seed %lu, all within bounds and as by hand\n", cases, standing.seed);
     if (enough_seen(cases))
         return 0;

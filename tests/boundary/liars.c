@@ -7,9 +7,23 @@
 #include "hours.h"
 #include "trials.h"
 
-enum { FILE_BYTES, LINES, CHARGES, FINALS, SHARES, DEVIATIONS, BUFFERS };
-static const char *const names[BUFFERS] = { "file", "lines", "charges", "finals", "shares", "deviations" };
-static const size_t sizes[BUFFERS] = { 1, sizeof(sneupelaar_line), 8, 8, 8, 8 };
+/* The lie: which buffer is a place shorter than is stated, at its back, or is lent from the place before its first. */
+static const char *lying;
+static side at_side;
+
+/* So many elements of a size, which may only be read where they are given; one fewer where the caller lies about this buffer. */
+static void *lent(const char *name, size_t size, size_t stated, const void *elements)
+{
+    int lies = strcmp(lying, name) == 0;
+    size_t length = size * (stated - lies), missing = lies && at_side == FRONT ? size : 0;
+    guarded room = guard_room(length);
+    uint8_t *at = guard_place(&room, length, lies ? at_side : FRONT);
+    if (elements != NULL) {
+        memcpy(at, (const uint8_t *)elements + missing, length);
+        guard_only_read(&room);
+    }
+    return at - missing;
+}
 
 /* An accepted hour with records. */
 static void make_accepted(hour_file *hour)
@@ -24,56 +38,48 @@ static void make_accepted(hour_file *hour)
     } while (number != 0 || hour->records == 0);
 }
 
-/* The buffer `which` is a place shorter than is stated, or the place before it is lent as its first. */
-static void lie_settling(size_t which, side where)
+static void lie_settling(const hour_file *hour)
 {
-    static hour_file hour;
-    make_accepted(&hour);
-    const size_t stated[BUFFERS] = { hour.bytes, hour.members, hour.members, hour.members, hour.records, hour.records };
-    uint8_t *at[BUFFERS];
-    guarded rooms[BUFFERS];
-    for (size_t each = 0; each < BUFFERS; each++) {
-        size_t length = sizes[each] * (stated[each] - (each == which && where == BACK));
-        rooms[each] = guard_room(length);
-        at[each] = guard_place(&rooms[each], length, each == which ? where : FRONT);
-        if (each == FILE_BYTES)
-            memcpy(at[each], hour.words, length);
-        if (each == which && where == FRONT)
-            at[each] -= sizes[each];
-    }
-    guard_only_read(&rooms[FILE_BYTES]);
+    size_t members = hour->members, records = hour->records;
+    void *file = lent("file", 1, hour->bytes, hour->words), *lines = lent("lines", sizeof(sneupelaar_line), members, NULL);
+    void *charges = lent("charges", 8, members, NULL), *finals = lent("finals", 8, members, NULL);
+    void *shares = lent("shares", 8, records, NULL), *deviations = lent("deviations", 8, records, NULL);
     standing.function = "sneupelaar_settle";
-    sneupelaar_settle(at[FILE_BYTES], stated[FILE_BYTES], (void *)at[LINES], stated[LINES], (void *)at[CHARGES], stated[CHARGES],
-        (void *)at[FINALS], stated[FINALS], (void *)at[SHARES], stated[SHARES], (void *)at[DEVIATIONS], stated[DEVIATIONS]);
+    sneupelaar_settle(file, hour->bytes, lines, members, charges, members, finals, members, shares, records, deviations, records);
 }
 
-/* A field that is a byte shorter than its text, or is lent from the byte before it. */
-static void lie_field(int written, side where)
+/* With as many records as stand in the hour's first block of records. */
+static void lie_writing_hour(const hour_file *hour)
+{
+    size_t words = RECORD_WORDS * (hour->records < BLOCK_RECORDS ? hour->records : BLOCK_RECORDS);
+    const uint32_t *head = lent("head", 4, HEAD_WORDS, hour->words + BODY_WORD);
+    const uint32_t *records = lent("records", 4, words, hour->words + BLOCK_WORDS + BODY_WORD);
+    uint8_t *file = lent("hour", 1, 2 * BLOCK_BYTES, NULL);
+    standing.function = "sneupelaar_write_hour";
+    sneupelaar_write_hour(head, HEAD_WORDS, records, words, file, 2 * BLOCK_BYTES);
+}
+
+static void lie_field(void)
 {
     static const char text[] = "   +12.34";
-    size_t stated = strlen(text), width = stated - (where == BACK);
-    guarded room = guard_room(width);
-    uint8_t *field = guard_place(&room, width, where);
-    memcpy(field, text, width);
-    if (where == FRONT)
-        field--;
-    standing.function = written ? "sneupelaar_write" : "sneupelaar_read";
-    if (written) {
-        sneupelaar_write(1234, field, stated);
-    } else {
-        guard_only_read(&room);
-        sneupelaar_read(field, stated);
-    }
+    size_t width = strlen(text);
+    uint8_t *written = lent("written", 1, width, NULL);
+    const uint8_t *read = lent("read", 1, width, text);
+    standing.function = "sneupelaar_write";
+    sneupelaar_write(1234, written, width);
+    standing.function = "sneupelaar_read";
+    sneupelaar_read(read, width);
 }
 
 void lie(const char *buffer, const char *where)
 {
-    side flush = strcmp(where, "front") == 0 ? FRONT : BACK;
+    static hour_file hour;
+    lying = buffer;
+    at_side = strcmp(where, "front") == 0 ? FRONT : BACK;
     chance_start(standing.seed, 0);
-    for (size_t which = 0; which < BUFFERS; which++)
-        if (strcmp(buffer, names[which]) == 0)
-            lie_settling(which, flush);
-    if (strcmp(buffer, "read") == 0 || strcmp(buffer, "written") == 0)
-        lie_field(strcmp(buffer, "written") == 0, flush);
+    make_accepted(&hour);
+    lie_settling(&hour);
+    lie_writing_hour(&hour);
+    lie_field();
     printf("not caught: %s at the %s\n", buffer, where);
 }

@@ -56,15 +56,6 @@ static lengths choose_lengths(void)
     return chosen;
 }
 
-/* Bytes in a guarded place; none may be a null pointer. */
-static void *lend(guarded *room, const void *bytes, size_t length)
-{
-    void *placed = guard_place(room, length, once_in(2) ? FRONT : BACK);
-    if (length == 0)
-        return once_in(2) ? NULL : placed;
-    return memcpy(placed, bytes, length);
-}
-
 static int same_answer(const sneupelaar_settled *one, const sneupelaar_settled *other)
 {
     return one->number == other->number && one->place == other->place && memcmp(one->ufe, other->ufe, sizeof one->ufe) == 0;
@@ -120,12 +111,12 @@ void try_settling(settle_function *settle)
     lengths lent = choose_lengths();
     random_bytes(&before, sizeof before);
     by_hand = before;
-    const uint8_t *file = lend(&file_room, hour.words, hour.bytes);
-    sneupelaar_line *lines = lend(&lines_room, before.lines, lent.lines * sizeof *lines);
-    int64_t *charges = lend(&charges_room, before.charges, lent.charges * sizeof *charges);
-    int64_t *finals = lend(&finals_room, before.finals, lent.finals * sizeof *finals);
-    int64_t *shares = lend(&shares_room, before.shares, lent.shares * sizeof *shares);
-    int64_t *deviations = lend(&deviations_room, before.deviations, lent.deviations * sizeof *deviations);
+    const uint8_t *file = guard_lend(&file_room, hour.words, hour.bytes);
+    sneupelaar_line *lines = guard_lend(&lines_room, before.lines, lent.lines * sizeof *lines);
+    int64_t *charges = guard_lend(&charges_room, before.charges, lent.charges * sizeof *charges);
+    int64_t *finals = guard_lend(&finals_room, before.finals, lent.finals * sizeof *finals);
+    int64_t *shares = guard_lend(&shares_room, before.shares, lent.shares * sizeof *shares);
+    int64_t *deviations = guard_lend(&deviations_room, before.deviations, lent.deviations * sizeof *deviations);
     guard_only_read(&file_room);
     standing.function = "sneupelaar_settle";
     sneupelaar_settled settled = settle(file, hour.bytes, lines, lent.lines, charges, lent.charges, finals, lent.finals, shares,

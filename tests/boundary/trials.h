@@ -5,24 +5,31 @@
 
 #include "sneupelaar.h"
 
-/* How often each number was answered by settling, writing and reading, and how often the block reader was asked. */
+/* How often each number was answered by settling, by writing an hour, and by writing and reading an amount, and how often the block reader
+   was asked. */
 extern struct seen {
-    unsigned long settled[13], written[13], read[13], bodies;
+    unsigned long settled[13], hours_written[13], written[13], read[13], bodies;
 } seen;
 
 typedef sneupelaar_settled settle_function(const uint8_t *, size_t, sneupelaar_line *, size_t, int64_t *, size_t, int64_t *, size_t,
     int64_t *, size_t, int64_t *, size_t);
+
+typedef sneupelaar_written write_hour_function(const uint32_t *, size_t, const uint32_t *, size_t, uint8_t *, size_t);
 
 /* Settling, by sneupelaar_settle or what stands in for it; the hour's file is then asked for each of its bodies. */
 void try_settling(settle_function *settle);
 void try_writing(void);
 void try_reading(void);
 
+/* Writing an hour file, by sneupelaar_write_hour or what stands in for it. */
+void try_writing_hour(write_hour_function *write_hour);
+
 /* A caller that states a length one too large for a buffer (side "back"), or starts one place too early (side "front"): the pages must
    catch it, so that it does not come back. */
 void lie(const char *buffer, const char *side);
 
-/* An archive that answers wrongly or writes where it should not: the comparison must find it. */
+/* An archive that answers wrongly or writes where it should not: the comparison must find it. Null where there is no such fault. */
 settle_function *spoiled(const char *how);
+write_hour_function *miswritten(const char *how);
 
 #endif
