@@ -1,7 +1,7 @@
 /* bench.c: what the bench counts.
-     bench FOLDER WHAT WHO ROUNDS   WHAT: worst, ordinary, refused (settles that hour of the folder once a round), write, read (1,000
-                                    amounts a round); WHO: rattle (the archive) or hand. Prints a sum of what was answered, which
-                                    both have alike
+     bench FOLDER WHAT WHO ROUNDS   WHAT: worst, ordinary, refused (settles that hour of the folder once a round), full (writes that
+                                    hour, taken apart, once a round), write, read (1,000 amounts a round); WHO: rattle (the archive) or
+                                    hand. Prints a sum of what was answered, which both have alike
      bench FOLDER WHAT WHO stack    prints how many bytes of stack a round takes */
 #include <stdio.h>
 #include <stdlib.h>
@@ -14,6 +14,9 @@ enum { AMOUNTS = 1000, WIDTH = 14 };
 
 static uint8_t file[SNEUPELAAR_MOST_BYTES];
 static size_t file_length;
+static uint32_t head[SNEUPELAAR_HEAD_WORDS], records[SNEUPELAAR_RECORD_WORDS * SNEUPELAAR_MOST_RECORDS];
+static size_t records_length;
+static uint8_t written_file[SNEUPELAAR_MOST_BYTES];
 static sneupelaar_line lines[SNEUPELAAR_MOST_MEMBERS];
 static int64_t charges[SNEUPELAAR_MOST_MEMBERS], finals[SNEUPELAAR_MOST_MEMBERS];
 static int64_t shares[SNEUPELAAR_MOST_RECORDS], deviations[SNEUPELAAR_MOST_RECORDS];
@@ -47,14 +50,31 @@ static void read_hour(const char *folder, const char *name)
     fclose(from);
 }
 
+/* Head and records of the hour. On x86-64 a word's bytes stand in memory as they do in the file. */
+static void take_apart(void)
+{
+    enum { BLOCK = 512, FRONT = 32, BODY = BLOCK - FRONT };
+    for (size_t at = 0; at < file_length; at += BLOCK) {
+        uint32_t *to = at == 0 ? head : records + (at / BLOCK - 1) * (BODY / sizeof *records);
+        memcpy(to, file + at + FRONT, BODY);
+    }
+    records_length = sizeof records / sizeof *records; /* the hour is full */
+}
+
 /* Every function of the archive and its twin by hand is called from the same text. */
-#define ROUNDS_OF(who, settle, write, read)                                                                                       \
+#define ROUNDS_OF(who, settle, write_hour, write, read)                                                                           \
     static void settle_##who(void)                                                                                                \
     {                                                                                                                             \
         sneupelaar_settled settled = settle(file, file_length, lines, SNEUPELAAR_MOST_MEMBERS, charges, SNEUPELAAR_MOST_MEMBERS, \
             finals, SNEUPELAAR_MOST_MEMBERS, shares, SNEUPELAAR_MOST_RECORDS, deviations, SNEUPELAAR_MOST_RECORDS);               \
         sum += 1000 * settled.number + settled.place;                                                                             \
         sum += (uint64_t)(charges[0] + finals[1] + shares[49] + deviations[59] + lines[7].amount);                                \
+    }                                                                                                                             \
+    static void write_hour_##who(void)                                                                                            \
+    {                                                                                                                             \
+        sneupelaar_written written =                                                                                              \
+            write_hour(head, SNEUPELAAR_HEAD_WORDS, records, records_length, written_file, SNEUPELAAR_MOST_BYTES);                \
+        sum += 1000 * written.number + written.length + written_file[28] + written_file[SNEUPELAAR_MOST_BYTES - 484];             \
     }                                                                                                                             \
     static void write_##who(void)                                                                                                 \
     {                                                                                                                             \
@@ -67,13 +87,15 @@ static void read_hour(const char *folder, const char *name)
             sum += (uint64_t)read(texts[at], WIDTH).amount;                                                                       \
     }
 
-ROUNDS_OF(rattle, sneupelaar_settle, sneupelaar_write, sneupelaar_read)
-ROUNDS_OF(hand, hand_settle, hand_write, hand_read)
+ROUNDS_OF(rattle, sneupelaar_settle, sneupelaar_write_hour, sneupelaar_write, sneupelaar_read)
+ROUNDS_OF(hand, hand_settle, hand_write_hour, hand_write, hand_read)
 
 typedef void round_of(void);
 
 static round_of *chosen(const char *what, int rattle)
 {
+    if (strcmp(what, "full") == 0)
+        return rattle ? write_hour_rattle : write_hour_hand;
     if (strcmp(what, "write") == 0)
         return rattle ? write_rattle : write_hand;
     if (strcmp(what, "read") == 0)
@@ -89,6 +111,7 @@ int main(int count, char **words)
     }
     make_amounts(strcmp(words[2], "read") == 0);
     read_hour(words[1], words[2]);
+    take_apart();
     round_of *round = chosen(words[2], strcmp(words[3], "rattle") == 0);
     if (strcmp(words[4], "stack") == 0) {
         printf("%lu\n", (unsigned long)stack_depth(round));

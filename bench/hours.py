@@ -1,9 +1,10 @@
-"""Makes the hours that the bench settles:   hours.py FOLDER
+"""Makes the hours that the bench settles and writes:   hours.py FOLDER
 
 worst.hour      250 loads in one area, and 249 units left over: the most that there can be
 ordinary.hour   8 members, 2 zones, 2 areas, 60 records of all kinds
 refused.hour    250 records, the last of which is one past a range: refusal 5 at record 249
-The numbers come from a fixed seed, so that every run settles the same bytes.
+full.hour       250 records of all kinds
+The numbers come from a fixed seed, so that every run takes the same bytes.
 """
 
 import random
@@ -49,15 +50,20 @@ def ordinary():
     return hours.Hour(2, 8, [4_321, -1_234], [[0, 3_000, 2_000], [1, 10, 5_000]], records)
 
 
-def refused():
+def full():
     rng = random.Random(3)
     records = [record(rng, hours.KINDS[at % 5], 32, 8) for at in range(hours.MOST_RECORDS)]
-    records[-1]["S"] = hours.HIGHEST["S"] + 1
     return hours.Hour(3, 32, [4_321, -1_234], [[0, 3_000, 2_000] for _ in range(8)], records)
 
 
+def refused():
+    hour = full()
+    hour.records[-1]["S"] = hours.HIGHEST["S"] + 1
+    return hour
+
+
 def main(folder):
-    for make in (worst, ordinary, refused):
+    for make in (worst, ordinary, refused, full):
         (Path(folder) / f"{make.__name__}.hour").write_bytes(make().encode())
 
 

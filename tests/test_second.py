@@ -993,8 +993,12 @@ class Pages(unittest.TestCase):
                     charge, final = (second.column(each).decode() for each in cents)
                     text += f"member {member} records {records} grains {amount} charge {charge} final {final}\n"
             self.assertEqual((folder / "expected" / f"{name}.txt").read_text(), text)
-        printed = (folder / "expected" / "printed.txt").read_text()
-        self.assertIn("".join(f"    {line}\n" for line in printed.splitlines()), (folder / "README.md").read_text())
+        for name in ("printed", "write"):
+            printed = (folder / "expected" / f"{name}.txt").read_text()
+            self.assertIn("".join(f"    {line}\n" for line in printed.splitlines()), (folder / "README.md").read_text())
+        charges = "".join(f"member {member} charge {charge}\n" for member, charge in enumerate(
+            second.settle((ROOT / "examples" / "printed.hour").read_bytes()).charges[:2]))
+        self.assertEqual((folder / "expected" / "write.txt").read_text(), "answer 0 at 0 length 1024\nsettled 0 at 0\n" + charges)
 
     def test_the_refusals_that_examples_tell_of(self):
         make = load_script(ROOT / "examples" / "make.py")

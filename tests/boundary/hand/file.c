@@ -122,7 +122,7 @@ static size_t bad_head_word(const uint8_t *head)
     return first_not_zero(head, end, BLOCK_WORDS);
 }
 
-static int record_bad(const uint8_t *record, uint32_t members, uint32_t areas)
+static inline int record_bad(const uint8_t *record, uint32_t members, uint32_t areas)
 {
     uint32_t kind = word(record, KIND);
     if (kind < GENERATOR || kind > EXPORT || word(record, MEMBER) >= members || word(record, AREA) >= areas)

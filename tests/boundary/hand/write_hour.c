@@ -4,17 +4,18 @@
 
 #include "file.h"
 
-/* A block: its front, the word that makes the sum zero, the words of its body and zeros after them. */
+/* A block: its front, the word that makes the sum zero, the words of its body, copied and added in one pass, and zeros after them. */
 static void put_block(uint8_t *block, uint32_t mark, size_t position, size_t count, const uint32_t *body, size_t words)
 {
     uint32_t front[BODY_WORD] = { mark, (uint32_t)position, (uint32_t)count };
     uint32_t sum = mark + (uint32_t)position + (uint32_t)count;
     size_t filled = sizeof front + 4 * words;
-    for (size_t at = 0; at < words; at++)
+    for (size_t at = 0; at < words; at++) {
+        memcpy(block + sizeof front + 4 * at, body + at, 4);
         sum += body[at];
+    }
     front[SUM_WORD] = -sum;
     memcpy(block, front, sizeof front);
-    memcpy(block + sizeof front, body, 4 * words);
     memset(block + filled, 0, BLOCK_BYTES - filled);
 }
 
