@@ -1,14 +1,17 @@
 """Hour files whose answers are known by hand, from document 01's table: refusals 1 to 5 at a first, a middle and a last place, the ends of
 several ranges, the longest file, the highest price, and two faults of which the table's order or the first place decides; and from document
-02, A1: hours in which nobody takes anything, with refusal 12 and without.
+02, A1: hours in which nobody takes anything, with refusal 12 and without. And heads and records to be written (document 02, A2): those of
+these files, and inputs of lengths that are right and wrong.
 
-`cases()` gives each file's name, the first line of its statement, and its bytes. No program had a part in those lines, and nothing here is
-left to chance, so that the files come out the same each time.
+`cases()` gives each file's name, the first line of its statement, and its bytes; `cases_to_write()` each input's name, what program
+`write_hour` must write, and the input. No program had a part in those lines, and nothing here is left to chance, so that the files come out
+the same each time.
 """
 
 import itertools
 
 import hours
+import to_write
 
 
 # ---- Hours that keep every rule
@@ -163,3 +166,34 @@ def of_no_demand():
 
 def cases():
     return itertools.chain(of_lengths(), of_blocks(), of_heads(), of_records(), of_two_faults(), of_no_demand())
+
+
+# ---- Heads and records to be written: name, what must be written, input
+
+def of_files():
+    """The files above, taken apart. Rows 4 and 5 are the reader's, and a file that passes rows 1 to 5 is written as the same bytes."""
+    for name, line, data in cases():
+        if line.startswith(("refused 4", "refused 5")):
+            yield name, f"{line}\n".encode(), to_write.taken_apart(to_write.blocks_of(data))
+        elif line.startswith(("hour", "refused 6", "refused 12")):
+            yield name, data, to_write.taken_apart(to_write.blocks_of(data))
+
+
+def of_counts():
+    """Whole blocks, and a last one that is not; the longest input is 480 bytes and 250 times 48."""
+    for count in (0, 1, 9, 10, 11, 249, 250):
+        yield f"records-{count}", hour_of(count).encode(), to_write.taken_apart(hour_of(count).blocks())
+
+
+def of_inputs():
+    """Each is refused for its length, also where the head is wrong in its first word or the first record in its kind."""
+    data = to_write.taken_apart(hour_of(250).blocks())
+    for length in (0, 1, 4, 479, 476, 432, 481, 484, 527, 524, 529, 532, 12_479, 12_476, 12_481, 12_484, 12_528, 24_960):
+        yield f"input-{length}", b"refused 1 at 0\n", (2 * data)[:length]
+    wrong = to_write.taken_apart(changed(five_blocks(), (0, 9, 33), (*field(0, 0), 6)))
+    yield "input-before-head", b"refused 1 at 0\n", wrong[:-4]
+    yield "head-before-first-record", b"refused 4 at 9\n", wrong
+
+
+def cases_to_write():
+    return itertools.chain(of_files(), of_counts(), of_inputs())

@@ -1,11 +1,12 @@
 """What the built programs answer where the answer is known by hand, without the second program.
 
-    python3 -m unittest tests/test_known.py       # `statement` from target/bin; the programs of tests/archive are made
+    python3 -m unittest tests/test_known.py       # `statement` and `write_hour` from target/bin; the programs of tests/archive are made
 
-The files of tests/known.py, the printed case and an hour with finals of its own in buffers of several lengths, and text amounts, document
-01's figures among them.
+The files of tests/known.py, the printed case and an hour with finals of its own in buffers of several lengths, hours to be written, and
+text amounts, document 01's figures among them.
 """
 
+import struct
 import sys
 import unittest
 from pathlib import Path
@@ -23,8 +24,8 @@ COMMANDS = {}
 
 def setUpModule():
     folder = programs.made("archive")
-    COMMANDS.update(statement=programs.command("statement"), settled=programs.command("settled", folder),
-                    amounts=programs.command("amounts", folder))
+    COMMANDS.update({name: programs.command(name) for name in ("statement", "write_hour")})
+    COMMANDS.update({name: programs.command(name, folder) for name in ("settled", "written", "amounts")})
 
 
 def printed_by(name, data, *words):
@@ -96,6 +97,52 @@ class Statements(unittest.TestCase):
         self.assertEqual(printed_by("statement", NEUTRALITY), "hour 1402 members 4 records 5\n"
                          "00          +0.20          +0.20\n01          -0.10          -0.14\n"
                          "02          -0.02          -0.05\n03          +0.00          -0.01\n")
+
+
+class Written(unittest.TestCase):
+    """Document 02, A2."""
+
+    # The printed case, word by word: hour 7, two members, a zone at 5,000, an area; a generator of member 0 and a load of member 1.
+    HEAD = struct.pack("<120I", 7, 2, 1, 1, 5_000, *[0] * 115)
+    RECORDS = struct.pack("<24I", 1, 0, 0, 1_000, 900, 0, 0, 0, 2_000, 10_000, 10_000, 0, 2, 1, 0, 1_000, 870, *[0] * 7)
+
+    def called(self, data, *lengths):
+        """What the call from C answers, as the program `written` prints it: a line, and the file buffer."""
+        line, buffer = programs.run([*COMMANDS["written"], *map(str, lengths)], data).split(b"\n", 1)
+        return line.decode(), buffer
+
+    def test_the_printed_case(self):
+        self.assertEqual(programs.run(COMMANDS["write_hour"], self.HEAD + self.RECORDS), PRINTED)
+        self.assertEqual(self.called(self.HEAD + self.RECORDS, 120, 1_024), ("answer 0 at 0 length 1024", PRINTED))
+
+    def test_files(self):
+        for name, wanted, data in known.cases_to_write():
+            with self.subTest(name):
+                self.assertEqual(programs.run(COMMANDS["write_hour"], data), wanted)
+
+    def test_answers_to_a_caller_in_c(self):
+        """With a buffer that is long enough for any hour; parts of words and inputs for which there is no room are the program's."""
+        for name, wanted, data in known.cases_to_write():
+            if len(data) % 4 == 0 and len(data) <= 4 * 4_096:
+                with self.subTest(name):
+                    refused = wanted.decode().strip().replace("refused", "answer") if wanted.startswith(b"refused") else None
+                    line, buffer = self.called(data)
+                    self.assertEqual(line, f"{refused} length 0" if refused else f"answer 0 at 0 length {len(wanted)}")
+                    self.assertEqual(buffer, (b"" if refused else wanted).ljust(13_312, b"M"))
+
+    def test_lengths(self):
+        """Bytes past the last block, and all where the hour is refused, are what they were. The head's length goes before the file's."""
+        data = self.HEAD + self.RECORDS
+        for lengths, answer in (((120, 1_025), 0), ((120, 1_023), 11), ((120, 512), 11), ((120, 0), 11),
+                                ((119, 1_024), 1), ((121, 1_024), 1), ((108, 1_024), 1), ((132, 1_024), 1), ((0, 0), 1)):
+            with self.subTest(lengths):
+                wrote = b"" if answer else PRINTED
+                self.assertEqual(self.called(data, *lengths),
+                                 (f"answer {answer} at 0 length {len(wrote)}", wrote.ljust(lengths[1], b"M")))
+
+    def test_what_is_written_is_settled(self):
+        wrote = programs.run(COMMANDS["write_hour"], self.HEAD + self.RECORDS)
+        self.assertEqual(printed_by("statement", wrote), printed_by("statement", PRINTED))
 
 
 class Amounts(unittest.TestCase):

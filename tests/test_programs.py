@@ -19,6 +19,7 @@ PRINTED = ROOT / "examples" / "printed.hour"
 sys.path.insert(0, str(HERE))
 import hours  # noqa: E402
 import programs  # noqa: E402
+import to_write  # noqa: E402
 
 
 @contextlib.contextmanager
@@ -41,12 +42,17 @@ def ended(words, stdin=subprocess.DEVNULL, stdout=subprocess.PIPE, closing=None)
 
 
 class CannotRead(unittest.TestCase):
+    NAMES = ("statement", "write_hour")
+
     def test_a_directory_as_standard_input(self):
-        with opened(ROOT) as (folder,):
-            self.assertEqual(ended(programs.command("statement"), stdin=folder), (0, "", "standard input: Is a directory\n"))
+        for name in self.NAMES:
+            with self.subTest(name), opened(ROOT) as (folder,):
+                self.assertEqual(ended(programs.command(name), stdin=folder), (0, "", "standard input: Is a directory\n"))
 
     def test_standard_input_closed(self):
-        self.assertEqual(ended(programs.command("statement"), closing=0), (0, "", "standard input: Bad file descriptor\n"))
+        for name in self.NAMES:
+            with self.subTest(name):
+                self.assertEqual(ended(programs.command(name), closing=0), (0, "", "standard input: Bad file descriptor\n"))
 
 
 class CannotWrite(unittest.TestCase):
@@ -65,6 +71,31 @@ class CannotWrite(unittest.TestCase):
             with self.subTest(name), opened(PRINTED) as (stdin,):
                 self.assertEqual(ended(programs.command(name), stdin, closing=1),
                                  (0, "", "standard output: Bad file descriptor\n"))
+
+
+class CannotWriteAnHour(unittest.TestCase):
+    """Neither the longest file there is nor the line of a refusal."""
+
+    def inputs(self):
+        """250 records, and none of a head's bytes."""
+        hour = hours.Hour(7, 1, [5_000], [[0, 0, 0]], [hours.record(hours.EXPORT, 0, 0)] * 250)
+        return to_write.taken_apart(hour.blocks()), b""
+
+    def wrote(self, data, **streams):
+        with tempfile.TemporaryFile() as stdin:
+            stdin.write(data)
+            stdin.seek(0)
+            return ended(programs.command("write_hour"), stdin, **streams)
+
+    def test_standard_output_full(self):
+        for data in self.inputs():
+            with self.subTest(len(data)), opened("/dev/full") as (full,):
+                self.assertEqual(self.wrote(data, stdout=full), (0, None, "standard output: No space left on device\n"))
+
+    def test_standard_output_closed(self):
+        for data in self.inputs():
+            with self.subTest(len(data)):
+                self.assertEqual(self.wrote(data, closing=1), (0, "", "standard output: Bad file descriptor\n"))
 
 
 class LengthsAndPrices(unittest.TestCase):

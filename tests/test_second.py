@@ -204,6 +204,8 @@ class Refusals(unittest.TestCase):
     def test_known_files(self):
         for name, line, data in known.cases():
             self.assertEqual(second.statement(data).decode().splitlines()[0], line, name)
+        for name, wanted, data in known.cases_to_write():
+            self.assertEqual(second.written_hour(data), wanted, name)
 
     def test_first_such_place(self):
         hour = Hour(0, 1, [1], [[0, 5, 5]] * 3 + [[0, 1, 0], [0, 0, 1]], [record(EXPORT, 0, 0)] * 12)
