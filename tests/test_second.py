@@ -836,7 +836,7 @@ class Noticing(unittest.TestCase):
         wrong = slipped("loads added")
         for name in ("statement", "settled"):
             with self.stand_ins(**{name: wrong}) as folder:
-                status, said = self.run_compare("--hours", 30, "--programs", folder, "--save", folder / "saved")
+                status, said = self.run_compare("--hours", 8, "--programs", folder, "--save", folder / "saved")
                 self.assertEqual(status, 1, said)
                 self.assertIn("---- second program wrote:", said)
                 saved = sorted((folder / "saved").glob("*.hour"))
@@ -848,7 +848,7 @@ class Noticing(unittest.TestCase):
         wrong = slipped("word 2 of the last block ten")
         for name in ("write_hour", "written"):
             with self.stand_ins(**{name: wrong}) as folder:
-                status, said = self.run_compare("--hours", 10, "--programs", folder, "--save", folder / "saved")
+                status, said = self.run_compare("--hours", 4, "--programs", folder, "--save", folder / "saved")
                 self.assertEqual(status, 1, said)
                 self.assertIn("bytes, from byte ", said)
                 case = min((folder / "saved").glob("*.writing"))
@@ -895,22 +895,15 @@ class Noticing(unittest.TestCase):
                 status, said = self.run_compare("--hours", 500, "--amounts", 500, "--seed", seed, "--programs", folder)
                 self.assertEqual(status, 0, said)
 
-    def test_it_says_if_a_refusal_never_occurred(self):
-        only = [hours.honest(hours.few_records)]
+    def test_it_says_if_something_never_occurred(self):
         with self.stand_ins() as folder, mock.patch.object(programs, "run", self.without_starting), \
-                mock.patch.object(hours, "ROUND", only):
+                mock.patch.object(hours, "ROUND", [hours.honest(hours.few_records)]), \
+                mock.patch.object(to_write, "ROUND", [to_write.honest(10)]):
             status, said = self.run_compare("--hours", 500, "--programs", folder)
             self.assertEqual(status, 1)
             self.assertIn("never occurred in 500 hours: refused 1; refused 2; refused 3; refused 4; refused 5; refused 6; refused 12; "
                           "12, one record; 12, several members charged; 12, exact amounts that cancel; 12, a buffer too short as well; "
                           "no demand, ", said)
-
-    def test_it_says_if_a_side_of_writing_never_occurred(self):
-        only = [to_write.honest(10)]
-        with self.stand_ins() as folder, mock.patch.object(programs, "run", self.without_starting), \
-                mock.patch.object(to_write, "ROUND", only):
-            status, said = self.run_compare("--hours", 500, "--programs", folder)
-            self.assertEqual(status, 1)
             self.assertIn("never occurred in 500 hours to write: refused 4; refused 5; written, 0 records; written, 1 records; "
                           "written, 9 records; written, 11 records; written, 250 records; 1, no bytes; ", said)
 
