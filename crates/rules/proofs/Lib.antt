@@ -20,6 +20,7 @@ pub mod Fair
 pub mod Neutral
 pub mod Demands
 pub mod Finals
+pub mod WordBytes
 pub mod Stated
 pub mod Sheet
 pub mod Told
