@@ -21,6 +21,7 @@ pub mod Neutral
 pub mod Demands
 pub mod Finals
 pub mod WordBytes
+pub mod Said
 pub mod Stated
 pub mod Sheet
 pub mod Told

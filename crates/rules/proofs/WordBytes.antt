@@ -65,11 +65,10 @@ unfolding closing
 closing-only sum v small zero-sum = omega arith
 
 module _ (plain : ℕ → ℕ) (n : ℕ) (there : 7 < n) (still-zero : plain 7 ≡ 0) where
-  -- closed, the words add up to zero, also where each is taken modulo 2^32
-  pub closed-sum : sumBelow (λ w. cond (eqb w 7) (closing (sumBelow plain n)) (plain w) % 0x1_0000_0000) n % 0x1_0000_0000 ≡ 0
+  -- closed, the words add up to zero
+  pub closed-sum : sumBelow (λ w. cond (eqb w 7) (closing (sumBelow plain n)) (plain w)) n % 0x1_0000_0000 ≡ 0
   closed-sum =
-      sum-mod 0x1_0000_0000 (λ w. cond (eqb w 7) (closing (sumBelow plain n)) (plain w)) n
-      ∙ ap (λ (k : ℕ). k % 0x1_0000_0000) (sum-with plain (closing (sumBelow plain n)) n 7 there still-zero)
+      ap (λ (k : ℕ). k % 0x1_0000_0000) (sum-with plain (closing (sumBelow plain n)) n 7 there still-zero)
       ∙ closing-closes (sumBelow plain n)
 
   -- words that add up to zero, and are these but for word 7, are closed by it
