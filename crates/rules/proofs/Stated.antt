@@ -13,13 +13,14 @@ use Rattle.whole.proofs.Tests.{split}
 use Rattle.rules.specs.Record.{Hour, hourNumber, members}
 use Rattle.rules.specs.Charge.{charge}
 use Rattle.rules.specs.Neutrality.{final}
-use Rattle.rules.specs.HourFile.{hourly, lengthBad, hourOf, word, blockWord}
+use Rattle.rules.specs.HourFile.{hourly, lengthBad, hourOf, blockWord}
 use Rattle.rules.specs.Refusals.{Verdict, accepted, refusedAt, verdict, badLength, tooShort, tableRows, hourRows}
 use Rattle.rules.specs.Settling.{isAccepted}
 use Rattle.rules.specs.Statement.{firstLine, column, memberLine, memberLines, acceptedLines, refusedLine, statement}
 use Rattle.rules.specs.Inner.Kept.{HourKept, FileKept}
 use Rattle.rules.proofs.Rows.{accepts-when-whole, hour-numbered, table-in-parts, zero-accepts, refused-first, passed-on}
 use Rattle.rules.proofs.Kept.{passed-kept}
+use Rattle.rules.proofs.WordBytes.{word-most}
 use Rattle.rules.proofs.Digits.{decimal-at-most-20, decimal-length-at-most}
 use Rattle.rules.proofs.Text.{field-has-width}
 
@@ -93,11 +94,6 @@ module _ (h : Hour) where
 pub refused-line-most : (v : Verdict) → length (refusedLine v) ≤ 53
 unfolding refusedLine
 refused-line-most v = simp length-append (omega (arith, decimal-at-most-20 (v .number), decimal-at-most-20 (v .place)))
-
--- a word of four bytes has 32 bits
-pub word-most : (s : List ℕ) → ((i : ℕ) → getD s i 0 < 256) → (k : ℕ) → word s k < 2 ^ 32
-unfolding word
-word-most s b k = omega (arith, b (4 * k), b (4 * k + 1), b (4 * k + 2), b (4 * k + 3))
 
 pub hour-number-most : (s : List ℕ) → ((i : ℕ) → getD s i 0 < 256) → hourNumber (hourOf hourly s) < 2 ^ 32
 unfolding hourOf blockWord

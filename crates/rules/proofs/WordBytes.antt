@@ -3,7 +3,7 @@
 use mathlib.Core.Path.{_≡_, refl, sym, _∙_, ap, ap₂}
 use mathlib.Core.Bool.{cond}
 use mathlib.Core.List.{List}
-use Prim.Native.Nat.{ℕ, _+_, _*_, _/_, _%_, _<_}
+use Prim.Native.Nat.{ℕ, _+_, _*_, _%_, _^_, _<_}
 use native.Mathlib.Nat.{add-mod-mod}
 use native.Mathlib.Omega.{arith}
 use lib.ListN.{getD}
@@ -17,6 +17,11 @@ use Rattle.rules.specs.HourFile.{word}
 use Rattle.rules.specs.HourWords.{byteOf, closing}
 
 -- ---- bytes
+
+-- a word of four bytes has 32 bits
+pub word-most : (s : List ℕ) → ((i : ℕ) → getD s i 0 < 256) → (k : ℕ) → word s k < 2 ^ 32
+unfolding word
+word-most s b k = omega (arith, b (4 * k), b (4 * k + 1), b (4 * k + 2), b (4 * k + 3))
 
 pub bytes-make-word : (v : ℕ) → byteOf v 0 + 256 * byteOf v 1 + 65536 * byteOf v 2 + 16777216 * byteOf v 3 ≡ v % 0x1_0000_0000
 unfolding byteOf
