@@ -25,3 +25,4 @@ pub mod Said
 pub mod Stated
 pub mod Sheet
 pub mod Told
+pub mod Writing

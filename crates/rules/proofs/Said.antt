@@ -224,7 +224,7 @@ module _ (s : List ℕ) (h : Hour) (says : Says s h) where
   blocks-are = omega (arith, says .length-is)
 
   module _ (few : h .count ≤ 250) where
-    length-whole : badLength hourly s ≡ none
+    pub length-whole : badLength hourly s ≡ none
     unfolding badLength lengthBad fileLength
     length-whole =
         let one = some-blocks h in
@@ -234,13 +234,13 @@ module _ (s : List ℕ) (h : Hour) (says : Says s h) where
           le-ltb 13312 (length s) (omega (arith, says .length-is)),
         )
 
-  sums-whole : badSum s ≡ none
+  pub sums-whole : badSum s ≡ none
   unfolding badSum blockSum fileWord
   sums-whole = none-below _ (blocks s) (λ b l. ap not (eq-eqb _ 0 (
       ap (λ (k : ℕ). k % 0x1_0000_0000) (sum-ext (blockWord s b) (fileWord hourly h b) 128 (λ w m. says .word-is b w (rw blocks-are at l) m))
       ∙ closed-sum (openWord hourly h b) 128 (omega arith) (still-zero h b))))
 
-  blocks-whole : badBlock hourly s ≡ none
+  pub blocks-whole : badBlock hourly s ≡ none
   unfolding badBlock firstBroken
   blocks-whole = none-below _ (blocks s) (λ b l.
       let there : b < blocksFor hourly h = rw blocks-are at l in
@@ -297,7 +297,7 @@ module _ (s : List ℕ) (h : Hour) (says : Says s h) where
           (λ t. rw (held-full h (1 + i / 10) (ltb-true _ _ t)) (omega arith))
           (λ t. rw (held-last h (1 + i / 10) (ltb-false _ _ t)) (omega arith))
 
-same-hour : (g h : Hour) → ((w : ℕ) → g .head w ≡ h .head w) → g .count ≡ h .count → ((i w : ℕ) → g .rec i w ≡ h .rec i w) → g ≡ h
+pub same-hour : (g h : Hour) → ((w : ℕ) → g .head w ≡ h .head w) → g .count ≡ h .count → ((i w : ℕ) → g .rec i w ≡ h .rec i w) → g ≡ h
 same-hour g h heads counts recs =
     ap (λ (f : ℕ → ℕ). record { head = f; count = g .count; rec = g .rec }) (fun-ext heads)
     ∙ ap (λ (k : ℕ). record { head = h .head; count = k; rec = g .rec }) counts
@@ -441,3 +441,20 @@ module _ (s : List ℕ) (bytes : AreBytes s) (whole : AllWhole (fileRows s)) whe
         (λ t. rw (t, eqb-true w 7 t) (seven-said b there))
         (λ t. rw t (open-said b w there m (eqb-false w 7 t))));
   }
+
+-- ---- no other bytes say an hour than its file
+
+pub only-file : (s : List ℕ) (h : Hour) → AreBytes s → Says s h → fileOf hourly h ≡ s
+unfolding fileLength blockWord
+only-file s h bytes says = ext-getD 0 (fileOf hourly h) s (length-of-file h ∙ sym (says .length-is)) (λ k l. byte k (rw (length-of-file h) at l))
+  where
+    byte : (k : ℕ) → k < 512 * blocksFor hourly h → getD (fileOf hourly h) k 0 ≡ getD s k 0
+    byte k l =
+        let b : ℕ = k / 512 in
+        let w : ℕ = k % 512 / 4 in
+        let place : 4 * (128 * b + w) + k % 4 ≡ k = omega arith in
+        ap (λ (i : ℕ). getD (fileOf hourly h) i 0) (sym place)
+        ∙ byte-there h b w (k % 4) (omega arith) (omega arith) (omega arith)
+        ∙ ap (λ (v : ℕ). byteOf v (k % 4)) (sym (says .word-is b w (omega arith) (omega arith)))
+        ∙ byte-of-word s bytes (128 * b + w) (k % 4) (omega arith)
+        ∙ ap (λ (i : ℕ). getD s i 0) place
