@@ -26,3 +26,4 @@ pub mod Stated
 pub mod Sheet
 pub mod Told
 pub mod Writing
+pub mod Raw

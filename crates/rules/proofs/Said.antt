@@ -194,7 +194,7 @@ module _ (h : Hour) (b : ℕ) (there : b < blocksFor hourly h) where
 -- ---- the file of an hour says it
 
 module _ (h : Hour) where
-  length-of-file : length (fileOf hourly h) ≡ fileLength hourly h
+  pub length-of-file : length (fileOf hourly h) ≡ fileLength hourly h
   unfolding fileOf
   length-of-file = length-values (fileByte hourly h) (fileLength hourly h)
 
@@ -379,15 +379,28 @@ module _ (s : List ℕ) (bytes : AreBytes s) (whole : AllWhole (fileRows s)) whe
   -- words 0 to 6
   front-said : (b : ℕ) → b < N → (w : ℕ) → w < 7 → openWord hourly h b w ≡ blockWord s b w
   unfolding openWord blockRule
-  front-said b l = at-each (λ w. openWord hourly h b w ≡ blockWord s b w) 7 (((((((
-    tt,
-    only-value (block-holds b 0 l (omega arith))),
-    only-value (block-holds b 1 l (omega arith))),
-    count-said b l),
-    only-value (block-holds b 3 l (omega arith))),
-    only-value (block-holds b 4 l (omega arith))),
-    only-value (block-holds b 5 l (omega arith))),
-    only-value (block-holds b 6 l (omega arith)))
+  front-said b l = at-each (λ w. openWord hourly h b w ≡ blockWord s b w) 7 (
+    (
+      (
+        (
+          (
+            (
+              (
+                tt,
+                only-value (block-holds b 0 l (omega arith)),
+              ),
+              only-value (block-holds b 1 l (omega arith)),
+            ),
+            count-said b l,
+          ),
+          only-value (block-holds b 3 l (omega arith)),
+        ),
+        only-value (block-holds b 4 l (omega arith)),
+      ),
+      only-value (block-holds b 5 l (omega arith)),
+    ),
+    only-value (block-holds b 6 l (omega arith)),
+  )
 
   -- the bodies
   record-said : (b k : ℕ) → 1 ≤ b → b < N → k < 12 * heldIn hourly h b → h .rec (10 * (b - 1) + k / 12) (k % 12) ≡ blockWord s b (8 + k)

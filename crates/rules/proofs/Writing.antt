@@ -93,9 +93,10 @@ module _ (head records : List ℕ) where
     room-there e = ltb-false _ _ (no-place _ (accepts .0 e .1 .1 .1 .0))
 
     past-file : w .verdict ≡ accepted → (drop (w .length) (w .file) ≡ drop (w .length) file) × (length (w .file) ≡ length file)
-    past-file e = rw (written e)
-        (drop-replacing (fileByte hourly h) (fileLength hourly h) file,
-        length-replacing (fileByte hourly h) (fileLength hourly h) file (room-there e))
+    past-file e = rw (written e) (
+      drop-replacing (fileByte hourly h) (fileLength hourly h) file,
+      length-replacing (fileByte hourly h) (fileLength hourly h) file (room-there e),
+    )
 
     file-is : w .verdict ≡ accepted → fileIn w ≡ fileOf hourly h
     unfolding replacingFirst fileOf
@@ -110,9 +111,16 @@ module _ (head records : List ℕ) where
         let of-words = lists-of-words (whole .0) head-words record-words in
         let says = file-says h of-words in
         let same = says-holds (fileOf hourly h) h says of-words in
-        let rows-whole : AllWhole (fileRows (fileOf hourly h)) = (length-whole (fileOf hourly h) h says (of-words .few),
-        (sums-whole (fileOf hourly h) h says, (blocks-whole (fileOf hourly h) h says,
-        (ap badHead same ∙ whole .1 .0, (ap badRecord same ∙ whole .1 .1 .0, tt))))) in
+        let rows-whole : AllWhole (fileRows (fileOf hourly h)) = (
+          length-whole (fileOf hourly h) h says (of-words .few),
+          (
+            sums-whole (fileOf hourly h) h says,
+            (
+              blocks-whole (fileOf hourly h) h says,
+              (ap badHead same ∙ whole .1 .0, (ap badRecord same ∙ whole .1 .1 .0, tt)),
+            ),
+          ),
+        ) in
         rw (file-is e) (accepts-when-whole (fileRows (fileOf hourly h)) (file-numbered (fileOf hourly h)) .1 rows-whole, same)
 
 -- ---- a file's own head and records
@@ -161,13 +169,20 @@ module _ (s : List ℕ) where
     -- nothing that the writer checks is broken
     own-lists-pass : (room : ℕ) → length s ≤ room → AllWhole (writerRows (headWords s) (recordWords hourly s) room)
     unfolding writerRows noRoom badLists fileRows tableRows
-    own-lists-pass room enough = (rw (
+    own-lists-pass room enough = (
+      rw (
         eq-eqb (length (headWords s)) 120 head-length,
         eq-eqb (length (recordWords hourly s) % 12) 0 (omega (arith, records-length)),
         le-ltb 250 (length (recordWords hourly s) / 12) (omega (arith, records-length, few)),
       ) refl,
-      (ap badHead own-lists ∙ whole .1 .1 .1 .0, (ap badRecord own-lists ∙ whole .1 .1 .1 .1 .0,
-      (rw (own-lists, le-ltb room (fileLength hourly (hourOf hourly s)) (omega (arith, own-hour s bytes whole .length-is, enough))) refl, tt))))
+      (
+        ap badHead own-lists ∙ whole .1 .1 .1 .0,
+        (
+          ap badRecord own-lists ∙ whole .1 .1 .1 .1 .0,
+          (rw (own-lists, le-ltb room (fileLength hourly (hourOf hourly s)) (omega (arith, own-hour s bytes whole .length-is, enough))) refl, tt),
+        ),
+      ),
+    )
       where
         few : recordCount hourly s ≤ 250
         few = rw (← record-count hourly s) (file-kept s whole .hour-kept .count-most)
