@@ -58,7 +58,7 @@ fn put_refusal(out: &mut [u8], number: u64, place: u64) -> usize
 }
 
 // The line of a refused call.
-pub fn put_refused(answer: Answer, out: &mut [u8]) -> usize
+pub fn put_refused(out: &mut [u8], answer: Answer) -> usize
     requires { ⌜ 53 ≤ length (now out) ⌝ }
     ensures { λ r. ⌜ Put (now (out .entry)) 0 (refusedLine (verdictOf answer)) r (now (out .exit)) ⌝ }
 {

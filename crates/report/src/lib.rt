@@ -63,7 +63,7 @@ fn put_answered(
     ensures { λ r. ⌜ Put (now (out .entry)) 0 (Statement.statement (now (file .entry))) r (now (out .exit)) ⌝ }
 {
     let Answer::Accepted = answer else {
-        return printing::put_refused(answer, out);
+        return printing::put_refused(out, answer);
     };
     put_accepted(file, charges, finals, out)
 }
