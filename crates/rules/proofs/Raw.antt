@@ -9,19 +9,32 @@ use native.Mathlib.Omega.{arith}
 use lib.ListN.{length, take, drop, length-drop}
 use lib.Seq.{take-all, length-take-le}
 use lib.Dec.{ltb, leb, eqb}
-use borrow.Author.Tests.{leb-true, leb-false, eqb-true, eqb-false, lt-ltb, ne-eqb}
+use borrow.Author.Tests.{leb-true, leb-false, eqb-true, eqb-false, lt-ltb, le-ltb, ne-eqb}
 use Rattle.whole.proofs.Tests.{split}
 use Rattle.whole.proofs.Buffers.{length-values}
 use Rattle.rules.specs.HourFile.{hourly, word}
 use Rattle.rules.specs.HourWords.{hourFrom, fileByte, fileLength, fileOf, blocksFor}
-use Rattle.rules.specs.Refusals.{accepted, refusedAt, verdict, badLists, writerRows}
+use Rattle.rules.specs.Refusals.{accepted, refusedAt, verdict, badLists, noRoom, writerRows}
 use Rattle.rules.specs.Settling.{isAccepted}
 use Rattle.rules.specs.Statement.{refusedLine}
 use Rattle.rules.specs.RawHour.{rawWords, rawHead, rawRecords, rawRows, rawWritten}
-use Rattle.rules.proofs.Rows.{Numbered, accepts-when-whole, zero-accepts}
+use Rattle.rules.proofs.Rows.{Numbered, accepts-when-whole, zero-accepts, last-decides-nothing}
 use Rattle.rules.proofs.Stated.{refused-line-most}
 use Rattle.rules.proofs.Said.{some-blocks, length-of-file}
 use Rattle.rules.proofs.Writing.{lists-whole}
+
+-- ---- room for the longest file is enough for every one: row 11 decides nothing
+
+-- no hour that the writer accepts has more than 26 blocks
+pub file-most : (head records : List ℕ) → badLists head records ≡ none → fileLength hourly (hourFrom hourly head records) ≤ 13312
+unfolding fileLength hourFrom
+file-most head records e = omega (arith, some-blocks (hourFrom hourly head records), lists-whole head records e .2)
+
+pub room-for-file : (head records : List ℕ) (room : ℕ) → 13312 ≤ room →
+    verdict (writerRows head records room) ≡ verdict (take 3 (writerRows head records 0))
+unfolding writerRows noRoom
+room-for-file head records room enough = last-decides-nothing (take 3 (writerRows head records 0)) 11 _ (λ whole.
+    rw (le-ltb room (fileLength hourly (hourFrom hourly head records)) (omega (arith, file-most head records (whole .0), enough))) refl)
 
 module _ (s : List ℕ) where
   pub raw-numbered : Numbered (rawRows s)
@@ -41,12 +54,6 @@ module _ (s : List ℕ) where
   words-length = length-values (word s) (length s / 4)
 
   -- ---- how long it is
-
-  -- no hour that the writer accepts has more than 26 blocks
-  pub file-most : (head records : List ℕ) → badLists head records ≡ none → fileLength hourly (hourFrom hourly head records) ≤ 13312
-  unfolding fileLength hourFrom
-  file-most head records e =
-      omega (arith, some-blocks (hourFrom hourly head records), lists-whole head records e .2)
 
   raw-file-most : verdict (rawRows s) ≡ accepted → length (rawWritten s) ≤ 13312
   unfolding rawRows writerRows

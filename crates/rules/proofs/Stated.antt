@@ -18,7 +18,7 @@ use Rattle.rules.specs.Refusals.{Verdict, accepted, refusedAt, verdict, 
 use Rattle.rules.specs.Settling.{isAccepted}
 use Rattle.rules.specs.Statement.{firstLine, column, memberLine, memberLines, acceptedLines, refusedLine, statement}
 use Rattle.rules.specs.Inner.Kept.{HourKept, FileKept}
-use Rattle.rules.proofs.Rows.{accepts-when-whole, hour-numbered, table-in-parts, zero-accepts, refused-first, passed-on}
+use Rattle.rules.proofs.Rows.{accepts-when-whole, hour-numbered, table-in-parts, zero-accepts, last-decides-nothing}
 use Rattle.rules.proofs.Kept.{passed-kept}
 use Rattle.rules.proofs.WordBytes.{word-most}
 use Rattle.rules.proofs.Digits.{decimal-at-most-20, decimal-length-at-most}
@@ -34,20 +34,17 @@ accepted-kept s e = passed-kept s (accepts-when-whole (hourRows s) (hour-numbere
 pub room-for-all : (s : List ℕ) (charges finals lines shares deviations : ℕ) → 32 ≤ charges → 32 ≤ finals → 32 ≤ lines →
     250 ≤ shares → 250 ≤ deviations →
     verdict (tableRows s charges finals lines shares deviations) ≡ verdict (hourRows s)
-unfolding verdict tooShort
-room-for-all s c f l n d pc pf pl pn pd = ap verdict (table-in-parts s c f l n d) ∙ split (isAccepted (verdict (hourRows s)))
-    (λ t. let a = zero-accepts (hourRows s) (hour-numbered s) (eqb-true _ _ t) in
-    let k = accepted-kept s a .hour-kept in
+unfolding tooShort
+room-for-all s c f l n d pc pf pl pn pd = ap verdict (table-in-parts s c f l n d) ∙ last-decides-nothing (hourRows s) 11 _ (λ whole.
+    let k = passed-kept s whole .hour-kept in
     let h = hourOf hourly s in
-    passed-on (hourRows s) _ (accepts-when-whole (hourRows s) (hour-numbered s) .0 a)
-    ∙ rw (
+    rw (
       le-ltb c (members h) (omega (arith, k .members-most)),
       le-ltb f (members h) (omega (arith, k .members-most)),
       le-ltb l (members h) (omega (arith, k .members-most)),
       le-ltb n (h .count) (omega (arith, k .count-most)),
       le-ltb d (h .count) (omega (arith, k .count-most)),
-    ) (sym a))
-    (λ t. refused-first (hourRows s) _ (λ a. eqb-false _ _ t (ap (λ (v : Verdict). v .number) a)))
+    ) refl)
 
 module _ (s : List ℕ) where
   pub statement-accepted : verdict (hourRows s) ≡ accepted → statement s ≡ acceptedLines (hourOf hourly s)
