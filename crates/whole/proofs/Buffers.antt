@@ -1,13 +1,13 @@
 -- Laws of the list of the values f 0, .., f (n - 1), and of a buffer whose first n places hold them.
 use mathlib.Core.Path.{_≡_, refl, sym, _∙_, ap, ap₂}
 use mathlib.Core.Bool.{cond}
-use mathlib.Core.List.{List, [], _∷_, _++_}
+use mathlib.Core.List.{List, [], _∷_, _++_, append-nil}
 use Prim.Native.Nat.{ℕ, zero, suc, _+_, _-_, _≤_, _<_}
 use native.Mathlib.Nat.{not-suc-le-zero}
 use native.Mathlib.Numerals.{add-one}
 use native.Mathlib.Omega.{arith}
 use lib.Dec.{ltb, eqb}
-use lib.ListN.{length, drop, getD, set, length-append, length-drop, length-set, List·getD-append}
+use lib.ListN.{length, drop, getD, set, length-append, length-drop, length-set, drop-of-length-le, List·getD-append}
 use lib.Seq.{drop-cons, drop-at, set-at, getD-at, getD-drop, append-snoc, set-append-left, getD-set-same, getD-set-other}
 use lib.Seq.{ext-getD}
 use borrow.Author.Tests.{ltb-true, ltb-false, eqb-true, eqb-false}
@@ -78,6 +78,11 @@ module _ {ℓ} {A : Type ℓ} (f : ℕ → A) where
   replacing-same n old d h same = ext-getD d _ _ (length-replacing n old h) (λ i l. split (ltb i n)
       (λ t. let m = ltb-true i n t in getD-replacing n old i d m ∙ same i m)
       (λ t. getD-kept n old i d (ltb-false i n t)))
+
+  -- every place is replaced
+  pub replacing-all : (old : List A) → replacingFirst f (length old) old ≡ valuesBelow f (length old)
+  unfolding replacingFirst
+  replacing-all old = rw (drop-of-length-le old {i = length old} (omega arith)) (append-nil (valuesBelow f (length old)))
 
   -- the first n places are replaced again
   pub replacing-twice : (g : ℕ → A) (n : ℕ) (old : List A) → replacingFirst g n (replacingFirst f n old) ≡ replacingFirst g n old
