@@ -1,14 +1,14 @@
 -- The hour that a head and records say, word by word, and rows 4 and 5 of it as the searches make them.
 use mathlib.Core.Path.{_≡_, refl, sym, _∙_, ap}
 use mathlib.Core.Bool.{Bool, true, false, not, cond, _&&_, _||_}
-use mathlib.Core.Option.{none}
+use mathlib.Core.Option.{none, some}
 use mathlib.Core.List.{List}
 use Prim.Native.Nat.{ℕ, _+_, _-_, _*_, _/_, _%_, _≤_, _<_}
 use native.Mathlib.Omega.{arith}
 use lib.ListN.{length, getD, take, drop, length-drop}
 use lib.Seq.{getD-take, getD-drop, length-take-le}
 use lib.Dec.{ltb, leb, eqb}
-use borrow.Author.Tests.{ltb-true, ltb-false, eqb-true, not-false, lt-ltb, le-leb}
+use borrow.Author.Tests.{ltb-true, ltb-false, eqb-true, not-false, lt-ltb, le-ltb, le-leb}
 use Rattle.whole.specs.Below.{firstBelow}
 use Rattle.whole.proofs.Tests.{split, neither}
 use Rattle.whole.proofs.Search.{first-ext}
@@ -16,7 +16,7 @@ use Rattle.rules.specs.Record.{Hour, members, zones, areas}
 use Rattle.rules.specs.HourFile.{hourly}
 use Rattle.rules.specs.HourWords.{hourFrom, blocksFor, fileLength}
 use Rattle.rules.specs.Ranges.{keeps, headRule, recordRule, firstBroken}
-use Rattle.rules.specs.Refusals.{isBroken, badLists, badHead, badWord}
+use Rattle.rules.specs.Refusals.{isBroken, badLists, badHead, badWord, noRoom}
 use Rattle.rules.proofs.Rows.{no-place}
 use Rattle.rules.proofs.Faults.{head-any}
 use Rattle.writer.specs.Lists.{hourIn, ListsWhole, recordBad}
@@ -83,9 +83,23 @@ module _ (head records : List ℕ) where
         few-records = omega (arith, said-count, ltb-false 250 (length records / 12) (a .1));
       }
 
-  pub file-length : fileLength hourly h ≡ 512 * (1 + (length records / 12 + 9) / 10)
-  unfolding fileLength blocksFor hourFrom
+  pub block-count : blocksFor hourly h ≡ 1 + (length records / 12 + 9) / 10
+  unfolding blocksFor hourFrom
+  block-count = refl
+
+  pub file-length : fileLength hourly h ≡ 512 * blocksFor hourly h
+  unfolding fileLength
   file-length = refl
+
+  -- the room for so many blocks
+  module _ (room n : ℕ) (e : n ≡ 1 + (length records / 12 + 9) / 10) where
+    pub no-room : room < 512 * n → noRoom h room ≡ some 0
+    unfolding noRoom
+    no-room l = rw (lt-ltb room (fileLength hourly h) (omega (arith, file-length, block-count)))
+
+    pub has-room : 512 * n ≤ room → noRoom h room ≡ none
+    unfolding noRoom
+    has-room l = rw (le-ltb room (fileLength hourly h) (omega (arith, file-length, block-count)))
 
 -- ---- a part of a list
 

@@ -67,7 +67,8 @@ returns-2 c =
     let given = c .before .before .args in
     let rest = drop (120 * (given .b - 1)) (given .records .now) in
     let left = length-drop (120 * (given .b - 1)) (given .records .now) in
-    take-all _ rest (omega (arith, left)) ∙ sym (take-all 120 rest (omega (arith, left)))
+    take-all (length (given .records .now) - 120 * (given .b - 1)) rest (omega (arith, left))
+    ∙ sym (take-all 120 rest (omega (arith, left)))
 
 pub held-by-spec : {M : Type 1} → statement M
 held-by-spec =

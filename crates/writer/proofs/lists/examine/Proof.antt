@@ -1,13 +1,11 @@
 -- `writer::lists::examine` meets its contract: the first row that is broken, with its place.
 use mathlib.Core.Path.{_≡_, sym, _∙_, ap}
 use mathlib.Core.Option.{none}
-use native.Mathlib.Omega.{arith}
 use borrow.Author.Needs.{needs}
-use borrow.Author.Tests.{lt-ltb, le-ltb}
-use Rattle.rules.specs.Refusals.{badLists, badHead, badRecord, noRoom, verdict, writerRows, placeZeroIf}
+use Rattle.rules.specs.Refusals.{badLists, badHead, badRecord, verdict, writerRows, placeZeroIf}
 use Rattle.rules.specs.Inner.Searched.{foundAt}
 use Rattle.writer.specs.Lists.{hourIn, ListsWhole}
-use Rattle.writer.proofs.Said.{lists-whole, file-length}
+use Rattle.writer.proofs.Said.{lists-whole, no-room, has-room}
 use Rattle.writer.proofs.lists.examine.Statement.{statement}
 use Rattle.writer.proofs.lists.examine.Tie as tie
 
@@ -58,7 +56,7 @@ returns-2 : tie.Need-returns-2
 unfolding verdict writerRows
 returns-2 c =
     let searched = c .before .before .before in
-    simp (lists-good (searched .before), sym (searched .bad-head .ensures _) ∙ ap foundAt (c .before .w .given .1))
+    simp (lists-good (searched .before), sym (searched .bad-head .ensures (given (searched .before) .args .records .now)) ∙ ap foundAt (c .before .w .given .1))
 
 -- Found::Nothing = bad_head(head)
 enum-told : tie.Need-enum-told
@@ -92,13 +90,23 @@ mul-if2 c = search needs
 
 -- return Answer::TooShort
 returns-4 : tie.Need-returns-4
-unfolding verdict writerRows noRoom
-returns-4 c = ?
+unfolding verdict writerRows
+returns-4 c =
+    let records = c .before .before in
+    let head = row-4 records in
+    let at = given (row-1 head) .args in
+    let room = no-room (at .head .now) (at .records .now) (at .room) _ (c .before .blocks-for .ensures) (c .if2 .taken) in
+    simp (lists-good (row-1 head), head-good head, records-good records, room)
 
 -- Answer::Accepted
 returns-5 : tie.Need-returns-5
-unfolding verdict writerRows noRoom
-returns-5 c = ?
+unfolding verdict writerRows
+returns-5 c =
+    let records = c .before .before in
+    let head = row-4 records in
+    let at = given (row-1 head) .args in
+    let room = has-room (at .head .now) (at .records .now) (at .room) _ (c .before .blocks-for .ensures) (c .if2 .left) in
+    simp (lists-good (row-1 head), head-good head, records-good records, room)
 
 pub examine-spec : {M : Type 1} → statement M
 examine-spec =
