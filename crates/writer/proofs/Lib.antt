@@ -3,3 +3,4 @@ pub mod Storing
 pub mod Sums
 pub mod Said
 pub mod FileBlocks
+pub mod Written

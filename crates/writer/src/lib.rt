@@ -67,8 +67,14 @@ pub fn write_hour(head: &[u32], records: &[u32], file: &mut [u8]) -> Filed
 {
     let answer = lists::examine(head, records, file.len());
     let Answer::Accepted = answer else {
-        return Filed { answer: answer, length: 0 };
+        return Filed {
+            answer: answer,
+            length: 0,
+        };
     };
     put_file(head, records, file);
-    Filed { answer: answer, length: 512 * lists::blocks_for(records.len()) }
+    Filed {
+        answer: answer,
+        length: 512 * lists::blocks_for(records.len()),
+    }
 }

@@ -99,12 +99,14 @@ module _ (c : tie.After-put-at Inv-loop μ-loop) where
 loop-holds : tie.Need-loop-holds Inv-loop μ-loop
 loop-holds c =
     let put = c .before .before in
-    let all = counted put in
-    (omega arith, record {
-      reached = omega (arith, length-is all, all .blocks-for .ensures);
-      room = omega (arith, start all .pre .1, begun-length put);
-      holds = put-again put;
-    })
+    let all = counted put in (
+      omega arith,
+      record {
+        reached = omega (arith, length-is all, all .blocks-for .ensures);
+        room = omega (arith, start all .pre .1, begun-length put);
+        holds = put-again put;
+      },
+    )
 
 -- a turn, at a block that is there
 module _ (c : tie.In-loop Inv-loop μ-loop) where
@@ -143,8 +145,7 @@ put-at-requires-2 : tie.Need-put-at-requires-2 Inv-loop μ-loop
 put-at-requires-2 c κs =
     let turn = c .before .before in
     let at = all turn in
-    let taken = turn .loop-test .taken in
-    (
+    let taken = turn .loop-test .taken in (
       omega (arith, taken, room at, filled-length (turn .before .loop .inv .1), begun-length (put turn)),
       omega (arith, taken, few at),
       held-short (c .before),
@@ -165,15 +166,17 @@ loop-again c =
     let at = all turn in
     let so-far = turn .before .loop .inv .1 in
     let n = b turn in
-    let next : 512 * n + 512 ≡ 512 * (n + 1) = omega arith in
-    (omega arith, record {
-      reached = omega (arith, turn .loop-test .taken, length-is at);
-      room = so-far .room;
-      holds = placed .put-at2 .ensures
-      ∙ ap₂ (λ (words file : List ℕ). blockPlaced n (blockBytes 2 n (length words / 12) words) file) (held .held-by .ensures) (so-far .holds)
-      ∙ records-placed (head at) (records at) (whole at) n (some turn) (there turn) (begun (put turn))
-      ∙ ap (λ (k : ℕ). replacingFirst (byte (put turn)) k (begun (put turn))) next;
-    })
+    let next : 512 * n + 512 ≡ 512 * (n + 1) = omega arith in (
+      omega arith,
+      record {
+        reached = omega (arith, turn .loop-test .taken, length-is at);
+        room = so-far .room;
+        holds = placed .put-at2 .ensures
+            ∙ ap₂ (λ (words file : List ℕ). blockPlaced n (blockBytes 2 n (length words / 12) words) file) (held .held-by .ensures) (so-far .holds)
+            ∙ records-placed (head at) (records at) (whole at) n (some turn) (there turn) (begun (put turn))
+            ∙ ap (λ (k : ℕ). replacingFirst (byte (put turn)) k (begun (put turn))) next;
+      },
+    )
 
 -- file: &mut [u8]
 same-length : tie.Need-same-length Inv-loop μ-loop

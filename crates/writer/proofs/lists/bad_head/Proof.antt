@@ -59,9 +59,11 @@ loop-less c = omega arith
 
 loop-again : tie.Need-loop-again Inv-loop μ-loop Inv-loop2 μ-loop2
 loop-again c =
-    let turn = c .before .before .before in
-    (omega arith, omega arith,
-    first-next _ (turn .loop .w) (turn .loop .inv .2) (sym (c .before .head-word-bad .ensures) ∙ c .if1 .left))
+    let turn = c .before .before .before in (
+      omega arith,
+      omega arith,
+      first-next _ (turn .loop .w) (turn .loop .inv .2) (sym (c .before .head-word-bad .ensures) ∙ c .if1 .left),
+    )
 
 loop2-holds : tie.Need-loop2-holds Inv-loop μ-loop Inv-loop2 μ-loop2
 loop2-holds c = (omega arith, omega arith, c .before .loop .inv .2)
