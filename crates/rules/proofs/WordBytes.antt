@@ -4,7 +4,6 @@ use mathlib.Core.Path.{_≡_, refl, sym, _∙_, ap, ap₂}
 use mathlib.Core.Bool.{cond}
 use mathlib.Core.List.{List}
 use Prim.Native.Nat.{ℕ, _+_, _*_, _%_, _^_, _<_}
-use native.Mathlib.Nat.{add-mod-mod}
 use native.Mathlib.Omega.{arith}
 use lib.ListN.{getD}
 use lib.Dec.{eqb}
@@ -12,7 +11,7 @@ use borrow.Author.Tests.{eqb-true, eqb-false}
 use Rattle.whole.specs.Below.{sumBelow}
 use Rattle.whole.proofs.Tests.{split}
 use Rattle.whole.proofs.Tables.{EachBelow, at-each}
-use Rattle.whole.proofs.Sums.{sum-ext, sum-with, sum-mod}
+use Rattle.whole.proofs.Sums.{sum-ext, sum-with}
 use Rattle.rules.specs.HourFile.{word}
 use Rattle.rules.specs.HourWords.{byteOf, closing}
 

@@ -52,5 +52,5 @@ module _ {ℓ} {A : Type ℓ} {f : ℕ → A} {n : ℕ} {old : List A} where
       first-filled = filled .holds ∙ ap (λ k. replacingFirst f k old) all-reached
 
       -- where there are no other places
-      pub all-filled : n ≡ length old → out ≡ valuesBelow f n
-      all-filled e = first-filled ∙ ap (λ k. replacingFirst f k old) e ∙ replacing-all f old ∙ ap (valuesBelow f) (sym e)
+      pub all-filled : length old ≡ n → out ≡ valuesBelow f n
+      all-filled e = first-filled ∙ replacing-all f n old e

@@ -2,7 +2,7 @@
 use mathlib.Core.Path.{_≡_, refl, sym, _∙_, ap, ap₂}
 use mathlib.Core.Bool.{Bool, true, false, cond}
 use Prim.Native.Nat.{ℕ, zero, suc, _+_, _*_, _%_, _≤_, _<_, zero-le}
-use native.Mathlib.Nat.{add-zero, add-le-add, le-refl, not-suc-le-zero, mul-one, add-mod, mod-mod, mod-add-mod}
+use native.Mathlib.Nat.{add-zero, add-suc, add-le-add, le-refl, not-suc-le-zero, mul-one, mod-add-mod}
 use native.Mathlib.Numerals.{add-one}
 use native.Mathlib.Omega.{arith}
 use lib.Dec.{eqb}
@@ -146,18 +146,15 @@ pub sum-by : (f of : ℕ → ℕ) (n m : ℕ) → ((i : ℕ) → i < m → of i 
 sum-by f of n m there =
     sum-swap (λ a i. cond (eqb (of i) a) (f i) 0) n m ∙ sum-ext _ f m (λ i l. sum-pick (λ a. f i) n (of i) (there i l))
 
+-- the first n, then the others
+pub sum-then : (f : ℕ → ℕ) (n m : ℕ) → sumBelow f (n + m) ≡ sumBelow f n + sumBelow (λ i. f (n + i)) m
+unfolding sumBelow
+sum-then f n zero = ap (sumBelow f) (add-zero n) ∙ sym (add-zero (sumBelow f n))
+sum-then f n (suc m) = ap (sumBelow f) (add-suc n m) ∙ let e = sum-then f n m in omega arith
+
 -- a running sum that is kept modulo m, as wrapping adds keep it
 pub wraps-on : (m : ℕ) (f : ℕ → ℕ) (w acc x r : ℕ) → acc ≡ sumBelow f w % m → x ≡ f w → r ≡ (acc + x) % m → r ≡ sumBelow f (w + 1) % m
 wraps-on m f w acc x r a b e = rw sum-add-one (e ∙ ap₂ (λ (p q : ℕ). (p + q) % m) a b ∙ mod-add-mod (sumBelow f w) m (f w))
-
--- whether each term is taken modulo m or not
-pub sum-mod : (m : ℕ) (f : ℕ → ℕ) (n : ℕ) → sumBelow (λ i. f i % m) n % m ≡ sumBelow f n % m
-unfolding sumBelow
-sum-mod m f zero = refl
-sum-mod m f (suc n) =
-    add-mod (sumBelow (λ i. f i % m) n) (f n % m) m
-    ∙ ap₂ (λ (a b : ℕ). (a + b) % m) (sum-mod m f n) (mod-mod (f n) m)
-    ∙ sym (add-mod (sumBelow f n) (f n) m)
 
 -- ---- products
 
