@@ -29,7 +29,7 @@ use Rattle.examine.proofs.Examined as Examined
 use Rattle.pool.specs.Buffers.{buffers}
 use Rattle.pool.specs.Unlined.{unlined, withLines, ownLines}
 use Rattle.report.specs.Stated.{HasStated}
-use Rattle.report.proofs.Promised as Promised
+use Rattle.printing.proofs.Showing.{whole-text}
 use Rattle.determined.specs.Determined.{Gives, KeepsDemands}
 use Rattle.amount.proofs.write.Reads as write
 use Rattle.amount.proofs.read.Reads as read
@@ -120,7 +120,7 @@ statement-promises κs a x s p = record { count-is = p .0; out-is = p .1 }
 
 pub statement-is-put : (κs : Lfts 2) → Gives (statement.Post κs) (λ a x s. 1095 ≤ length (now (a .1 .0)) →
     take x (now (s .1 .0)) ≡ Statement.statement (now (a .0)))
-statement-is-put κs a x s p = Promised.whole-statement (statement-promises κs a x s p)
+statement-is-put κs a x s p = whole-text (statement-promises κs a x s p)
 
 -- read, the columns of a member's line give its charge and its final
 pub statement-is-read-back : (κs : Lfts 2) → Gives (statement.Post κs) (λ a x s. 1095 ≤ length (now (a .1 .0)) →

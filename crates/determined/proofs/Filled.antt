@@ -27,7 +27,7 @@ use Rattle.pool.proofs.boundary.sneupelaar_read.Reads as sneupelaar-read
 use Rattle.pool.proofs.boundary.sneupelaar_body.Reads as sneupelaar-body
 use Rattle.printing.proofs.put_first_line.Reads as put-first-line
 use Rattle.printing.proofs.put_member.Reads as put-member
-use Rattle.printing.proofs.put_refusal.Reads as put-refusal
+use Rattle.printing.proofs.put_refused.Reads as put-refused
 use Rattle.report.proofs.statement.Reads as statement
 
 pub one-write : (κs : Lfts 1) → OneOutcome (write.Post κs) (λ s. now (s .1 .0))
@@ -64,8 +64,8 @@ one-put-first-line κs a x y s t p q = (agree (p .next-is) (q .next-is), agree (
 pub one-put-member : (κs : Lfts 1) → OneOutcome (put-member.Post κs) (λ s. now (s .0))
 one-put-member κs a x y s t p q = (agree (p .next-is) (q .next-is), agree (p .after-is) (q .after-is))
 
-pub one-put-refusal : (κs : Lfts 1) → OneOutcome (put-refusal.Post κs) (λ s. now (s .0))
-one-put-refusal κs a x y s t p q = (agree (p .next-is) (q .next-is), agree (p .after-is) (q .after-is))
+pub one-put-refused : (κs : Lfts 1) → OneOutcome (put-refused.Post κs) (λ s. now (s .0))
+one-put-refused κs a x y s t p q = (agree (p .next-is) (q .next-is), agree (p .after-is) (q .after-is))
 
 pub one-statement : (κs : Lfts 2) → OneOutcome (statement.Post κs) (λ s. now (s .1 .0))
 one-statement κs a x y s t p q = (agree (p .0) (q .0), agree (p .1) (q .1))

@@ -1,2 +1,3 @@
 -- Laws of text that is put, for the proofs here and of whoever puts line after line.
 pub mod Putting
+pub mod Showing

@@ -1,2 +1,3 @@
 -- What the contracts of `printing` cite beside `rules`.
 pub mod Put
+pub mod Shown

@@ -1,13 +1,14 @@
-// The lines of a statement (document 01, "The printed statement") as bytes, from numbers alone: each is put into a lent slice, and the
-// place after it is handed back.
+// The lines of a statement (document 01, "The printed statement") as bytes, from numbers and answers alone: each is put into a lent slice,
+// and the place after it is handed back.
 ghost use Prim.Native.Nat.{_+_, _≤_, _<_};
 ghost use lib.IntN.{natAbs};
 ghost use lib.ListN.{length};
-ghost use Rattle.rules.specs.Refusals.{refusedAt};
+ghost use Rattle.rules.specs.Refusals.{refusedAt, verdictOf};
 ghost use Rattle.rules.specs.Statement.{firstLine, column, memberLine, refusedLine};
 ghost use Rattle.printing.specs.Put.{Put};
 use crate::text::put_bytes;
 use crate::text::put_count;
+use rules::Answer;
 
 mod text;
 
@@ -47,11 +48,21 @@ pub fn put_member(out: &mut [u8], at: usize, member: usize, charge: i64, final_a
 }
 
 // A refusal's number and place, and nothing else. The room is for twenty digits of each.
-pub fn put_refusal(out: &mut [u8], number: u64, place: u64) -> usize
+fn put_refusal(out: &mut [u8], number: u64, place: u64) -> usize
     requires { ⌜ 53 ≤ length (now out) ⌝ }
     ensures { λ r. ⌜ Put (now (out .entry)) 0 (refusedLine (refusedAt number place)) r (now (out .exit)) ⌝ }
 {
     let after_number = put_count(out, 0, b"refused ", number);
     let after_place = put_count(out, after_number, b" at ", place);
     put_bytes(out, after_place, b"\n")
+}
+
+// The line of a refused call.
+pub fn put_refused(out: &mut [u8], answer: Answer) -> usize
+    requires { ⌜ 53 ≤ length (now out) ⌝ }
+    ensures { λ r. ⌜ Put (now (out .entry)) 0 (refusedLine (verdictOf answer)) r (now (out .exit)) ⌝ }
+{
+    let number = answer::number_of(answer);
+    let place = answer::place_of(answer) as u64;
+    put_refusal(out, number, place)
 }

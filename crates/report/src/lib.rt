@@ -4,7 +4,6 @@ ghost use mathlib.Core.Path.{_≡_};
 ghost use Prim.Native.Nat.{_+_, _*_, _≤_};
 ghost use lib.ListN.{length};
 ghost use Rattle.rules.specs.Record.{members};
-ghost use Rattle.rules.specs.Refusals.{verdictOf};
 ghost use Rattle.rules.specs.Statement as Statement;
 ghost use Rattle.hour.specs.Hour.{hourIn, Headed};
 ghost use Rattle.printing.specs.Put.{Put};
@@ -52,16 +51,6 @@ fn put_accepted(file: &[u8], charges: &[i64], finals: &[i64], out: &mut [u8]) ->
     put_members(file, head, charges, finals, out, after_first)
 }
 
-// A refusal's number and place.
-fn put_refused(answer: Answer, out: &mut [u8]) -> usize
-    requires { ⌜ 53 ≤ length (now out) ⌝ }
-    ensures { λ r. ⌜ Put (now (out .entry)) 0 (Statement.refusedLine (verdictOf answer)) r (now (out .exit)) ⌝ }
-{
-    let number = answer::number_of(answer);
-    let place = answer::place_of(answer) as u64;
-    printing::put_refusal(out, number, place)
-}
-
 // The statement of a file to which settling has given this answer and, where it is accepted, these charges and finals.
 fn put_answered(
     file: &[u8],
@@ -74,7 +63,7 @@ fn put_answered(
     ensures { λ r. ⌜ Put (now (out .entry)) 0 (Statement.statement (now (file .entry))) r (now (out .exit)) ⌝ }
 {
     let Answer::Accepted = answer else {
-        return put_refused(answer, out);
+        return printing::put_refused(out, answer);
     };
     put_accepted(file, charges, finals, out)
 }

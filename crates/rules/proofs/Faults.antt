@@ -40,11 +40,11 @@ module _ (layout : Layout) (n held b : ℕ) where
   body-rule w l =
       rw block-words (rw (ne-eqb w 0 (λ e. omega arith), ne-eqb w 1 (λ e. omega arith), ne-eqb w 2 (λ e. omega arith), le-ltb w 7 l))
 
-  body-any : (w v : ℕ) → b ≡ 0 → 7 ≤ w → not (keeps (blockRule layout n held b w) v) ≡ false
+  pub body-any : (w v : ℕ) → b ≡ 0 → 7 ≤ w → not (keeps (blockRule layout n held b w) v) ≡ false
   unfolding pastRule keeps
   body-any w v e l = rw (body-rule w l) (split (eqb w 7) (λ t. rw t) (λ t. rw (t, eq-eqb b 0 e)))
 
-  past-records : (w v : ℕ) → (b ≡ 0 → ⊥) → 7 ≤ w → not (keeps (blockRule layout n held b w) v) ≡ (leb past w && not (eqb v 0))
+  pub past-records : (w v : ℕ) → (b ≡ 0 → ⊥) → 7 ≤ w → not (keeps (blockRule layout n held b w) v) ≡ (leb past w && not (eqb v 0))
   unfolding pastRule keeps
   past-records w v f l = rw (body-rule w l) (split (eqb w 7)
       (λ t. rw (t, lt-leb past w (omega (arith, eqb-true w 7 t))))

@@ -35,7 +35,7 @@ unbroken none e = refl
 unbroken (some w) e = never refl e
 
 -- no first broken word: every word keeps its rule
-all-hold : (rule : ℕ → Rule) (word : ℕ → ℕ) (n : ℕ) → firstBroken rule word n ≡ none → (w : ℕ) → w < n → Holds (rule w) (word w)
+pub all-hold : (rule : ℕ → Rule) (word : ℕ → ℕ) (n : ℕ) → firstBroken rule word n ≡ none → (w : ℕ) → w < n → Holds (rule w) (word w)
 unfolding firstBroken
 all-hold rule word n e w l = holds (rule w) (word w) (not-false _ (first-none _ n e w l))
 

@@ -20,6 +20,10 @@ pub mod Fair
 pub mod Neutral
 pub mod Demands
 pub mod Finals
+pub mod WordBytes
+pub mod Said
 pub mod Stated
 pub mod Sheet
 pub mod Told
+pub mod Writing
+pub mod Raw

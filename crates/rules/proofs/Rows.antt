@@ -94,6 +94,14 @@ passed-on [] more w = refl
 passed-on (row n none ∷ rows) more w = passed-on rows more (w .1)
 passed-on (row n (some p) ∷ rows) more w = absurd (let z : _≡_ {A = ℕ} 0 1 = cc (w .0) in omega arith)
 
+-- a last row that is whole wherever all others are decides nothing
+pub last-decides-nothing : (rows : List Row) (n : ℕ) (broken : Option ℕ) → (AllWhole rows → broken ≡ none) →
+    verdict (rows ++ row n broken ∷ []) ≡ verdict rows
+unfolding verdict
+last-decides-nothing [] n broken e = ap (λ (o : Option ℕ). verdict (row n o ∷ [])) (e tt)
+last-decides-nothing (row k none ∷ rows) n broken e = last-decides-nothing rows n broken (λ w. e (refl, w))
+last-decides-nothing (row k (some p) ∷ rows) n broken e = refl
+
 -- a table in two parts is whole when both are
 pub whole-parts : (rows more : List Row) → AllWhole (rows ++ more) ↔ (AllWhole rows × AllWhole more)
 whole-parts [] more = (λ w. (tt, w), λ w. w .1)

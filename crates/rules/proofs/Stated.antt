@@ -13,13 +13,14 @@ use Rattle.whole.proofs.Tests.{split}
 use Rattle.rules.specs.Record.{Hour, hourNumber, members}
 use Rattle.rules.specs.Charge.{charge}
 use Rattle.rules.specs.Neutrality.{final}
-use Rattle.rules.specs.HourFile.{hourly, lengthBad, hourOf, word, blockWord}
+use Rattle.rules.specs.HourFile.{hourly, lengthBad, hourOf, blockWord}
 use Rattle.rules.specs.Refusals.{Verdict, accepted, refusedAt, verdict, badLength, tooShort, tableRows, hourRows}
 use Rattle.rules.specs.Settling.{isAccepted}
 use Rattle.rules.specs.Statement.{firstLine, column, memberLine, memberLines, acceptedLines, refusedLine, statement}
 use Rattle.rules.specs.Inner.Kept.{HourKept, FileKept}
-use Rattle.rules.proofs.Rows.{accepts-when-whole, hour-numbered, table-in-parts, zero-accepts, refused-first, passed-on}
+use Rattle.rules.proofs.Rows.{accepts-when-whole, hour-numbered, table-in-parts, zero-accepts, last-decides-nothing}
 use Rattle.rules.proofs.Kept.{passed-kept}
+use Rattle.rules.proofs.WordBytes.{word-most}
 use Rattle.rules.proofs.Digits.{decimal-at-most-20, decimal-length-at-most}
 use Rattle.rules.proofs.Text.{field-has-width}
 
@@ -33,20 +34,17 @@ accepted-kept s e = passed-kept s (accepts-when-whole (hourRows s) (hour-numbere
 pub room-for-all : (s : List ℕ) (charges finals lines shares deviations : ℕ) → 32 ≤ charges → 32 ≤ finals → 32 ≤ lines →
     250 ≤ shares → 250 ≤ deviations →
     verdict (tableRows s charges finals lines shares deviations) ≡ verdict (hourRows s)
-unfolding verdict tooShort
-room-for-all s c f l n d pc pf pl pn pd = ap verdict (table-in-parts s c f l n d) ∙ split (isAccepted (verdict (hourRows s)))
-    (λ t. let a = zero-accepts (hourRows s) (hour-numbered s) (eqb-true _ _ t) in
-    let k = accepted-kept s a .hour-kept in
+unfolding tooShort
+room-for-all s c f l n d pc pf pl pn pd = ap verdict (table-in-parts s c f l n d) ∙ last-decides-nothing (hourRows s) 11 _ (λ whole.
+    let k = passed-kept s whole .hour-kept in
     let h = hourOf hourly s in
-    passed-on (hourRows s) _ (accepts-when-whole (hourRows s) (hour-numbered s) .0 a)
-    ∙ rw (
+    rw (
       le-ltb c (members h) (omega (arith, k .members-most)),
       le-ltb f (members h) (omega (arith, k .members-most)),
       le-ltb l (members h) (omega (arith, k .members-most)),
       le-ltb n (h .count) (omega (arith, k .count-most)),
       le-ltb d (h .count) (omega (arith, k .count-most)),
-    ) (sym a))
-    (λ t. refused-first (hourRows s) _ (λ a. eqb-false _ _ t (ap (λ (v : Verdict). v .number) a)))
+    ) refl)
 
 module _ (s : List ℕ) where
   pub statement-accepted : verdict (hourRows s) ≡ accepted → statement s ≡ acceptedLines (hourOf hourly s)
@@ -93,11 +91,6 @@ module _ (h : Hour) where
 pub refused-line-most : (v : Verdict) → length (refusedLine v) ≤ 53
 unfolding refusedLine
 refused-line-most v = simp length-append (omega (arith, decimal-at-most-20 (v .number), decimal-at-most-20 (v .place)))
-
--- a word of four bytes has 32 bits
-pub word-most : (s : List ℕ) → ((i : ℕ) → getD s i 0 < 256) → (k : ℕ) → word s k < 2 ^ 32
-unfolding word
-word-most s b k = omega (arith, b (4 * k), b (4 * k + 1), b (4 * k + 2), b (4 * k + 3))
 
 pub hour-number-most : (s : List ℕ) → ((i : ℕ) → getD s i 0 < 256) → hourNumber (hourOf hourly s) < 2 ^ 32
 unfolding hourOf blockWord

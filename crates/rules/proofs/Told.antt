@@ -29,7 +29,8 @@ use Rattle.rules.specs.Finals.{memberPlace, chargeColumn, finalColumn, S
 use Rattle.rules.specs.Inner.Kept.{HourKept}
 use Rattle.rules.proofs.Digits.{all-counted, make-the-number, decimal-digits}
 use Rattle.rules.proofs.Rows.{zero-accepts, hour-numbered}
-use Rattle.rules.proofs.Stated.{accepted-kept, statement-accepted, statement-refused, word-most, hour-number-most, too-long-refused}
+use Rattle.rules.proofs.WordBytes.{word-most}
+use Rattle.rules.proofs.Stated.{accepted-kept, statement-accepted, statement-refused, hour-number-most, too-long-refused}
 use Rattle.rules.proofs.Sheet.{charge-read, final-read}
 
 -- ---- a number is told by its digits, if none stands after them

@@ -7,13 +7,16 @@ pub mod Charge
 pub mod Neutrality
 pub mod Text
 pub mod HourFile
+pub mod HourWords
 pub mod Ranges
 pub mod Refusals
 pub mod Settling
 pub mod Statement
+pub mod RawHour
 pub mod Tariff
 pub mod Promises
 pub mod Finals
+pub mod Writing
 pub mod Figures
 pub mod Printed
 pub mod Refused

@@ -1,6 +1,6 @@
 -- The table of refusals: what breaks each row and at which place, and the rows in their order.
--- Document 01, "Refusal numbers and their order"; row 12 is document 02, A1.
-use Prim.Native.Nat.{ℕ}
+-- Document 01, "Refusal numbers and their order"; row 12 is document 02, A1, the rows of the writer are A2.
+use Prim.Native.Nat.{ℕ, _/_, _%_}
 use mathlib.Core.Bool.{Bool, true, false, not, cond, _&&_, _||_}
 use mathlib.Core.Option.{Option, none, some, bind}
 use mathlib.Core.List.{List, [], _∷_}
@@ -18,6 +18,7 @@ use Rattle.rules.specs.Neutrality.{neutrality, hourDemand}
 use Rattle.rules.specs.Text.{amountText, amountIn}
 use Rattle.rules.specs.declared.Layout.{Layout}
 use Rattle.rules.specs.HourFile.{hourly, lengthBad, blocks, blockWord, blockSum, hourOf}
+use Rattle.rules.specs.HourWords.{hourFrom, fileLength}
 use Rattle.rules.specs.Ranges.{firstBroken, blockRule, headRule, recordRule}
 
 -- ---- number and place
@@ -129,6 +130,15 @@ module _ (h : Hour) where
   tooShort charges finals lines shares deviations = placeZeroIf (
       ltb charges (members h) || ltb finals (members h) || ltb lines (members h) || ltb shares (h .count) || ltb deviations (h .count))
 
+  -- 11, of the writer: the buffer is shorter than the file to be
+  unfoldable pub noRoom : (room : ℕ) → Option ℕ
+  noRoom room = placeZeroIf (ltb room (fileLength hourly h))
+
+-- 1, of the writer: a head of another length, a list that isn't whole records, or over 250 records
+unfoldable pub badLists : (head records : List ℕ) → Option ℕ
+badLists head records = placeZeroIf (
+    not (eqb (length head) 120) || not (eqb (length records % hourly .words) 0) || ltb 250 (length records / hourly .words))
+
 -- 8: amount to write out of range
 unfoldable pub outOfRange : ℤ → Option ℕ
 outOfRange z = placeZeroIf (ltb 999999999999 (natAbs z))
@@ -165,7 +175,16 @@ hourRows s = take 8 (tableRows s 0 0 0 0 0)
 unfoldable pub fileRows : List ℕ → List Row
 fileRows s = take 5 (tableRows s 0 0 0 0 0)
 
--- writing checks 8, then 9
+-- the writer of hour files checks 1, then 4 and 5 as the reader, then 11, by the length of the buffer
+unfoldable pub writerRows : (head records : List ℕ) (room : ℕ) → List Row
+writerRows head records room = let h = hourFrom hourly head records in
+    row 1 (badLists head records)
+    ∷ row 4 (badHead h)
+    ∷ row 5 (badRecord h)
+    ∷ row 11 (noRoom h room)
+    ∷ []
+
+-- writing an amount checks 8, then 9
 unfoldable pub writeRows : ℕ → ℤ → List Row
 writeRows width z =
     row 8 (outOfRange z)

@@ -1,5 +1,5 @@
--- The complete result of each entry point, refused or accepted: settling an hour, writing an amount, reading one.
--- Document 01, "The sums" (last paragraph), "Text amounts", "Refusal numbers and their order"; finals: document 02, A1.
+-- The complete result of each entry point, refused or accepted: settling an hour, writing an hour file, writing an amount, reading one.
+-- Document 01, "The sums" (last paragraph), "Text amounts", "Refusal numbers and their order"; finals: document 02, A1; hour files: A2.
 use Prim.Native.Nat.{ℕ}
 use mathlib.Core.Bool.{Bool, cond}
 use mathlib.Core.Option.{Option, none, some}
@@ -16,7 +16,8 @@ use Rattle.rules.specs.Charge.{shareOf, amount, recordsOf, charge}
 use Rattle.rules.specs.Neutrality.{final}
 use Rattle.rules.specs.Text.{amountField, amountIn}
 use Rattle.rules.specs.HourFile.{hourly, hourOf}
-use Rattle.rules.specs.Refusals.{Row, Verdict, accepted, refusedAt, verdict, tableRows, writeRows}
+use Rattle.rules.specs.HourWords.{hourFrom, fileByte, fileLength}
+use Rattle.rules.specs.Refusals.{Row, Verdict, accepted, refusedAt, verdict, tableRows, writerRows, writeRows}
 
 abbrev pub isAccepted : Verdict → Bool
 isAccepted v = eqb (v .number) 0
@@ -72,6 +73,21 @@ settle s b = let v = verdict (settleRows s b) in let h = hourOf hourly s in
     cond (isAccepted v)
     (record { verdict = v; ufe = ufeFigures h; buffers = filled h b })
     (record { verdict = v; ufe = noFigures; buffers = b })
+
+-- ---- writing an hour file from a head and records
+
+pub record HourWritten : Type 0 where
+  pub verdict : Verdict
+  -- of the file written, in bytes
+  pub length : ℕ
+  pub file : List ℕ
+
+-- the buffer's first bytes are the file, and those past its last block are unchanged; a refusal changes none, and its length is 0
+unfoldable pub writeHour : (head records file : List ℕ) → HourWritten
+writeHour head records file = let v = verdict (writerRows head records (length file)) in let h = hourFrom hourly head records in
+    cond (isAccepted v)
+    (record { verdict = v; length = fileLength hourly h; file = replacingFirst (fileByte hourly h) (fileLength hourly h) file })
+    (record { verdict = v; length = 0; file = file })
 
 -- ---- writing an amount into a field, whose length is the width
 

@@ -74,6 +74,12 @@ pub struct Settled {
     pub ufe: [i64; 8],
 }
 
+// What writing an hour file answers beside the buffer it fills: the file's length in bytes, 0 on refusal.
+pub struct Filed {
+    pub answer: Answer,
+    pub length: usize,
+}
+
 // What reading a text amount answers.
 pub struct Reading {
     pub answer: Answer,

@@ -1,14 +1,14 @@
 -- Laws of the list of the values f 0, .., f (n - 1), and of a buffer whose first n places hold them.
 use mathlib.Core.Path.{_≡_, refl, sym, _∙_, ap, ap₂}
 use mathlib.Core.Bool.{cond}
-use mathlib.Core.List.{List, [], _∷_, _++_}
+use mathlib.Core.List.{List, [], _∷_, _++_, append-assoc, append-nil}
 use Prim.Native.Nat.{ℕ, zero, suc, _+_, _-_, _≤_, _<_}
-use native.Mathlib.Nat.{not-suc-le-zero}
+use native.Mathlib.Nat.{add-zero, add-suc, not-suc-le-zero}
 use native.Mathlib.Numerals.{add-one}
 use native.Mathlib.Omega.{arith}
 use lib.Dec.{ltb, eqb}
-use lib.ListN.{length, drop, getD, set, length-append, length-drop, length-set, List·getD-append}
-use lib.Seq.{drop-cons, drop-at, set-at, getD-at, getD-drop, append-snoc, set-append-left, getD-set-same, getD-set-other}
+use lib.ListN.{length, take, drop, getD, set, length-append, length-drop, length-set, drop-of-length-le, List·getD-append}
+use lib.Seq.{drop-cons, drop-at, drop-drop, take-at, set-at, getD-at, getD-drop, append-snoc, set-append-left, getD-set-same, getD-set-other}
 use lib.Seq.{ext-getD}
 use borrow.Author.Tests.{ltb-true, ltb-false, eqb-true, eqb-false}
 use Rattle.whole.specs.Below.{valuesBelow, replacingFirst}
@@ -37,6 +37,15 @@ module _ {ℓ} {A : Type ℓ} (f : ℕ → A) where
       (λ e. rw e (getD-at (valuesBelow f n) (f n) [] d n (length-values n)))
       (λ m. List·getD-append (valuesBelow f n) (f n ∷ []) d i (let e = length-values n in omega arith) ∙ getD-values n i d m)
 
+  -- the first n, then the others
+  pub values-then : (n m : ℕ) → valuesBelow f (n + m) ≡ valuesBelow f n ++ valuesBelow (λ i. f (n + i)) m
+  unfolding valuesBelow
+  values-then n zero = rw add-zero (sym (append-nil (valuesBelow f n)))
+  values-then n (suc m) =
+      ap (valuesBelow f) (add-suc n m)
+      ∙ ap (λ (l : List A). l ++ f (n + m) ∷ []) (values-then n m)
+      ∙ append-assoc (valuesBelow f n) (valuesBelow (λ i. f (n + i)) m) (f (n + m) ∷ [])
+
   pub replacing-none : (old : List A) → replacingFirst f 0 old ≡ old
   unfolding replacingFirst valuesBelow
   replacing-none old = refl
@@ -56,6 +65,15 @@ module _ {ℓ} {A : Type ℓ} (f : ℕ → A) where
   unfolding replacingFirst
   length-replacing n old l =
       length-append (valuesBelow f n) (drop n old) ∙ let e = length-values n in let d = length-drop n old in omega arith
+
+  -- a buffer of just as many places
+  pub replacing-all : (n : ℕ) (old : List A) → length old ≡ n → replacingFirst f n old ≡ valuesBelow f n
+  unfolding replacingFirst
+  replacing-all n old e = rw (drop-of-length-le old {i = n} (omega arith), append-nil)
+
+  take-replacing : (n : ℕ) (old : List A) → take n (replacingFirst f n old) ≡ valuesBelow f n
+  unfolding replacingFirst
+  take-replacing n old = take-at (valuesBelow f n) (drop n old) n (length-values n)
 
   pub drop-replacing : (n : ℕ) (old : List A) → drop n (replacingFirst f n old) ≡ drop n old
   unfolding replacingFirst
@@ -78,6 +96,28 @@ module _ {ℓ} {A : Type ℓ} (f : ℕ → A) where
   replacing-same n old d h same = ext-getD d _ _ (length-replacing n old h) (λ i l. split (ltb i n)
       (λ t. let m = ltb-true i n t in getD-replacing n old i d m ∙ same i m)
       (λ t. getD-kept n old i d (ltb-false i n t)))
+
+  -- what is past the first n is as it was
+  drop-past : (n m : ℕ) (old : List A) → drop (n + m) (replacingFirst f n old) ≡ drop (n + m) old
+  drop-past n m old =
+      sym (drop-drop m n (replacingFirst f n old)) ∙ ap (λ (l : List A). drop m l) (drop-replacing n old) ∙ drop-drop m n old
+
+  -- the next m places replaced too
+  pub replacing-then : (g : ℕ → A) (n m : ℕ) (old : List A) → ((i : ℕ) → i < m → g i ≡ f (n + i)) →
+      let out = replacingFirst f n old in take n out ++ (valuesBelow g m ++ drop (n + m) out) ≡ replacingFirst f (n + m) old
+  unfolding replacingFirst
+  replacing-then g n m old same =
+      ap₂ (λ (l r : List A). l ++ (valuesBelow g m ++ r)) (take-replacing n old) (drop-past n m old)
+      ∙ ap (λ (l : List A). valuesBelow f n ++ (l ++ drop (n + m) old)) (values-ext g (λ i. f (n + i)) m same)
+      ∙ sym (append-assoc (valuesBelow f n) (valuesBelow (λ i. f (n + i)) m) (drop (n + m) old))
+      ∙ ap (λ (l : List A). l ++ drop (n + m) old) (sym (values-then n m))
+
+  -- more places than were replaced before
+  pub replacing-longer : (n m : ℕ) (old : List A) → n ≤ m → replacingFirst f m (replacingFirst f n old) ≡ replacingFirst f m old
+  unfolding replacingFirst
+  replacing-longer n m old l =
+      let whole : n + (m - n) ≡ m = omega arith in
+      ap (λ (t : List A). valuesBelow f m ++ t) (rw whole at (drop-past n (m - n) old))
 
   -- the first n places are replaced again
   pub replacing-twice : (g : ℕ → A) (n : ℕ) (old : List A) → replacingFirst g n (replacingFirst f n old) ≡ replacingFirst g n old

@@ -7,8 +7,8 @@ use native.Mathlib.Nat.{le-refl}
 use native.Mathlib.Omega.{arith}
 use lib.ListN.{length, getD, set}
 use lib.Seq.{set-getD}
-use Rattle.whole.specs.Below.{replacingFirst}
-use Rattle.whole.proofs.Buffers.{replacing-none, written-length, written-next, unwritten}
+use Rattle.whole.specs.Below.{valuesBelow, replacingFirst}
+use Rattle.whole.proofs.Buffers.{replacing-none, replacing-all, written-length, written-next, unwritten}
 
 -- i of the n places are filled, and the others are as they were
 pub record Filled {ℓ} {A : Type ℓ} (f : ℕ → A) (n i : ℕ) (old out : List A) : Type ℓ where
@@ -50,3 +50,7 @@ module _ {ℓ} {A : Type ℓ} {f : ℕ → A} {n : ℕ} {old : List A} where
 
       pub first-filled : out ≡ replacingFirst f n old
       first-filled = filled .holds ∙ ap (λ k. replacingFirst f k old) all-reached
+
+      -- where there are no other places
+      pub all-filled : length old ≡ n → out ≡ valuesBelow f n
+      all-filled e = first-filled ∙ replacing-all f n old e

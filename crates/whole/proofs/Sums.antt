@@ -2,11 +2,11 @@
 use mathlib.Core.Path.{_≡_, refl, sym, _∙_, ap, ap₂}
 use mathlib.Core.Bool.{Bool, true, false, cond}
 use Prim.Native.Nat.{ℕ, zero, suc, _+_, _*_, _%_, _≤_, _<_, zero-le}
-use native.Mathlib.Nat.{add-zero, add-le-add, le-refl, not-suc-le-zero, mul-one, mod-add-mod}
+use native.Mathlib.Nat.{add-zero, add-suc, add-le-add, le-refl, not-suc-le-zero, mul-one, mod-add-mod}
 use native.Mathlib.Numerals.{add-one}
 use native.Mathlib.Omega.{arith}
 use lib.Dec.{eqb}
-use borrow.Author.Tests.{eqb-true, eqb-false, ne-eqb}
+use borrow.Author.Tests.{eqb-true, eqb-false, eq-eqb, ne-eqb}
 use Rattle.whole.specs.Below.{oneIf, countBelow, sumBelow, productBelow}
 use Rattle.whole.proofs.Tests.{split, never, last-or-below}
 
@@ -128,11 +128,29 @@ sum-pick f (suc n) x h = split (eqb x n)
     (λ e. let d : x ≡ n = eqb-true x n e in rw (e, sum-past f n x (omega arith), d) (omega arith))
     (λ e. rw (e, sum-pick f n x (omega (arith, eqb-false x n e))) (omega arith))
 
+-- the term at x, which was 0, is c instead
+pub sum-with : (f : ℕ → ℕ) (c n x : ℕ) → x < n → f x ≡ 0 → sumBelow (λ a. cond (eqb a x) c (f a)) n ≡ sumBelow f n + c
+sum-with f c n x h z =
+    sum-ext _ (λ a. f a + cond (eqb x a) c 0) n (λ a l. term a)
+    ∙ sum-add f _ n
+    ∙ ap (λ (k : ℕ). sumBelow f n + k) (sum-pick (λ a. c) n x h)
+  where
+    term : (a : ℕ) → cond (eqb a x) c (f a) ≡ f a + cond (eqb x a) c 0
+    term a = split (eqb a x)
+        (λ e. let d : a ≡ x = eqb-true a x e in rw (e, eq-eqb x a (sym d), ap f d ∙ z) (omega arith))
+        (λ e. rw (e, ne-eqb x a (λ d. eqb-false a x e (sym d))) (omega arith))
+
 -- each of m is of one of n
 pub sum-by : (f of : ℕ → ℕ) (n m : ℕ) → ((i : ℕ) → i < m → of i < n) →
     sumBelow (λ a. sumBelow (λ i. cond (eqb (of i) a) (f i) 0) m) n ≡ sumBelow f m
 sum-by f of n m there =
     sum-swap (λ a i. cond (eqb (of i) a) (f i) 0) n m ∙ sum-ext _ f m (λ i l. sum-pick (λ a. f i) n (of i) (there i l))
+
+-- the first n, then the others
+pub sum-then : (f : ℕ → ℕ) (n m : ℕ) → sumBelow f (n + m) ≡ sumBelow f n + sumBelow (λ i. f (n + i)) m
+unfolding sumBelow
+sum-then f n zero = ap (sumBelow f) (add-zero n) ∙ sym (add-zero (sumBelow f n))
+sum-then f n (suc m) = ap (sumBelow f) (add-suc n m) ∙ let e = sum-then f n m in omega arith
 
 -- a running sum that is kept modulo m, as wrapping adds keep it
 pub wraps-on : (m : ℕ) (f : ℕ → ℕ) (w acc x r : ℕ) → acc ≡ sumBelow f w % m → x ≡ f w → r ≡ (acc + x) % m → r ≡ sumBelow f (w + 1) % m

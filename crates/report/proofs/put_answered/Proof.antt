@@ -17,7 +17,7 @@ put-refused-requires c κs = search needs
 same-length : tie.Need-same-length
 same-length c = search needs
 
--- return put_refused(answer, out)
+-- return printing::put_refused(out, answer)
 returns : tie.Need-returns
 returns c =
     let p = c .before .before in

@@ -2,7 +2,7 @@
 use mathlib.Core.Path.{sym}
 use borrow.Author.Needs.{needs}
 use lib.Seq.{length-take-le}
-use Rattle.report.proofs.Promised.{count-within}
+use Rattle.printing.proofs.Showing.{count-within}
 use Rattle.statement.proofs.print_statement.Statement.{statement}
 use Rattle.statement.proofs.print_statement.Tie as tie
 

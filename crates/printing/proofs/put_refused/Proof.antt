@@ -1,8 +1,8 @@
--- `report::put_refused` meets its contract: the answer's number and place are the line's.
+-- `printing::put_refused` meets its contract: the answer's number and place are the line's.
 use borrow.Author.Needs.{needs}
 use Rattle.rules.specs.Statement.{refusedLine}
-use Rattle.report.proofs.put_refused.Statement.{statement}
-use Rattle.report.proofs.put_refused.Tie as tie
+use Rattle.printing.proofs.put_refused.Statement.{statement}
+use Rattle.printing.proofs.put_refused.Tie as tie
 
 number-of-requires : tie.Need-number-of-requires
 number-of-requires c κs = search needs

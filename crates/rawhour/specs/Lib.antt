@@ -1,0 +1,2 @@
+-- What the contracts of `rawhour` cite beside `rules` and `printing`.
+pub mod Filing

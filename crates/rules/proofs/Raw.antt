@@ -1,0 +1,92 @@
+-- What the program write_hour prints: how long it can be, and that a reader that stops one byte past the longest input prints the same.
+-- Document 02, A2.
+use mathlib.Core.Path.{_≡_, refl, sym, _∙_, ap}
+use mathlib.Core.Bool.{true, not, _||_, or-true}
+use mathlib.Core.Option.{none}
+use mathlib.Core.List.{List}
+use Prim.Native.Nat.{ℕ, _+_, _-_, _*_, _/_, _%_, _≤_, _<_}
+use native.Mathlib.Omega.{arith}
+use lib.ListN.{length, take, drop, length-drop}
+use lib.Seq.{take-all, length-take-le}
+use lib.Dec.{ltb, leb, eqb}
+use borrow.Author.Tests.{leb-true, leb-false, eqb-true, eqb-false, lt-ltb, le-ltb, ne-eqb}
+use Rattle.whole.proofs.Tests.{split}
+use Rattle.whole.proofs.Buffers.{length-values}
+use Rattle.rules.specs.HourFile.{hourly, word}
+use Rattle.rules.specs.HourWords.{hourFrom, fileByte, fileLength, fileOf, blocksFor}
+use Rattle.rules.specs.Refusals.{accepted, refusedAt, verdict, badLists, noRoom, writerRows}
+use Rattle.rules.specs.Settling.{isAccepted}
+use Rattle.rules.specs.Statement.{refusedLine}
+use Rattle.rules.specs.RawHour.{rawWords, rawHead, rawRecords, rawRows, rawWritten}
+use Rattle.rules.proofs.Rows.{Numbered, accepts-when-whole, zero-accepts, last-decides-nothing}
+use Rattle.rules.proofs.Stated.{refused-line-most}
+use Rattle.rules.proofs.Said.{some-blocks, length-of-file}
+use Rattle.rules.proofs.Writing.{lists-whole}
+
+-- ---- room for the longest file is enough for every one: row 11 decides nothing
+
+-- no hour that the writer accepts has more than 26 blocks
+pub file-most : (head records : List ℕ) → badLists head records ≡ none → fileLength hourly (hourFrom hourly head records) ≤ 13312
+unfolding fileLength hourFrom
+file-most head records e = omega (arith, some-blocks (hourFrom hourly head records), lists-whole head records e .2)
+
+pub room-for-file : (head records : List ℕ) (room : ℕ) → 13312 ≤ room →
+    verdict (writerRows head records room) ≡ verdict (take 3 (writerRows head records 0))
+unfolding writerRows noRoom
+room-for-file head records room enough = last-decides-nothing (take 3 (writerRows head records 0)) 11 _ (λ whole.
+    rw (le-ltb room (fileLength hourly (hourFrom hourly head records)) (omega (arith, file-most head records (whole .0), enough))) refl)
+
+module _ (s : List ℕ) where
+  pub raw-numbered : Numbered (rawRows s)
+  unfolding rawRows writerRows
+  raw-numbered = omega arith
+
+  pub raw-accepted : verdict (rawRows s) ≡ accepted → rawWritten s ≡ fileOf hourly (hourFrom hourly (rawHead s) (rawRecords s))
+  unfolding rawWritten
+  raw-accepted e = rw e refl
+
+  pub raw-refused : (verdict (rawRows s) .number ≡ 0 → ⊥) → rawWritten s ≡ refusedLine (verdict (rawRows s))
+  unfolding rawWritten
+  raw-refused r = rw (ne-eqb (verdict (rawRows s) .number) 0 r) refl
+
+  words-length : length (rawWords s) ≡ length s / 4
+  unfolding rawWords
+  words-length = length-values (word s) (length s / 4)
+
+  -- ---- how long it is
+
+  raw-file-most : verdict (rawRows s) ≡ accepted → length (rawWritten s) ≤ 13312
+  unfolding rawRows writerRows
+  raw-file-most e =
+      let whole = accepts-when-whole (rawRows s) raw-numbered .0 e in
+      rw (raw-accepted e, length-of-file (hourFrom hourly (rawHead s) (rawRecords s))) (file-most (rawHead s) (rawRecords s) (whole .1 .0))
+
+  pub raw-fits : length (rawWritten s) ≤ 13312
+  raw-fits = split (isAccepted (verdict (rawRows s)))
+      (λ t. raw-file-most (zero-accepts (rawRows s) raw-numbered (eqb-true _ _ t)))
+      (λ t. rw (raw-refused (eqb-false _ _ t)) (omega (arith, refused-line-most (verdict (rawRows s)))))
+
+  -- ---- of a cut input
+
+  -- over 12,480 bytes are no whole words, or a head and more than 250 records, or no whole records
+  pub too-long-refused : 12480 < length s → verdict (rawRows s) ≡ refusedAt 1 0
+  unfolding rawRows writerRows badLists verdict
+  too-long-refused l = split (eqb (length s % 4) 0)
+      (λ t. rw t (split (eqb (length (rawRecords s) % 12) 0)
+      (λ u. rw (u, lt-ltb 250 (length (rawRecords s) / 12) (omega (arith, many, eqb-true (length s % 4) 0 t, eqb-true (length (rawRecords s) % 12) 0 u)), or-true) refl)
+      (λ u. rw (u, or-true) refl)))
+      (λ t. rw t refl)
+    where
+      many : length (rawRecords s) ≡ length s / 4 - 120
+      many = length-drop 120 (rawWords s) ∙ ap (λ (k : ℕ). k - 120) words-length
+
+too-long : (s : List ℕ) → 12480 < length s → rawWritten s ≡ refusedLine (refusedAt 1 0)
+unfolding rawWritten
+too-long s l = rw (too-long-refused s l) refl
+
+-- whoever reads at most 12,481 bytes sees that an input is too long
+pub cut-input-same : (s : List ℕ) → rawWritten (take 12481 s) ≡ rawWritten s
+cut-input-same s = split (leb (length s) 12481)
+    (λ e. ap rawWritten (take-all 12481 s (leb-true (length s) 12481 e)))
+    (λ e. let l : 12481 < length s = leb-false (length s) 12481 e in
+    too-long (take 12481 s) (let n = length-take-le 12481 s (omega arith) in omega arith) ∙ sym (too-long s (omega arith)))

@@ -1,0 +1,208 @@
+-- What is asked of the writer of hour files. Document 02, A2.
+use mathlib.Core.Path.{_≡_, refl, sym, _∙_, ap, ap₂}
+use mathlib.Core.Logic.{_↔_}
+use mathlib.Core.Bool.{true, false, not, cond, _&&_, _||_}
+use mathlib.Core.Option.{none}
+use mathlib.Core.List.{List, _++_}
+use Prim.Native.Nat.{ℕ, suc, _+_, _-_, _*_, _/_, _%_, _≤_, _<_}
+use native.Mathlib.Omega.{arith}
+use lib.ListN.{length, take, drop, getD}
+use lib.Seq.{take-at}
+use lib.Dec.{ltb, leb, eqb}
+use borrow.Author.Tests.{ltb-true, ltb-false, leb-true, eqb-true, lt-ltb, le-ltb, eq-eqb, not-false}
+use Rattle.whole.specs.Below.{valuesBelow, replacingFirst}
+use Rattle.whole.proofs.Tests.{split, both, neither}
+use Rattle.whole.proofs.Buffers.{length-values, getD-values, length-replacing, drop-replacing}
+use Rattle.rules.specs.Record.{Hour}
+use Rattle.rules.specs.HourFile.{hourly, blocks, blockWord, recordCount, recordWord, hourOf}
+use Rattle.rules.specs.HourWords.{hourFrom, headWords, recordWords, fileByte, fileLength, fileOf}
+use Rattle.rules.specs.Refusals.{Verdict, accepted, refusedAt, verdict, badLists, badHead, badRecord, noRoom, tableRows, fileRows, writerRows}
+use Rattle.rules.specs.Settling.{HourWritten, isAccepted, writeHour}
+use Rattle.rules.specs.Promises.{AllWhole, FirstBrokenRow}
+use Rattle.rules.specs.Finals.{AreBytes}
+use Rattle.rules.specs.Writing.{AreWords, fileIn, Writing}
+use Rattle.rules.proofs.Rows.{Numbered, accepts-when-whole, zero-accepts, refuses-at-first, file-numbered, no-place}
+use Rattle.rules.proofs.Words.{head-word, record-count, record-word, head-before, head-past}
+use Rattle.rules.proofs.Kept.{file-kept}
+use Rattle.rules.proofs.Said.{Says, OfWords, file-says, length-whole, sums-whole, blocks-whole, says-holds, same-hour, own-hour, only-file}
+
+-- ---- the writer's rows
+
+pub writer-numbered : (head records : List ℕ) (room : ℕ) → Numbered (writerRows head records room)
+unfolding writerRows
+writer-numbered head records room = omega arith
+
+module _ (head records : List ℕ) where
+  abbrev h : Hour
+  h = hourFrom hourly head records
+
+  -- ---- the lists that row 1 passes
+
+  module _ (whole : badLists head records ≡ none) where
+    pub lists-whole : (length head ≡ 120) × (length records % 12 ≡ 0) × (length records / 12 ≤ 250)
+    unfolding badLists
+    lists-whole =
+        let a = neither (not (eqb (length head) 120) || not (eqb (length records % 12) 0)) (ltb 250 (length records / 12)) (no-place _ whole) in
+        let b = neither (not (eqb (length head) 120)) (not (eqb (length records % 12) 0)) (a .0) in
+        (eqb-true _ _ (not-false _ (b .0)), eqb-true _ _ (not-false _ (b .1)), ltb-false _ _ (a .1))
+
+    lists-of-words : AreWords head → AreWords records → OfWords h
+    unfolding hourFrom
+    lists-of-words head-words record-words = record {
+      few = lists-whole .2;
+      head-small = λ w. split (leb 8 w && ltb w 128) (λ t. rw t (head-words (w - 8))) (λ t. rw t (omega arith));
+      rec-small = λ i w. split (ltb i (length records / 12) && ltb w 12) (λ t. rw t (record-words (12 * i + w))) (λ t. rw t (omega arith));
+      no-head = λ w t. rw t refl;
+      no-rec = λ i w t. rw t refl;
+    }
+
+  -- ---- what is answered and left in the buffer
+
+  module _ (file : List ℕ) where
+    abbrev w : HourWritten
+    w = writeHour head records file
+
+    abbrev rows : Verdict
+    rows = verdict (writerRows head records (length file))
+
+    verdict-is : w .verdict ≡ rows
+    unfolding writeHour
+    verdict-is = split (isAccepted rows) (λ t. rw t refl) (λ t. rw t refl)
+
+    accepts : (w .verdict ≡ accepted) ↔ AllWhole (writerRows head records (length file))
+    accepts = let r = accepts-when-whole (writerRows head records (length file)) (writer-numbered head records (length file)) in
+        (λ e. r .0 (sym verdict-is ∙ e), λ a. verdict-is ∙ r .1 a)
+
+    refuses : (n p : ℕ) → (w .verdict ≡ refusedAt (suc n) p) ↔ FirstBrokenRow (writerRows head records (length file)) (suc n) p
+    refuses n p = let r = refuses-at-first (writerRows head records (length file)) n p in
+        (λ e. r .0 (sym verdict-is ∙ e), λ f. verdict-is ∙ r .1 f)
+
+    changes-nothing : (w .verdict ≡ accepted → ⊥) → (w .length ≡ 0) × (w .file ≡ file)
+    unfolding writeHour
+    changes-nothing r = split (isAccepted rows)
+        (λ t. absurd (r (verdict-is ∙ zero-accepts _ (writer-numbered head records (length file)) (eqb-true _ _ t))))
+        (λ t. rw t (refl, refl))
+
+    written : w .verdict ≡ accepted →
+        w ≡ record { verdict = accepted; length = fileLength hourly h; file = replacingFirst (fileByte hourly h) (fileLength hourly h) file }
+    unfolding writeHour
+    written e = let a : rows ≡ accepted = sym verdict-is ∙ e in rw a refl
+
+    room-there : w .verdict ≡ accepted → fileLength hourly h ≤ length file
+    unfolding writerRows noRoom
+    room-there e = ltb-false _ _ (no-place _ (accepts .0 e .1 .1 .1 .0))
+
+    past-file : w .verdict ≡ accepted → (drop (w .length) (w .file) ≡ drop (w .length) file) × (length (w .file) ≡ length file)
+    past-file e = rw (written e) (
+      drop-replacing (fileByte hourly h) (fileLength hourly h) file,
+      length-replacing (fileByte hourly h) (fileLength hourly h) file (room-there e),
+    )
+
+    file-is : w .verdict ≡ accepted → fileIn w ≡ fileOf hourly h
+    unfolding replacingFirst fileOf
+    file-is e = rw (written e) (take-at (valuesBelow (fileByte hourly h) (fileLength hourly h)) (drop (fileLength hourly h) file)
+        (fileLength hourly h) (length-values (fileByte hourly h) (fileLength hourly h)))
+
+    read-back : AreWords head → AreWords records → w .verdict ≡ accepted →
+        (verdict (fileRows (fileIn w)) ≡ accepted) × (hourOf hourly (fileIn w) ≡ h)
+    unfolding writerRows fileRows tableRows
+    read-back head-words record-words e =
+        let whole = accepts .0 e in
+        let of-words = lists-of-words (whole .0) head-words record-words in
+        let says = file-says h of-words in
+        let same = says-holds (fileOf hourly h) h says of-words in
+        let rows-whole : AllWhole (fileRows (fileOf hourly h)) = (
+          length-whole (fileOf hourly h) h says (of-words .few),
+          (
+            sums-whole (fileOf hourly h) h says,
+            (
+              blocks-whole (fileOf hourly h) h says,
+              (ap badHead same ∙ whole .1 .0, (ap badRecord same ∙ whole .1 .1 .0, tt)),
+            ),
+          ),
+        ) in
+        rw (file-is e) (accepts-when-whole (fileRows (fileOf hourly h)) (file-numbered (fileOf hourly h)) .1 rows-whole, same)
+
+-- ---- a file's own head and records
+
+module _ (s : List ℕ) where
+  head-length : length (headWords s) ≡ 120
+  unfolding headWords
+  head-length = length-values (λ k. blockWord s 0 (8 + k)) 120
+
+  records-length : length (recordWords hourly s) ≡ 12 * recordCount hourly s
+  unfolding recordWords
+  records-length = length-values (λ k. recordWord hourly s (k / 12) (k % 12)) (12 * recordCount hourly s)
+
+  own-lists : hourFrom hourly (headWords s) (recordWords hourly s) ≡ hourOf hourly s
+  unfolding hourFrom hourOf headWords recordWords
+  own-lists = same-hour _ _ heads count-is recs
+    where
+      c : ℕ
+      c = recordCount hourly s
+
+      count-is : length (recordWords hourly s) / 12 ≡ c
+      count-is = omega (arith, records-length)
+
+      heads : (w : ℕ) → hourFrom hourly (headWords s) (recordWords hourly s) .head w ≡ hourOf hourly s .head w
+      heads w = split (leb 8 w && ltb w 128)
+          (λ t. let p = both (leb 8 w) (ltb w 128) t in let e : 8 + (w - 8) ≡ w = omega (arith, leb-true 8 w (p .0)) in
+          rw t (getD-values _ 120 (w - 8) 0 (omega (arith, leb-true 8 w (p .0), ltb-true w 128 (p .1))) ∙ ap (blockWord s 0) e))
+          (λ t. rw t refl)
+
+      recs : (i w : ℕ) → hourFrom hourly (headWords s) (recordWords hourly s) .rec i w ≡ hourOf hourly s .rec i w
+      recs i w = rw count-is (split (ltb i c && ltb w 12)
+          (λ t. let p = both (ltb i c) (ltb w 12) t in
+          let there : 12 * i + w < 12 * c = omega (arith, ltb-true i c (p .0), ltb-true w 12 (p .1)) in
+          let record-is : (12 * i + w) / 12 ≡ i = omega (arith, ltb-true w 12 (p .1)) in
+          let word-is : (12 * i + w) % 12 ≡ w = omega (arith, ltb-true w 12 (p .1)) in
+          rw t (getD-values _ (12 * c) (12 * i + w) 0 there ∙ ap₂ (λ (x y : ℕ). recordWord hourly s x y) record-is word-is))
+          (λ t. rw t refl))
+
+  module _ (bytes : AreBytes s) (passes : verdict (fileRows s) ≡ accepted) where
+    whole : AllWhole (fileRows s)
+    whole = accepts-when-whole (fileRows s) (file-numbered s) .0 passes
+
+    own-file : fileOf hourly (hourOf hourly s) ≡ s
+    own-file = only-file s (hourOf hourly s) bytes (own-hour s bytes whole)
+
+    -- nothing that the writer checks is broken
+    own-lists-pass : (room : ℕ) → length s ≤ room → AllWhole (writerRows (headWords s) (recordWords hourly s) room)
+    unfolding writerRows noRoom badLists fileRows tableRows
+    own-lists-pass room enough = (
+      rw (
+        eq-eqb (length (headWords s)) 120 head-length,
+        eq-eqb (length (recordWords hourly s) % 12) 0 (omega (arith, records-length)),
+        le-ltb 250 (length (recordWords hourly s) / 12) (omega (arith, records-length, few)),
+      ) refl,
+      (
+        ap badHead own-lists ∙ whole .1 .1 .1 .0,
+        (
+          ap badRecord own-lists ∙ whole .1 .1 .1 .1 .0,
+          (rw (own-lists, le-ltb room (fileLength hourly (hourOf hourly s)) (omega (arith, own-hour s bytes whole .length-is, enough))) refl, tt),
+        ),
+      ),
+    )
+      where
+        few : recordCount hourly s ≤ 250
+        few = rw (← record-count hourly s) (file-kept s whole .hour-kept .count-most)
+
+    same-bytes : (file : List ℕ) → length s ≤ length file →
+        writeHour (headWords s) (recordWords hourly s) file ≡ record { verdict = accepted; length = length s; file = s ++ drop (length s) file }
+    unfolding replacingFirst fileOf
+    same-bytes file enough =
+        let passed = accepts (headWords s) (recordWords hourly s) file .1 (own-lists-pass (length file) enough) in
+        let length-is : fileLength hourly (hourOf hourly s) ≡ length s = sym (own-hour s bytes whole .length-is) in
+        written (headWords s) (recordWords hourly s) file passed
+        ∙ rw (own-lists, length-is) (ap (λ (l : List ℕ). record { verdict = accepted; length = length s; file = l ++ drop (length s) file })
+        (rw length-is at own-file))
+
+pub writing : Writing
+writing = record {
+  accepts = accepts;
+  refuses = refuses;
+  changes-nothing = changes-nothing;
+  read-back = read-back;
+  past-file = past-file;
+  same-bytes = λ s file bytes passes. same-bytes s bytes passes file;
+}

@@ -1,0 +1,40 @@
+-- What is asked of the writer of hour files, as statements about the definitions: what it writes is read back as the same hour, and an
+-- accepted file's own head and records give its bytes again. Document 02, A2.
+use Prim.Native.Nat.{ℕ, suc, _<_, _≤_}
+use mathlib.Core.Path.{_≡_}
+use mathlib.Core.Logic.{_↔_}
+use mathlib.Core.List.{List, _++_}
+use lib.ListN.{length, take, drop, getD}
+use Rattle.rules.specs.HourFile.{hourly, hourOf}
+use Rattle.rules.specs.HourWords.{hourFrom, headWords, recordWords}
+use Rattle.rules.specs.Refusals.{accepted, refusedAt, verdict, fileRows, writerRows}
+use Rattle.rules.specs.Settling.{HourWritten, writeHour}
+use Rattle.rules.specs.Promises.{AllWhole, FirstBrokenRow}
+use Rattle.rules.specs.Finals.{AreBytes}
+
+-- words of 32 bits
+abbrev pub AreWords : List ℕ → Type 0
+AreWords l = (i : ℕ) → getD l i 0 < 0x1_0000_0000
+
+-- what was written: the buffer's first bytes
+abbrev pub fileIn : HourWritten → List ℕ
+fileIn w = take (w .length) (w .file)
+
+pub record Writing : Type 0 where
+  -- refused exactly when the writer's rows say, with their number and place
+  pub accepts : (head records file : List ℕ) →
+      (writeHour head records file .verdict ≡ accepted) ↔ AllWhole (writerRows head records (length file))
+  pub refuses : (head records file : List ℕ) (n p : ℕ) →
+      (writeHour head records file .verdict ≡ refusedAt (suc n) p) ↔ FirstBrokenRow (writerRows head records (length file)) (suc n) p
+  -- and then nothing is written
+  pub changes-nothing : (head records file : List ℕ) → (writeHour head records file .verdict ≡ accepted → ⊥) →
+      (writeHour head records file .length ≡ 0) × (writeHour head records file .file ≡ file)
+  -- what is written passes rows 1 to 5 and is read back as the same hour
+  pub read-back : (head records file : List ℕ) → AreWords head → AreWords records → let w = writeHour head records file in
+      w .verdict ≡ accepted → (verdict (fileRows (fileIn w)) ≡ accepted) × (hourOf hourly (fileIn w) ≡ hourFrom hourly head records)
+  -- what stands past it is as it was, and so is the buffer's length
+  pub past-file : (head records file : List ℕ) → let w = writeHour head records file in
+      w .verdict ≡ accepted → (drop (w .length) (w .file) ≡ drop (w .length) file) × (length (w .file) ≡ length file)
+  -- the head and records of a file that passes rows 1 to 5, written into a buffer of any content, give the same bytes
+  pub same-bytes : (s file : List ℕ) → AreBytes s → verdict (fileRows s) ≡ accepted → length s ≤ length file →
+      writeHour (headWords s) (recordWords hourly s) file ≡ record { verdict = accepted; length = length s; file = s ++ drop (length s) file }

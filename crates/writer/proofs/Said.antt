@@ -1,0 +1,114 @@
+-- The hour that a head and records say, word by word, and rows 4 and 5 of it as the searches make them.
+use mathlib.Core.Path.{_≡_, refl, sym, _∙_, ap}
+use mathlib.Core.Bool.{Bool, true, false, not, cond, _&&_, _||_}
+use mathlib.Core.Option.{none, some}
+use mathlib.Core.List.{List}
+use Prim.Native.Nat.{ℕ, _+_, _-_, _*_, _/_, _%_, _≤_, _<_}
+use native.Mathlib.Omega.{arith}
+use lib.ListN.{length, getD, take, drop, length-drop}
+use lib.Seq.{getD-take, getD-drop, length-take-le}
+use lib.Dec.{ltb, leb, eqb}
+use borrow.Author.Tests.{ltb-true, ltb-false, eqb-true, not-false, lt-ltb, le-ltb, le-leb}
+use Rattle.whole.specs.Below.{firstBelow}
+use Rattle.whole.proofs.Tests.{split, neither}
+use Rattle.whole.proofs.Search.{first-ext}
+use Rattle.rules.specs.Record.{Hour, members, zones, areas}
+use Rattle.rules.specs.HourFile.{hourly}
+use Rattle.rules.specs.HourWords.{hourFrom, blocksFor, fileLength}
+use Rattle.rules.specs.Ranges.{keeps, headRule, recordRule, firstBroken}
+use Rattle.rules.specs.Refusals.{isBroken, badLists, badHead, badWord, noRoom}
+use Rattle.rules.proofs.Rows.{no-place}
+use Rattle.rules.proofs.Faults.{head-any}
+use Rattle.writer.specs.Lists.{hourIn, ListsWhole, recordBad}
+
+-- whether word w of the first block, as the head has it, breaks its rule
+abbrev pub headBad : List ℕ → ℕ → Bool
+headBad head w = not (keeps (headRule (getD head 2 0) (getD head 3 0) w) (getD head (w - 8) 0))
+
+module _ (head records : List ℕ) where
+  abbrev h : Hour
+  h = hourIn head records
+
+  -- ---- words
+
+  pub said-count : h .count ≡ length records / 12
+  unfolding hourFrom
+  said-count = refl
+
+  pub said-head : (w : ℕ) → 8 ≤ w → w < 128 → h .head w ≡ getD head (w - 8) 0
+  unfolding hourFrom
+  said-head w l m = rw (le-leb 8 w l, lt-ltb w 128 m)
+
+  pub said-word : (i w : ℕ) → i < length records / 12 → w < 12 → h .rec i w ≡ getD records (12 * i + w) 0
+  unfolding hourFrom
+  said-word i w l m = rw (lt-ltb i (length records / 12) l, lt-ltb w 12 m)
+
+  -- ---- row 4
+
+  pub head-row : badHead h ≡ firstBelow (headBad head) 128
+  unfolding badHead firstBroken
+  head-row =
+      let z : zones h ≡ getD head 2 0 = said-head 10 (omega arith) (omega arith) in
+      let a : areas h ≡ getD head 3 0 = said-head 11 (omega arith) (omega arith) in
+      rw (z, a) (first-ext _ _ 128 (λ w m. split (ltb w 8)
+      (λ t. let l = ltb-true w 8 t in head-any _ _ w _ (omega arith) ∙ sym (head-any _ _ w _ (omega arith)))
+      (λ t. rw (said-head w (ltb-false w 8 t) m))))
+
+  -- ---- row 5
+
+  -- record i by itself: its part of the list
+  pub record-row : (i : ℕ) → i < length records / 12 →
+      recordBad (getD head 1 0) (getD head 3 0) (take 12 (drop (12 * i) records)) ≡ isBroken (badWord h i)
+  unfolding recordBad badWord firstBroken
+  record-row i l =
+      let m : members h ≡ getD head 1 0 = said-head 9 (omega arith) (omega arith) in
+      let a : areas h ≡ getD head 3 0 = said-head 11 (omega arith) (omega arith) in
+      let part : (w : ℕ) → w < 12 → getD (take 12 (drop (12 * i) records)) w 0 ≡ h .rec i w
+      = λ w k. getD-take 12 (drop (12 * i) records) w 0 k ∙ getD-drop (12 * i) records w 0 ∙ sym (said-word i w l k) in
+      rw (m, a) (ap isBroken (first-ext _ _ 12 (λ w k. rw (part 0 (omega arith), part w k))))
+
+  -- ---- rows 1 and 11
+
+  pub lists-whole : badLists head records ≡ none → ListsWhole head records
+  unfolding badLists
+  lists-whole e =
+      let head-other = not (eqb (length head) 120) in
+      let cut = not (eqb (length records % 12) 0) in
+      let over = ltb 250 (length records / 12) in
+      let a = neither (head-other || cut) over (no-place _ e) in
+      let b = neither head-other cut (a .0) in
+      record {
+        head-whole = eqb-true (length head) 120 (not-false _ (b .0));
+        records-whole = omega (arith, said-count, eqb-true (length records % 12) 0 (not-false _ (b .1)));
+        few-records = omega (arith, said-count, ltb-false 250 (length records / 12) (a .1));
+      }
+
+  pub block-count : blocksFor hourly h ≡ 1 + (length records / 12 + 9) / 10
+  unfolding blocksFor hourFrom
+  block-count = refl
+
+  pub file-length : fileLength hourly h ≡ 512 * blocksFor hourly h
+  unfolding fileLength
+  file-length = refl
+
+  -- the room for so many blocks
+  module _ (room n : ℕ) (e : n ≡ 1 + (length records / 12 + 9) / 10) where
+    pub no-room : room < 512 * n → noRoom h room ≡ some 0
+    unfolding noRoom
+    no-room l = rw (lt-ltb room (fileLength hourly h) (omega (arith, file-length, block-count)))
+
+    pub has-room : 512 * n ≤ room → noRoom h room ≡ none
+    unfolding noRoom
+    has-room l = rw (le-ltb room (fileLength hourly h) (omega (arith, file-length, block-count)))
+
+-- ---- a part of a list
+
+gap : (from n : ℕ) → from + n - from ≡ n
+gap from n = omega arith
+
+module _ (l : List ℕ) (from n : ℕ) where
+  pub part-is : take (from + n - from) (drop from l) ≡ take n (drop from l)
+  part-is = ap (λ (m : ℕ). take m (drop from l)) (gap from n)
+
+  pub part-length : from + n ≤ length l → length (take (from + n - from) (drop from l)) ≡ n
+  part-length room = ap length part-is ∙ length-take-le n (drop from l) (omega (arith, length-drop from l))

@@ -1,0 +1,3 @@
+-- What the contracts of `writer` cite beside `rules`.
+pub mod Stored
+pub mod Lists
