@@ -166,13 +166,14 @@ loop-again c =
     let at = all turn in
     let so-far = turn .before .loop .inv .1 in
     let n = b turn in
-    let next : 512 * n + 512 ≡ 512 * (n + 1) = omega arith in (
+    let next : 512 * n + 512 ≡ 512 * (n + 1) = omega arith in
+    let block : (words file : List ℕ) → List ℕ = λ words file. blockPlaced n (blockBytes 2 n (length words / 12) words) file in (
       omega arith,
       record {
         reached = omega (arith, turn .loop-test .taken, length-is at);
         room = so-far .room;
         holds = placed .put-at2 .ensures
-            ∙ ap₂ (λ (words file : List ℕ). blockPlaced n (blockBytes 2 n (length words / 12) words) file) (held .held-by .ensures) (so-far .holds)
+            ∙ ap₂ block (held .held-by .ensures) (so-far .holds)
             ∙ records-placed (head at) (records at) (whole at) n (some turn) (there turn) (begun (put turn))
             ∙ ap (λ (k : ℕ). replacingFirst (byte (put turn)) k (begun (put turn))) next;
       },

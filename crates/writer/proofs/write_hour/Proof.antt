@@ -2,7 +2,7 @@
 use mathlib.Core.Path.{_≡_, sym, _∙_, ap}
 use mathlib.Core.List.{List}
 use Prim.Native.Nat.{ℕ, _*_}
-use borrow.Author.Needs.{needs}
+use native.Mathlib.Omega.{arith}
 use lib.ListN.{length}
 use Rattle.rules.specs.Refusals.{verdictOf, verdict, accepted, writerRows}
 use Rattle.rules.specs.Settling.{HourWritten}
@@ -39,7 +39,7 @@ examine-requires c κs = tt
 
 -- let Answer::Accepted = answer
 enum-told : tie.Need-enum-told
-enum-told c = search needs
+enum-told c = c .match .keys1
 
 -- return Filed { answer: answer, length: 0 }
 returns : tie.Need-returns
@@ -58,11 +58,11 @@ blocks-for-requires c κs = tt
 
 -- 512 * lists::blocks_for(records.len())
 mul-t10 : tie.Need-mul-t10
-mul-t10 c = search needs
+mul-t10 c = omega arith
 
 -- file: &mut [u8]
 same-length : tie.Need-same-length
-same-length c = search needs
+same-length c = omega arith
 
 -- Filed { answer: answer, length: 512 * lists::blocks_for(records.len()) }
 returns-2 : tie.Need-returns-2

@@ -1,7 +1,7 @@
 -- `writer::lists::examine` meets its contract: the first row that is broken, with its place.
 use mathlib.Core.Path.{_≡_, sym, _∙_, ap}
 use mathlib.Core.Option.{none}
-use borrow.Author.Needs.{needs}
+use native.Mathlib.Omega.{arith}
 use Rattle.rules.specs.Refusals.{badLists, badHead, badRecord, verdict, writerRows, placeZeroIf}
 use Rattle.rules.specs.Inner.Searched.{foundAt}
 use Rattle.writer.specs.Lists.{hourIn, ListsWhole}
@@ -56,7 +56,8 @@ returns-2 : tie.Need-returns-2
 unfolding verdict writerRows
 returns-2 c =
     let searched = c .before .before .before in
-    simp (lists-good (searched .before), sym (searched .bad-head .ensures (given (searched .before) .args .records .now)) ∙ ap foundAt (c .before .w .given .1))
+    let found = searched .bad-head .ensures (given (searched .before) .args .records .now) in
+    simp (lists-good (searched .before), sym found ∙ ap foundAt (c .before .w .given .1))
 
 -- Found::Nothing = bad_head(head)
 enum-told : tie.Need-enum-told
@@ -86,7 +87,7 @@ blocks-for-requires c κs = tt
 
 -- 512 * blocks_for(records.len())
 mul-if2 : tie.Need-mul-if2
-mul-if2 c = search needs
+mul-if2 c = omega arith
 
 -- return Answer::TooShort
 returns-4 : tie.Need-returns-4
