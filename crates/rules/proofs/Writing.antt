@@ -65,7 +65,7 @@ module _ (head records : List ℕ) where
     abbrev rows : Verdict
     rows = verdict (writerRows head records (length file))
 
-    verdict-is : w .verdict ≡ rows
+    pub verdict-is : w .verdict ≡ rows
     unfolding writeHour
     verdict-is = split (isAccepted rows) (λ t. rw t refl) (λ t. rw t refl)
 
@@ -77,18 +77,18 @@ module _ (head records : List ℕ) where
     refuses n p = let r = refuses-at-first (writerRows head records (length file)) n p in
         (λ e. r .0 (sym verdict-is ∙ e), λ f. verdict-is ∙ r .1 f)
 
-    changes-nothing : (w .verdict ≡ accepted → ⊥) → (w .length ≡ 0) × (w .file ≡ file)
+    pub changes-nothing : (w .verdict ≡ accepted → ⊥) → (w .length ≡ 0) × (w .file ≡ file)
     unfolding writeHour
     changes-nothing r = split (isAccepted rows)
         (λ t. absurd (r (verdict-is ∙ zero-accepts _ (writer-numbered head records (length file)) (eqb-true _ _ t))))
         (λ t. rw t (refl, refl))
 
-    written : w .verdict ≡ accepted →
+    pub written : w .verdict ≡ accepted →
         w ≡ record { verdict = accepted; length = fileLength hourly h; file = replacingFirst (fileByte hourly h) (fileLength hourly h) file }
     unfolding writeHour
     written e = let a : rows ≡ accepted = sym verdict-is ∙ e in rw a refl
 
-    room-there : w .verdict ≡ accepted → fileLength hourly h ≤ length file
+    pub room-there : w .verdict ≡ accepted → fileLength hourly h ≤ length file
     unfolding writerRows noRoom
     room-there e = ltb-false _ _ (no-place _ (accepts .0 e .1 .1 .1 .0))
 

@@ -91,15 +91,18 @@ module _ (head records : List ℕ) where
   unfolding fileLength
   file-length = refl
 
+  pub few-blocks : ListsWhole head records → blocksFor hourly h ≤ 26
+  few-blocks whole = omega (arith, whole .few-records, said-count, block-count)
+
   -- the room for so many blocks
-  module _ (room n : ℕ) (e : n ≡ 1 + (length records / 12 + 9) / 10) where
+  module _ (room n : ℕ) (e : n ≡ blocksFor hourly h) where
     pub no-room : room < 512 * n → noRoom h room ≡ some 0
     unfolding noRoom
-    no-room l = rw (lt-ltb room (fileLength hourly h) (omega (arith, file-length, block-count)))
+    no-room l = rw (lt-ltb room (fileLength hourly h) (omega (arith, file-length)))
 
     pub has-room : 512 * n ≤ room → noRoom h room ≡ none
     unfolding noRoom
-    has-room l = rw (le-ltb room (fileLength hourly h) (omega (arith, file-length, block-count)))
+    has-room l = rw (le-ltb room (fileLength hourly h) (omega (arith, file-length)))
 
 -- ---- a part of a list
 

@@ -48,7 +48,7 @@ fn put_file(head: &[u32], records: &[u32], file: &mut [u8])
         ≡ replacingFirst (HourWords.fileByte hourly (hourIn (now (head .entry)) (now (records .entry))))
         (HourWords.fileLength hourly (hourIn (now (head .entry)) (now (records .entry)))) (now (file .entry)) ⌝ }
 {
-    let blocks = lists::blocks_for(records.len());
+    let blocks = lists::blocks_for(records);
     put_at(file, 0, 1, (blocks - 1) as u32, head);
     let mut b = 1;
     while b < blocks {
@@ -73,8 +73,9 @@ pub fn write_hour(head: &[u32], records: &[u32], file: &mut [u8]) -> Filed
         };
     };
     put_file(head, records, file);
+    let length = 512 * lists::blocks_for(records);
     Filed {
         answer: answer,
-        length: 512 * lists::blocks_for(records.len()),
+        length: length,
     }
 }

@@ -3,14 +3,14 @@
 ghost use mathlib.Core.Path.{_≡_};
 ghost use mathlib.Core.List.{List};
 ghost use mathlib.Core.Bool.{not};
-ghost use Prim.Native.Nat.{ℕ, _+_, _-_, _/_, _≤_, _<_};
+ghost use Prim.Native.Nat.{ℕ, _+_, _-_, _≤_, _<_};
 ghost use lib.ListN.{length, getD};
 ghost use Rattle.rules.specs.HourWords as HourWords;
 ghost use Rattle.rules.specs.HourFile.{hourly};
 ghost use Rattle.rules.specs.Ranges as Ranges;
 ghost use Rattle.rules.specs.Refusals as Refusals;
 ghost use Rattle.rules.specs.Inner.Searched.{foundAt};
-ghost use Rattle.writer.specs.Lists.{hourIn, ListsWhole, recordBad};
+ghost use Rattle.writer.specs.Lists.{hourIn, recordBad};
 use rules::Answer;
 use rules::Found;
 
@@ -103,11 +103,11 @@ fn bad_record(head: &[u32], records: &[u32]) -> Found
 
 // ---- refusal 11: the room
 
-// How many blocks so many words of records need: the first, and one for every ten records or part of them.
-pub fn blocks_for(words: usize) -> usize
-    ensures { λ r. ⌜ r ≡ 1 + (words / 12 + 9) / 10 ⌝ }
+// How many blocks the file has: the first, and one for every ten records or part of them.
+pub fn blocks_for(records: &[u32]) -> usize
+    ensures { λ r. ⌜ ((head : List ℕ) → r ≡ HourWords.blocksFor hourly (hourIn head (now (records .entry)))) ⌝ }
 {
-    1 + (words / 12 + 9) / 10
+    1 + (records.len() / 12 + 9) / 10
 }
 
 // ---- the table
@@ -125,7 +125,7 @@ pub fn examine(head: &[u32], records: &[u32], room: usize) -> Answer
     if let Found::At(i) = bad_record(head, records) {
         return Answer::BadRecord(i);
     }
-    if room < 512 * blocks_for(records.len()) {
+    if room < 512 * blocks_for(records) {
         return Answer::TooShort;
     }
     Answer::Accepted

@@ -3,7 +3,6 @@ use mathlib.Core.Path.{ap₂}
 use mathlib.Core.List.{List, _++_}
 use Prim.Native.Nat.{ℕ, _+_, _*_}
 use native.Mathlib.Omega.{arith}
-use borrow.Author.Needs.{needs}
 use borrow.Rule.Slice.PartMut.{post-is}
 use lib.ListN.{take}
 use Rattle.writer.specs.Stored.{blockPlaced}
@@ -12,34 +11,34 @@ use Rattle.writer.proofs.put_at.Tie as tie
 
 -- 512 * b
 mul-from : tie.Need-mul-from
-mul-from c = search needs
+mul-from c = omega arith
 
 -- from + 512
 add-to : tie.Need-add-to
-add-to c = search needs
+add-to c = omega arith
 
 -- &mut file[from..to]: to - from
 sub-put-block : tie.Need-sub-put-block
-sub-put-block c = search needs
+sub-put-block c = omega arith
 
 -- &mut file[from..to]: from <= to
 part-put-block-start : tie.Need-part-put-block-start
-part-put-block-start c = search needs
+part-put-block-start c = omega arith
 
 -- &mut file[from..to]: to <= file.len()
 part-put-block-end : tie.Need-part-put-block-end
-part-put-block-end c = search needs
+part-put-block-end c = omega arith
 
 -- b as u32
 cast-put-block : tie.Need-cast-put-block
-cast-put-block c = search needs
+cast-put-block c = omega arith
 
 put-block-requires : tie.Need-put-block-requires
-put-block-requires c κs = search needs
+put-block-requires c κs = omega arith
 
 -- file: &mut [u8]
 same-length : tie.Need-same-length
-same-length c = search needs
+same-length c = omega arith
 
 returns : tie.Need-returns
 unfolding blockPlaced
@@ -48,7 +47,8 @@ returns c =
     let given = put .before .before .before .before .args in
     let file = given .file .now in
     let from = 512 * given .b in
-    ap₂ (λ (bytes rest : List ℕ). take from file ++ (bytes ++ rest)) (put .put-block .ensures) (post-is from (from + 512) file (omega arith))
+    let rest = post-is from (from + 512) file (omega arith) in
+    ap₂ (λ (bytes after : List ℕ). take from file ++ (bytes ++ after)) (put .put-block .ensures) rest
 
 pub put-at-spec : {M : Type 1} → statement M
 put-at-spec =

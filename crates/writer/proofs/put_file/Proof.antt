@@ -12,7 +12,7 @@ use Rattle.rules.specs.HourFile.{hourly}
 use Rattle.rules.specs.HourWords.{blocksFor, fileByte, fileLength}
 use Rattle.writer.specs.Lists.{hourIn, ListsWhole}
 use Rattle.writer.specs.Stored.{blockBytes, blockPlaced}
-use Rattle.writer.proofs.Said.{said-count, block-count, file-length}
+use Rattle.writer.proofs.Said.{said-count, block-count, few-blocks, file-length}
 use Rattle.writer.proofs.FileBlocks.{head-placed, records-placed, held-few}
 use Rattle.writer.proofs.put_file.Statement.{statement}
 use Rattle.writer.proofs.put_file.Tie as tie
@@ -48,7 +48,7 @@ module _ (c : tie.After-blocks-for Inv-loop μ-loop) where
   whole = start .pre .0
 
   blocks-are : blocks ≡ blocksFor hourly h
-  blocks-are = c .blocks-for .ensures ∙ sym (block-count head records)
+  blocks-are = c .blocks-for .ensures head
 
   length-is : fileLength hourly h ≡ 512 * blocks
   length-is = file-length head records ∙ ap (λ (n : ℕ). 512 * n) (sym blocks-are)
@@ -56,15 +56,18 @@ module _ (c : tie.After-blocks-for Inv-loop μ-loop) where
   room : 512 * blocks ≤ length old
   room = omega (arith, start .pre .1, length-is)
 
+  some-blocks : 1 ≤ blocks
+  some-blocks = omega (arith, blocks-are, block-count head records)
+
   few : blocks ≤ 26
-  few = omega (arith, c .blocks-for .ensures, said-count head records, whole .few-records)
+  few = omega (arith, blocks-are, few-blocks head records whole)
 
 blocks-for-requires : tie.Need-blocks-for-requires Inv-loop μ-loop
 blocks-for-requires c κs = tt
 
 -- blocks - 1
 sub-put-at : tie.Need-sub-put-at Inv-loop μ-loop
-sub-put-at c = omega arith
+sub-put-at c = omega (arith, some-blocks (c .before))
 
 -- (blocks - 1) as u32
 cast-put-at : tie.Need-cast-put-at Inv-loop μ-loop
@@ -72,7 +75,7 @@ cast-put-at c = omega (arith, few (c .before))
 
 -- put_at(file, 0, 1, (blocks - 1) as u32, head)
 put-at-requires : tie.Need-put-at-requires Inv-loop μ-loop
-put-at-requires c κs = (omega (arith, room (c .before)), omega arith, omega (arith, whole (c .before) .head-whole))
+put-at-requires c κs = (omega (arith, room (c .before), some-blocks (c .before)), omega arith, omega (arith, whole (c .before) .head-whole))
 
 -- the first block is put
 module _ (c : tie.After-put-at Inv-loop μ-loop) where
@@ -91,7 +94,7 @@ module _ (c : tie.After-put-at Inv-loop μ-loop) where
       (ap (λ (n : ℕ). n - 1) (blocks-are counted))
 
   begun-length : length begun ≡ length (old counted)
-  begun-length = written-length byte 512 (old counted) begun first-put (omega (arith, room counted, counted .blocks-for .ensures))
+  begun-length = written-length byte 512 (old counted) begun first-put (omega (arith, room counted, some-blocks counted))
 
   put-again : begun ≡ replacingFirst byte 512 begun
   put-again = first-put ∙ sym (replacing-twice byte byte 512 (old counted)) ∙ ap (replacingFirst byte 512) (sym first-put)
@@ -102,7 +105,7 @@ loop-holds c =
     let all = counted put in (
       omega arith,
       record {
-        reached = omega (arith, length-is all, all .blocks-for .ensures);
+        reached = omega (arith, length-is all, some-blocks all);
         room = omega (arith, start all .pre .1, begun-length put);
         holds = put-again put;
       },
@@ -127,8 +130,16 @@ module _ (c : tie.In-loop Inv-loop μ-loop) where
 
 held-by-requires : tie.Need-held-by-requires Inv-loop μ-loop
 held-by-requires c κs =
-    let at = all c in
-    (some c, omega (arith, c .loop-test .taken, at .blocks-for .ensures, said-count (head at) (records at), whole at .records-whole))
+    let at = all c in (
+      some c,
+      omega (
+        arith,
+        there c,
+        block-count (head at) (records at),
+        said-count (head at) (records at),
+        whole at .records-whole,
+      ),
+    )
 
 held-short : (c : tie.After-held-by Inv-loop μ-loop) → length (c .held-by .result .now) ≤ 120
 held-short c =
@@ -166,13 +177,14 @@ loop-again c =
     let at = all turn in
     let so-far = turn .before .loop .inv .1 in
     let n = b turn in
-    let next : 512 * n + 512 ≡ 512 * (n + 1) = omega arith in (
+    let next : 512 * n + 512 ≡ 512 * (n + 1) = omega arith in
+    let block : (words file : List ℕ) → List ℕ = λ words file. blockPlaced n (blockBytes 2 n (length words / 12) words) file in (
       omega arith,
       record {
         reached = omega (arith, turn .loop-test .taken, length-is at);
         room = so-far .room;
         holds = placed .put-at2 .ensures
-            ∙ ap₂ (λ (words file : List ℕ). blockPlaced n (blockBytes 2 n (length words / 12) words) file) (held .held-by .ensures) (so-far .holds)
+            ∙ ap₂ block (held .held-by .ensures) (so-far .holds)
             ∙ records-placed (head at) (records at) (whole at) n (some turn) (there turn) (begun (put turn))
             ∙ ap (λ (k : ℕ). replacingFirst (byte (put turn)) k (begun (put turn))) next;
       },
@@ -191,7 +203,7 @@ returns c =
     let size = fileLength hourly (h at) in
     first-filled (c .before .loop .inv .1) (omega (arith, length-is at, c .loop-test .left))
     ∙ ap (replacingFirst (byte put) size) (first-put put)
-    ∙ replacing-longer (byte put) 512 size (old at) (omega (arith, length-is at, at .blocks-for .ensures))
+    ∙ replacing-longer (byte put) 512 size (old at) (omega (arith, length-is at, some-blocks at))
 
 pub put-file-spec : {M : Type 1} → statement M
 put-file-spec =

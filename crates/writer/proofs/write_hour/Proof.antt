@@ -2,12 +2,12 @@
 use mathlib.Core.Path.{_≡_, sym, _∙_, ap}
 use mathlib.Core.List.{List}
 use Prim.Native.Nat.{ℕ, _*_}
-use borrow.Author.Needs.{needs}
+use native.Mathlib.Omega.{arith}
 use lib.ListN.{length}
 use Rattle.rules.specs.Refusals.{verdictOf, verdict, accepted, writerRows}
 use Rattle.rules.specs.Settling.{HourWritten}
 use Rattle.answer.proofs.Refusing.{no-other}
-use Rattle.writer.proofs.Said.{block-count, file-length}
+use Rattle.writer.proofs.Said.{few-blocks, file-length}
 use Rattle.writer.proofs.Written.{refused-leaves, accepted-fills, accepted-whole}
 use Rattle.writer.proofs.write_hour.Statement.{statement}
 use Rattle.writer.proofs.write_hour.Tie as tie
@@ -39,7 +39,7 @@ examine-requires c κs = tt
 
 -- let Answer::Accepted = answer
 enum-told : tie.Need-enum-told
-enum-told c = search needs
+enum-told c = c .match .keys1
 
 -- return Filed { answer: answer, length: 0 }
 returns : tie.Need-returns
@@ -56,25 +56,29 @@ put-file-requires c κs = let e = c .before in
 blocks-for-requires : tie.Need-blocks-for-requires
 blocks-for-requires c κs = tt
 
--- 512 * lists::blocks_for(records.len())
-mul-t10 : tie.Need-mul-t10
-mul-t10 c = search needs
+-- 512 * lists::blocks_for(records)
+mul-length : tie.Need-mul-length
+mul-length c =
+    let told = c .before .before .before .before .before in
+    let e = examined told in
+    let whole = accepted-whole (head e) (records e) (file e) (passed told) .0 in
+    omega (arith, c .blocks-for .ensures (head e), few-blocks (head e) (records e) whole)
 
 -- file: &mut [u8]
 same-length : tie.Need-same-length
-same-length c = search needs
+same-length c = omega arith
 
--- Filed { answer: answer, length: 512 * lists::blocks_for(records.len()) }
+-- Filed { answer: answer, length: length }
 returns-2 : tie.Need-returns-2
 returns-2 c =
     let put = c .before .before .before in
     let told = put .before .before in
     let e = examined told in
     let fills = sym (accepted-fills (head e) (records e) (file e) (passed told)) in
-    let blocks = c .blocks-for .ensures ∙ sym (block-count (head e) (records e)) in (
+    let size = ap (λ (n : ℕ). 512 * n) (c .blocks-for .ensures (head e)) ∙ sym (file-length (head e) (records e)) in (
       ap verdictOf (told .enum-told .given .1) ∙ ap (λ (r : HourWritten). r .verdict) fills,
       (
-        ap (λ (n : ℕ). 512 * n) blocks ∙ sym (file-length (head e) (records e)) ∙ ap (λ (r : HourWritten). r .length) fills,
+        size ∙ ap (λ (r : HourWritten). r .length) fills,
         put .put-file .ensures ∙ ap (λ (r : HourWritten). r .file) fills,
       ),
     )
@@ -88,6 +92,6 @@ write-hour-spec =
     returns
     put-file-requires
     blocks-for-requires
-    mul-t10
+    mul-length
     same-length
     returns-2)

@@ -2,7 +2,6 @@
 use mathlib.Core.Path.{_≡_, sym, _∙_, ap}
 use Prim.Native.Nat.{ℕ, _+_, _-_, _*_, _≤_}
 use native.Mathlib.Omega.{arith}
-use borrow.Author.Needs.{needs}
 use lib.ListN.{length, getD}
 use Rattle.whole.specs.Below.{replacingFirst}
 use Rattle.whole.proofs.Buffers.{replacing-all}
@@ -13,40 +12,40 @@ use Rattle.writer.proofs.block.put_block.Statement.{statement}
 use Rattle.writer.proofs.block.put_block.Tie as tie
 
 closing-word-requires : tie.Need-closing-word-requires
-closing-word-requires c κs = search needs
+closing-word-requires c κs = omega arith
 
 put-word-requires : tie.Need-put-word-requires
-put-word-requires c κs = search needs
+put-word-requires c κs = omega arith
 
 put-word-requires-2 : tie.Need-put-word-requires-2
-put-word-requires-2 c κs = search needs
+put-word-requires-2 c κs = omega arith
 
 put-word-requires-3 : tie.Need-put-word-requires-3
-put-word-requires-3 c κs = search needs
+put-word-requires-3 c κs = omega arith
 
 put-zeros-requires : tie.Need-put-zeros-requires
-put-zeros-requires c κs = search needs
+put-zeros-requires c κs = omega arith
 
 put-word-requires-4 : tie.Need-put-word-requires-4
-put-word-requires-4 c κs = search needs
+put-word-requires-4 c κs = omega arith
 
 put-words-requires : tie.Need-put-words-requires
-put-words-requires c κs = search needs
+put-words-requires c κs = omega arith
 
 -- 8 + body.len()
 add-put-zeros : tie.Need-add-put-zeros
-add-put-zeros c = search needs
+add-put-zeros c = omega arith
 
 -- 120 - body.len()
 sub-put-zeros : tie.Need-sub-put-zeros
-sub-put-zeros c = search needs
+sub-put-zeros c = omega arith
 
 put-zeros-requires-2 : tie.Need-put-zeros-requires-2
-put-zeros-requires-2 c κs = search needs
+put-zeros-requires-2 c κs = omega arith
 
 -- block: &mut [u8]
 same-length : tie.Need-same-length
-same-length c = search needs
+same-length c = omega arith
 
 returns : tie.Need-returns
 unfolding blockBytes

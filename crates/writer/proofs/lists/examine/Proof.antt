@@ -1,11 +1,11 @@
 -- `writer::lists::examine` meets its contract: the first row that is broken, with its place.
 use mathlib.Core.Path.{_≡_, sym, _∙_, ap}
 use mathlib.Core.Option.{none}
-use borrow.Author.Needs.{needs}
+use native.Mathlib.Omega.{arith}
 use Rattle.rules.specs.Refusals.{badLists, badHead, badRecord, verdict, writerRows, placeZeroIf}
 use Rattle.rules.specs.Inner.Searched.{foundAt}
 use Rattle.writer.specs.Lists.{hourIn, ListsWhole}
-use Rattle.writer.proofs.Said.{lists-whole, no-room, has-room}
+use Rattle.writer.proofs.Said.{lists-whole, few-blocks, no-room, has-room}
 use Rattle.writer.proofs.lists.examine.Statement.{statement}
 use Rattle.writer.proofs.lists.examine.Tie as tie
 
@@ -56,7 +56,8 @@ returns-2 : tie.Need-returns-2
 unfolding verdict writerRows
 returns-2 c =
     let searched = c .before .before .before in
-    simp (lists-good (searched .before), sym (searched .bad-head .ensures (given (searched .before) .args .records .now)) ∙ ap foundAt (c .before .w .given .1))
+    let found = searched .bad-head .ensures (given (searched .before) .args .records .now) in
+    simp (lists-good (searched .before), sym found ∙ ap foundAt (c .before .w .given .1))
 
 -- Found::Nothing = bad_head(head)
 enum-told : tie.Need-enum-told
@@ -84,9 +85,12 @@ enum-told-2 c = c .match2 .keys2
 blocks-for-requires : tie.Need-blocks-for-requires
 blocks-for-requires c κs = tt
 
--- 512 * blocks_for(records.len())
+-- 512 * blocks_for(records)
 mul-if2 : tie.Need-mul-if2
-mul-if2 c = search needs
+mul-if2 c =
+    let lists = row-1 (row-4 (c .before)) in
+    let at = given lists .args in
+    omega (arith, c .blocks-for .ensures (at .head .now), few-blocks (at .head .now) (at .records .now) (whole lists))
 
 -- return Answer::TooShort
 returns-4 : tie.Need-returns-4
@@ -95,7 +99,7 @@ returns-4 c =
     let records = c .before .before in
     let head = row-4 records in
     let at = given (row-1 head) .args in
-    let room = no-room (at .head .now) (at .records .now) (at .room) _ (c .before .blocks-for .ensures) (c .if2 .taken) in
+    let room = no-room (at .head .now) (at .records .now) (at .room) _ (c .before .blocks-for .ensures (at .head .now)) (c .if2 .taken) in
     simp (lists-good (row-1 head), head-good head, records-good records, room)
 
 -- Answer::Accepted
@@ -105,7 +109,7 @@ returns-5 c =
     let records = c .before .before in
     let head = row-4 records in
     let at = given (row-1 head) .args in
-    let room = has-room (at .head .now) (at .records .now) (at .room) _ (c .before .blocks-for .ensures) (c .if2 .left) in
+    let room = has-room (at .head .now) (at .records .now) (at .room) _ (c .before .blocks-for .ensures (at .head .now)) (c .if2 .left) in
     simp (lists-good (row-1 head), head-good head, records-good records, room)
 
 pub examine-spec : {M : Type 1} → statement M

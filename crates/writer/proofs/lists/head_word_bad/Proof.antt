@@ -30,7 +30,8 @@ keeps-requires c κs = tt
 returns : tie.Need-returns
 returns c =
     let given = c .before .before .before .before .args in
-    ap not (c .keeps .ensures ∙ ap (λ (r : Rule). keeps r (getD (given .head .now) (given .w - 8) 0)) (c .before .before .head-rule .ensures))
+    let word = getD (given .head .now) (given .w - 8) 0 in
+    ap not (c .keeps .ensures ∙ ap (λ (r : Rule). keeps r word) (c .before .before .head-rule .ensures))
 
 pub head-word-bad-spec : {M : Type 1} → statement M
 head-word-bad-spec =
