@@ -5,14 +5,18 @@ use mathlib.Core.List.{List}
 use lib.Dec.{leb}
 use Rattle.rules.specs.HourFile.{hourly, lengthBad, blocks}
 use Rattle.rules.specs.Refusals.{refusedAt}
-use Rattle.rules.specs.Settling.{Buffers, Settlement, Written, ReadAmount}
+use Rattle.rules.specs.Settling.{Buffers, Settlement, HourWritten, Written, ReadAmount}
 use Rattle.pool.specs.declared.boundary.NumberedAnswer.{NumberedAnswer}
+use Rattle.pool.specs.declared.boundary.NumberedFiled.{NumberedFiled}
 use Rattle.pool.specs.declared.boundary.NumberedReading.{NumberedReading}
 use Rattle.pool.specs.declared.boundary.NumberedSettled.{NumberedSettled}
 use Rattle.pool.specs.declared.boundary.Part.{Part}
 
 abbrev pub settlement : NumberedSettled → Buffers → Settlement
 settlement r after = record { verdict = refusedAt (r .number) (r .place); ufe = r .ufe; buffers = after }
+
+abbrev pub hourWritten : NumberedFiled → List ℕ → HourWritten
+hourWritten r after = record { verdict = refusedAt (r .number) (r .place); length = r .length; file = after }
 
 abbrev pub written : NumberedAnswer → List ℕ → Written
 written r after = record { verdict = refusedAt (r .number) (r .place); field = after }

@@ -8,6 +8,7 @@ ghost use Rattle.rules.specs.HourFile.{hourly};
 ghost use Rattle.rules.specs.HourWords as HourWords;
 ghost use Rattle.rules.specs.Refusals as Refusals;
 ghost use Rattle.rules.specs.Settling as Settling;
+ghost use Rattle.rules.specs.Writing.{AreWords};
 ghost use Rattle.writer.specs.Lists.{hourIn, ListsWhole};
 ghost use Rattle.writer.specs.Stored.{blockBytes, blockPlaced, heldWords};
 
@@ -64,6 +65,7 @@ pub fn write_hour(head: &[u32], records: &[u32], file: &mut [u8]) -> Filed
         ≡ Settling.writeHour (now (head .entry)) (now (records .entry)) (now (file .entry)) .verdict ⌝ }
     ensures length { λ r. ⌜ r .length ≡ Settling.writeHour (now (head .entry)) (now (records .entry)) (now (file .entry)) .length ⌝ }
     ensures file { λ r. ⌜ now (file .exit) ≡ Settling.writeHour (now (head .entry)) (now (records .entry)) (now (file .entry)) .file ⌝ }
+    ensures words { λ r. ⌜ AreWords (now (head .entry)) × AreWords (now (records .entry)) ⌝ }
 {
     let answer = lists::examine(head, records, file.len());
     let Answer::Accepted = answer else {

@@ -6,6 +6,7 @@ use native.Mathlib.Omega.{arith}
 use lib.ListN.{length}
 use Rattle.rules.specs.Refusals.{verdictOf, verdict, accepted, writerRows}
 use Rattle.rules.specs.Settling.{HourWritten}
+use Rattle.rules.specs.Writing.{AreWords}
 use Rattle.answer.proofs.Refusing.{no-other}
 use Rattle.writer.proofs.Said.{few-blocks, file-length}
 use Rattle.writer.proofs.Written.{refused-leaves, accepted-fills, accepted-whole}
@@ -25,6 +26,10 @@ module _ (c : tie.After-examine) where
 
   abbrev file : List ℕ
   file = start .args .file .now
+
+  -- what was lent are words of 32 bits
+  words : AreWords head × AreWords records
+  words = (λ i. c .before .before .before .shared-slice-known .given i .fits, λ i. c .before .before .shared-slice-known2 .given i .fits)
 
 -- and accepted
 module _ (c : tie.After-enum-told) where
@@ -47,7 +52,8 @@ returns c =
     let e = c .before in
     let leaves = sym (refused-leaves (head e) (records e) (file e) (e .examine .result) (e .examine .ensures)
     (λ a. no-other (rw a at (c .match .keys2)))) in
-    (ap (λ (r : HourWritten). r .verdict) leaves, (ap (λ (r : HourWritten). r .length) leaves, ap (λ (r : HourWritten). r .file) leaves))
+    (ap (λ (r : HourWritten). r .verdict) leaves,
+    (ap (λ (r : HourWritten). r .length) leaves, (ap (λ (r : HourWritten). r .file) leaves, words e)))
 
 put-file-requires : tie.Need-put-file-requires
 put-file-requires c κs = let e = c .before in
@@ -79,7 +85,7 @@ returns-2 c =
       ap verdictOf (told .enum-told .given .1) ∙ ap (λ (r : HourWritten). r .verdict) fills,
       (
         size ∙ ap (λ (r : HourWritten). r .length) fills,
-        put .put-file .ensures ∙ ap (λ (r : HourWritten). r .file) fills,
+        (put .put-file .ensures ∙ ap (λ (r : HourWritten). r .file) fills, words e),
       ),
     )
 
