@@ -1,13 +1,13 @@
--- The hour that a head and records say, word by word, and rows 4 and 5 of it as the searches make them.
+-- The hour that a head and records say, word by word, its rows as the code checks them, and a part of a list.
 use mathlib.Core.Path.{_≡_, refl, sym, _∙_, ap}
-use mathlib.Core.Bool.{Bool, true, false, not, cond, _&&_, _||_}
+use mathlib.Core.Bool.{Bool, not, _||_}
 use mathlib.Core.Option.{none, some}
 use mathlib.Core.List.{List}
 use Prim.Native.Nat.{ℕ, _+_, _-_, _*_, _/_, _%_, _≤_, _<_}
 use native.Mathlib.Omega.{arith}
 use lib.ListN.{length, getD, take, drop, length-drop}
 use lib.Seq.{getD-take, getD-drop, length-take-le}
-use lib.Dec.{ltb, leb, eqb}
+use lib.Dec.{ltb, eqb}
 use borrow.Author.Tests.{ltb-true, ltb-false, eqb-true, not-false, lt-ltb, le-ltb, le-leb}
 use Rattle.whole.specs.Below.{firstBelow}
 use Rattle.whole.proofs.Tests.{split, neither}
@@ -15,7 +15,7 @@ use Rattle.whole.proofs.Search.{first-ext}
 use Rattle.rules.specs.Record.{Hour, members, zones, areas}
 use Rattle.rules.specs.HourFile.{hourly}
 use Rattle.rules.specs.HourWords.{hourFrom, blocksFor, fileLength}
-use Rattle.rules.specs.Ranges.{keeps, headRule, recordRule, firstBroken}
+use Rattle.rules.specs.Ranges.{keeps, headRule, firstBroken}
 use Rattle.rules.specs.Refusals.{isBroken, badLists, badHead, badWord, noRoom}
 use Rattle.rules.proofs.Rows.{no-place}
 use Rattle.rules.proofs.Faults.{head-any}
@@ -106,7 +106,7 @@ module _ (head records : List ℕ) where
 
 -- ---- a part of a list
 
-gap : (from n : ℕ) → from + n - from ≡ n
+pub gap : (from n : ℕ) → from + n - from ≡ n
 gap from n = omega arith
 
 module _ (l : List ℕ) (from n : ℕ) where

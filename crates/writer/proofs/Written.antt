@@ -14,8 +14,7 @@ use Rattle.rules.specs.Record.{Hour}
 use Rattle.rules.specs.HourFile.{hourly}
 use Rattle.rules.specs.HourWords.{fileByte, fileLength}
 use Rattle.rules.specs.Refusals.{Row, accepted, verdictOf, verdict, noRoom, writerRows}
-use Rattle.rules.specs.Settling.{HourWritten, isAccepted, writeHour}
-use Rattle.rules.specs.Promises.{AllWhole}
+use Rattle.rules.specs.Settling.{isAccepted, writeHour}
 use Rattle.rules.proofs.Rows.{Numbered, accepts-when-whole, no-place}
 use Rattle.answer.proofs.Refusing.{numbered}
 use Rattle.writer.specs.Lists.{hourIn, ListsWhole}
