@@ -182,7 +182,7 @@ fn added(sum: u32, word: u32) -> u32
 }
 
 // The sum of a block's 128 words, modulo 2^32.
-pub fn sum_of(block: &[u8]) -> u32
+fn sum_of(block: &[u8]) -> u32
     ensures { λ r. ⌜ r ≡ sumBelow (HourFile.word (now (block .entry))) 128 % 0x1_0000_0000 ⌝ }
 {
     let mut sum: u32 = 0;

@@ -11,7 +11,6 @@ use Rattle.blocks.proofs.count.Reads as count
 use Rattle.blocks.proofs.block.Reads as block-of
 use Rattle.blocks.proofs.body.Reads as body
 use Rattle.blocks.proofs.head_word.Reads as head-word
-use Rattle.blocks.proofs.sum_of.Reads as sum-of
 use Rattle.blocks.proofs.bad_sum.Reads as bad-sum
 use Rattle.blocks.proofs.first_not_zero.Reads as first-not-zero
 use Rattle.blocks.proofs.bad_block.Reads as bad-block
@@ -38,9 +37,6 @@ one-body κs a x y s t = agree
 
 pub one-head-word : (κs : Lfts 1) → OneResult (head-word.Post κs)
 one-head-word κs a x y s t = λ p q. agree (p hourly) (q hourly)
-
-pub one-sum-of : (κs : Lfts 1) → OneResult (sum-of.Post κs)
-one-sum-of κs a x y s t = agree
 
 pub one-bad-sum : (κs : Lfts 1) → OneResult (bad-sum.Post κs)
 one-bad-sum κs a x y s t = agree-found

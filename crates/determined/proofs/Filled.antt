@@ -1,9 +1,11 @@
 -- Functions that fill a caller's buffers.
-use mathlib.Core.Path.{refl, ap}
+use mathlib.Core.Path.{refl, ap, ap₂}
+use Prim.Native.Nat.{ℕ}
 use contract.Lifetimes.{Lfts}
 use denote.Ref.{now}
 use Rattle.amount.proofs.RoundTrips.{one-reading}
-use Rattle.rules.specs.Settling.{Buffers, Settlement, Written, ReadAmount}
+use Rattle.rules.specs.declared.Answer.{Answer}
+use Rattle.rules.specs.Settling.{Buffers, Settlement, HourWritten, Written, ReadAmount}
 use Rattle.pool.specs.Buffers.{buffers}
 use Rattle.pool.specs.Unlined.{unlined}
 use Rattle.rules.proofs.Rows.{one-settlement}
@@ -18,11 +20,14 @@ use Rattle.byrecord.proofs.shares.put_shares.Reads as put-shares
 use Rattle.lines.proofs.Port.put_lines.Reads as put-lines
 use Rattle.lines.proofs.Port.put_charges.Reads as put-charges
 use Rattle.neutrality.proofs.put_finals.Reads as put-finals
+use Rattle.writer.proofs.write_hour.Reads as write-hour
+use Rattle.rawhour.proofs.write_raw.Reads as write-raw
 use Rattle.pool.proofs.Port.settle.Reads as settle
 use Rattle.pool.proofs.settle_unlined.Reads as settle-unlined
 use Rattle.pool.proofs.Port.sneupelaar_settle.Reads as sneupelaar-settle
 use Rattle.pool.proofs.boundary.numbered.Reads as numbered
 use Rattle.pool.proofs.boundary.sneupelaar_write.Reads as sneupelaar-write
+use Rattle.pool.proofs.boundary.sneupelaar_write_hour.Reads as sneupelaar-write-hour
 use Rattle.pool.proofs.boundary.sneupelaar_read.Reads as sneupelaar-read
 use Rattle.pool.proofs.boundary.sneupelaar_body.Reads as sneupelaar-body
 use Rattle.printing.proofs.put_first_line.Reads as put-first-line
@@ -77,6 +82,15 @@ pub one-settle : (κs : Lfts 6) →
     buffers (now (s .1 .1 .0)) (now (s .1 .1 .1 .0)) (now (s .1 .1 .1 .1 .0)) (now (s .1 .1 .1 .1 .1 .0)) (now (s .1 .0)))
 one-settle κs a x y s t p q = one-settlement _ _ x y _ _ p q
 
+pub one-write-hour : (κs : Lfts 3) → OneOutcome (write-hour.Post κs) (λ s. now (s .1 .1 .0))
+one-write-hour κs a x y s t p q = (
+  ap₂ (λ (b : Answer) (n : ℕ). record { answer = b; length = n }) (agree-answer (p .0) (q .0)) (agree (p .1 .0) (q .1 .0)),
+  agree (p .1 .1 .0) (q .1 .1 .0),
+)
+
+pub one-write-raw : (κs : Lfts 2) → OneOutcome (write-raw.Post κs) (λ s. now (s .1 .0))
+one-write-raw κs a x y s t p q = (agree (p .0) (q .0), agree (p .1) (q .1))
+
 pub one-settle-unlined : (κs : Lfts 5) →
     OneOutcome (settle-unlined.Post κs) (λ s. unlined (now (s .1 .0)) (now (s .1 .1 .0)) (now (s .1 .1 .1 .0)) (now (s .1 .1 .1 .1 .0)))
 one-settle-unlined κs a x y s t p q =
@@ -100,6 +114,12 @@ pub one-sneupelaar-write : (κs : Lfts 1) → OneOutcome (sneupelaar-write.Post 
 one-sneupelaar-write κs a x y s t p q = (
   ap (λ (r : Written). record { number = r .verdict .number; place = r .verdict .place }) (agree p q),
   ap (λ (r : Written). r .field) (agree p q),
+)
+
+pub one-sneupelaar-write-hour : (κs : Lfts 3) → OneOutcome (sneupelaar-write-hour.Post κs) (λ s. now (s .1 .1 .0))
+one-sneupelaar-write-hour κs a x y s t p q = (
+  ap (λ (r : HourWritten). record { number = r .verdict .number; place = r .verdict .place; length = r .length }) (agree (p .0) (q .0)),
+  ap (λ (r : HourWritten). r .file) (agree (p .0) (q .0)),
 )
 
 pub one-sneupelaar-read : (κs : Lfts 1) → OneResult (sneupelaar-read.Post κs)

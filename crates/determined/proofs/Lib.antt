@@ -5,3 +5,4 @@ pub mod Blocks
 pub mod Files
 pub mod Filled
 pub mod Demanded
+pub mod HourFiles

@@ -2,13 +2,16 @@
 -- arguments, the result and what the arguments are at exit.
 use mathlib.Core.Path.{_≡_}
 use mathlib.Core.List.{List}
-use Prim.Native.Nat.{ℕ}
+use Prim.Native.Nat.{ℕ, _≤_}
 use lib.IntN.{ℤ}
+use lib.ListN.{length, drop}
 use Rattle.rules.specs.HourFile.{hourly, hourOf}
-use Rattle.rules.specs.Refusals.{Verdict, accepted, verdict}
-use Rattle.rules.specs.Settling.{Buffers, settleRows, noFigures}
+use Rattle.rules.specs.HourWords.{hourFrom, headWords, recordWords}
+use Rattle.rules.specs.Refusals.{Verdict, accepted, verdict, fileRows, writerRows}
+use Rattle.rules.specs.Settling.{Buffers, settleRows, noFigures, HourWritten}
 use Rattle.rules.specs.Promises.{ByFormula, FairOutcome}
-use Rattle.rules.specs.Finals.{NeutralOutcome}
+use Rattle.rules.specs.Finals.{NeutralOutcome, AreBytes}
+use Rattle.rules.specs.Writing.{fileIn}
 
 module _ {A X S : Type 0} (promise : A → X → S → Type 0) where
   -- two results that keep the promise are the same
@@ -38,3 +41,16 @@ pub record KeepsDemands (file : List ℕ) (before : Buffers) (told : Verdict) (u
   pub fair : told ≡ accepted → FairOutcome (hourOf hourly file) ufes after
   -- A1
   pub neutral : told ≡ accepted → NeutralOutcome (hourOf hourly file) before after
+
+-- what document 02, A2, asks of the writer, by its head, records and buffer before, and by what was answered and left
+pub record KeepsWriting (head records before : List ℕ) (w : HourWritten) : Type 0 where
+  -- the first broken row of the table answers, and a refusal changes nothing
+  pub by-the-table : w .verdict ≡ verdict (writerRows head records (length before))
+  pub unchanged : (w .verdict ≡ accepted → ⊥) → (w .length ≡ 0) × (w .file ≡ before)
+  -- what was written passes rows 1 to 5 and is read back as the same hour
+  pub read-back : w .verdict ≡ accepted →
+      (verdict (fileRows (fileIn w)) ≡ accepted) × (hourOf hourly (fileIn w) ≡ hourFrom hourly head records)
+  pub past-file : w .verdict ≡ accepted → (drop (w .length) (w .file) ≡ drop (w .length) before) × (length (w .file) ≡ length before)
+  -- the head and records of a file that passes rows 1 to 5 give its bytes again, whatever the buffer held
+  pub same-bytes : (s : List ℕ) → AreBytes s → verdict (fileRows s) ≡ accepted → head ≡ headWords s → records ≡ recordWords hourly s →
+      length s ≤ length before → (w .verdict ≡ accepted) × (fileIn w ≡ s)

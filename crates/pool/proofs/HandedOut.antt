@@ -14,7 +14,7 @@ use Rattle.rules.specs.declared.Settled.{Settled}
 use Rattle.rules.specs.HourFile.{hourly, lengthBad, blocks, body}
 use Rattle.rules.specs.Promises.{Fits}
 use Rattle.rules.specs.Refusals.{Verdict, refusedAt, verdictOf, numberOf, placeOf}
-use Rattle.rules.specs.Settling.{Buffers, settle, HourWritten, writeHour}
+use Rattle.rules.specs.Settling.{Buffers, settle}
 use Rattle.rules.proofs.Words.{body-length, body-empty-bad, body-empty-past}
 use Rattle.pool.specs.declared.boundary.NumberedSettled.{NumberedSettled}
 use Rattle.pool.specs.declared.boundary.Part.{Part}
@@ -30,13 +30,6 @@ numbered-fits s b {r} {after} {out} f e =
     ap (λ (o : NumberedSettled). settlement o after) e
     ∙ ap₂ (λ (v : Verdict) (u : List ℤ). record { verdict = v; ufe = u; buffers = after }) (f .verdict-is) (f .ufe-is)
     ∙ ap (λ (x : Buffers). record { verdict = settle s b .verdict; ufe = settle s b .ufe; buffers = x }) (f .buffers-are)
-
--- what writing an hour file answered and left behind
-pub numbered-filed : (head records file : List ℕ) {v : Verdict} {n : ℕ} {after : List ℕ} → let w = writeHour head records file in
-    v ≡ w .verdict → n ≡ w .length → after ≡ w .file → record { verdict = v; length = n; file = after } ≡ w
-numbered-filed head records file {n = n} {after} e f g =
-    ap₂ (λ (u : Verdict) (m : ℕ). record { verdict = u; length = m; file = after }) e f
-    ∙ ap (λ (l : List ℕ). record { verdict = writeHour head records file .verdict; length = writeHour head records file .length; file = l }) g
 
 -- ---- where a body stands
 

@@ -84,7 +84,11 @@ pub extern "C" fn sneupelaar_read(field: &[u8]) -> NumberedReading
 
 // Writes the hour file of a head and records at the start of the buffer.
 #[no_mangle]
-pub extern "C" fn sneupelaar_write_hour(head: &[u32], records: &[u32], file: &mut [u8]) -> NumberedFiled
+pub extern "C" fn sneupelaar_write_hour(
+    head: &[u32],
+    records: &[u32],
+    file: &mut [u8],
+) -> NumberedFiled
     ensures file { λ r. ⌜ hourWritten r (now (file .exit))
         ≡ Settling.writeHour (now (head .entry)) (now (records .entry)) (now (file .entry)) ⌝ }
     ensures words { λ r. ⌜ AreWords (now (head .entry)) × AreWords (now (records .entry)) ⌝ }

@@ -123,6 +123,13 @@ module _ (head records : List ℕ) where
         ) in
         rw (file-is e) (accepts-when-whole (fileRows (fileOf hourly h)) (file-numbered (fileOf hourly h)) .1 rows-whole, same)
 
+-- what was answered and left behind, part by part
+pub as-written : (head records file : List ℕ) {v : Verdict} {n : ℕ} {after : List ℕ} → let w = writeHour head records file in
+    v ≡ w .verdict → n ≡ w .length → after ≡ w .file → record { verdict = v; length = n; file = after } ≡ w
+as-written head records file {after = after} e f g =
+    ap₂ (λ (u : Verdict) (m : ℕ). record { verdict = u; length = m; file = after }) e f
+    ∙ ap (λ (l : List ℕ). record { verdict = writeHour head records file .verdict; length = writeHour head records file .length; file = l }) g
+
 -- ---- a file's own head and records
 
 module _ (s : List ℕ) where

@@ -9,16 +9,16 @@ use lib.ListN.{length, getD, take, drop, length-take, length-drop, List·getD-eq
 use lib.Seq.{length-take-le, take-all, getD-take, getD-drop}
 use lib.Dec.{ltb, eqb}
 use borrow.Author.Tests.{ltb-true, ltb-false, ne-eqb}
-use Rattle.whole.specs.Below.{sumBelow, replacingFirst}
+use Rattle.whole.specs.Below.{replacingFirst}
 use Rattle.whole.proofs.Tests.{split}
 use Rattle.whole.proofs.Sums.{sum-ext}
 use Rattle.whole.proofs.Buffers.{replacing-none, replacing-then}
 use Rattle.rules.specs.Record.{Hour}
 use Rattle.rules.specs.HourFile.{hourly}
-use Rattle.rules.specs.HourWords.{byteOf, closing, blocksFor, heldIn, bodyWord, openWord, fileWord, fileByte}
+use Rattle.rules.specs.HourWords.{closing, blocksFor, heldIn, bodyWord, openWord, fileWord, fileByte}
 use Rattle.writer.specs.Lists.{hourIn, ListsWhole}
 use Rattle.writer.specs.Stored.{bytesOf, openBlock, closedBlock, blockBytes, blockPlaced, heldWords}
-use Rattle.writer.proofs.Said.{said-count, said-head, said-word, block-count}
+use Rattle.writer.proofs.Said.{said-count, said-head, said-word, block-count, gap}
 
 -- ---- a block that says what block b of an hour's file says
 
@@ -113,10 +113,7 @@ module _ (head records : List ℕ) (whole : ListsWhole head records) where
 
   head-word : (k : ℕ) → k < 120 → getD head k 0 ≡ bodyWord hourly h 0 k
   unfolding bodyWord
-  head-word k l = ap (λ (j : ℕ). getD head j 0) (sym back) ∙ sym (said-head head records (8 + k) (omega arith) (omega arith))
-    where
-      back : 8 + k - 8 ≡ k
-      back = omega arith
+  head-word k l = ap (λ (j : ℕ). getD head j 0) (sym (gap 8 k)) ∙ sym (said-head head records (8 + k) (omega arith) (omega arith))
 
   pub head-placed : (count : ℕ) (old : List ℕ) → count ≡ blocksFor hourly h - 1 →
       blockPlaced 0 (blockBytes 1 0 count head) old ≡ replacingFirst (fileByte hourly h) 512 old

@@ -1,24 +1,24 @@
--- The hour that a head and records say, word by word, and rows 4 and 5 of it as the searches make them.
+-- The hour that a head and records say, word by word, its rows as the code checks them, and a part of a list.
 use mathlib.Core.Path.{_≡_, refl, sym, _∙_, ap}
-use mathlib.Core.Bool.{Bool, true, false, not, cond, _&&_, _||_}
+use mathlib.Core.Bool.{Bool, not}
 use mathlib.Core.Option.{none, some}
 use mathlib.Core.List.{List}
-use Prim.Native.Nat.{ℕ, _+_, _-_, _*_, _/_, _%_, _≤_, _<_}
+use Prim.Native.Nat.{ℕ, _+_, _-_, _*_, _/_, _≤_, _<_}
 use native.Mathlib.Omega.{arith}
 use lib.ListN.{length, getD, take, drop, length-drop}
 use lib.Seq.{getD-take, getD-drop, length-take-le}
-use lib.Dec.{ltb, leb, eqb}
-use borrow.Author.Tests.{ltb-true, ltb-false, eqb-true, not-false, lt-ltb, le-ltb, le-leb}
+use lib.Dec.{ltb}
+use borrow.Author.Tests.{ltb-true, ltb-false, lt-ltb, le-ltb, le-leb}
 use Rattle.whole.specs.Below.{firstBelow}
-use Rattle.whole.proofs.Tests.{split, neither}
+use Rattle.whole.proofs.Tests.{split}
 use Rattle.whole.proofs.Search.{first-ext}
 use Rattle.rules.specs.Record.{Hour, members, zones, areas}
 use Rattle.rules.specs.HourFile.{hourly}
 use Rattle.rules.specs.HourWords.{hourFrom, blocksFor, fileLength}
-use Rattle.rules.specs.Ranges.{keeps, headRule, recordRule, firstBroken}
+use Rattle.rules.specs.Ranges.{keeps, headRule, firstBroken}
 use Rattle.rules.specs.Refusals.{isBroken, badLists, badHead, badWord, noRoom}
-use Rattle.rules.proofs.Rows.{no-place}
 use Rattle.rules.proofs.Faults.{head-any}
+use Rattle.rules.proofs.Writing.{lists-whole as lists-pass}
 use Rattle.writer.specs.Lists.{hourIn, ListsWhole, recordBad}
 
 -- whether word w of the first block, as the head has it, breaks its rule
@@ -70,18 +70,8 @@ module _ (head records : List ℕ) where
   -- ---- rows 1 and 11
 
   pub lists-whole : badLists head records ≡ none → ListsWhole head records
-  unfolding badLists
-  lists-whole e =
-      let head-other = not (eqb (length head) 120) in
-      let cut = not (eqb (length records % 12) 0) in
-      let over = ltb 250 (length records / 12) in
-      let a = neither (head-other || cut) over (no-place _ e) in
-      let b = neither head-other cut (a .0) in
-      record {
-        head-whole = eqb-true (length head) 120 (not-false _ (b .0));
-        records-whole = omega (arith, said-count, eqb-true (length records % 12) 0 (not-false _ (b .1)));
-        few-records = omega (arith, said-count, ltb-false 250 (length records / 12) (a .1));
-      }
+  lists-whole e = let whole = lists-pass head records e in
+      record { head-whole = whole .0; records-whole = omega (arith, said-count, whole); few-records = omega (arith, said-count, whole) }
 
   pub block-count : blocksFor hourly h ≡ 1 + (length records / 12 + 9) / 10
   unfolding blocksFor hourFrom
@@ -106,7 +96,7 @@ module _ (head records : List ℕ) where
 
 -- ---- a part of a list
 
-gap : (from n : ℕ) → from + n - from ≡ n
+pub gap : (from n : ℕ) → from + n - from ≡ n
 gap from n = omega arith
 
 module _ (l : List ℕ) (from n : ℕ) where

@@ -1,5 +1,5 @@
 -- Words stored one after the other are the buffer's first words replaced.
-use mathlib.Core.Path.{_≡_, refl, sym, _∙_, ap, ap₂}
+use mathlib.Core.Path.{_≡_, refl, sym, _∙_, ap}
 use mathlib.Core.List.{List}
 use Prim.Native.Nat.{ℕ, zero, suc, _+_, _*_, _/_, _%_, _≤_, _<_, zero-le}
 use native.Mathlib.Nat.{add-zero}
@@ -13,11 +13,11 @@ use Rattle.writer.specs.Stored.{wordStored, wordsStored, bytesOf}
 
 -- ---- lengths
 
-pub length-word : (l : List ℕ) (k v : ℕ) → length (wordStored l k v) ≡ length l
+length-word : (l : List ℕ) (k v : ℕ) → length (wordStored l k v) ≡ length l
 unfolding wordStored
 length-word l k v = simp length-set
 
-pub length-words : (f : ℕ → ℕ) (from n : ℕ) (l : List ℕ) → length (wordsStored f from n l) ≡ length l
+length-words : (f : ℕ → ℕ) (from n : ℕ) (l : List ℕ) → length (wordsStored f from n l) ≡ length l
 unfolding wordsStored
 length-words f from zero l = refl
 length-words f from (suc n) l = length-word (wordsStored f from n l) (from + n) (f n) ∙ length-words f from n l

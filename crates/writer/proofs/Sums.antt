@@ -5,11 +5,12 @@ use Prim.Native.Nat.{ℕ, zero, suc, _+_, _-_, _%_, _≤_, _<_}
 use native.Mathlib.Nat.{mod-add-mod}
 use native.Mathlib.Omega.{arith}
 use lib.ListN.{length, getD, List·getD-eq-default}
+use borrow.Author.Tests.{ne-eqb}
 use Rattle.whole.specs.Below.{sumBelow}
 use Rattle.whole.proofs.Sums.{sum-then, sum-ext, sum-zero}
 use Rattle.rules.specs.HourWords.{closing}
-use borrow.Author.Tests.{ne-eqb}
 use Rattle.writer.specs.Stored.{openBlock, closedBlock}
+use Rattle.writer.proofs.Said.{gap}
 
 -- past the end of a list all are 0
 words-sum : (l : List ℕ) (n : ℕ) → length l ≤ n → sumBelow (λ k. getD l k 0) n ≡ sumBelow (λ k. getD l k 0) (length l)
@@ -24,13 +25,10 @@ module _ (mark position count : ℕ) (body : List ℕ) where
   unfolding sumBelow openBlock
   front-sum = omega arith
 
-  pub open-body : (k : ℕ) → openBlock mark position count body (8 + k) ≡ getD body k 0
+  open-body : (k : ℕ) → openBlock mark position count body (8 + k) ≡ getD body k 0
   unfolding openBlock
   open-body k = List·getD-eq-default (mark ∷ position ∷ count ∷ 0 ∷ 0 ∷ 0 ∷ 0 ∷ 0 ∷ []) (getD body (8 + k - 8) 0) {n = 8 + k} (omega arith)
-      ∙ ap (λ (j : ℕ). getD body j 0) back
-    where
-      back : 8 + k - 8 ≡ k
-      back = omega arith
+      ∙ ap (λ (j : ℕ). getD body j 0) (gap 8 k)
 
   pub open-sum : length body ≤ 120 →
       sumBelow (openBlock mark position count body) 128 ≡ sumBelow (λ k. getD body k 0) (length body) + mark + position + count

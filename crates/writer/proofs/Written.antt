@@ -1,22 +1,19 @@
 -- What the definition of writing says where it refuses and where it accepts, and what acceptance leaves of the lists and the room.
 use mathlib.Core.Path.{_≡_, sym, _∙_, ap}
 use mathlib.Core.Bool.{false}
-use mathlib.Core.Option.{none}
 use mathlib.Core.List.{List}
 use Prim.Native.Nat.{ℕ, _≤_}
-use native.Mathlib.Omega.{arith}
 use lib.ListN.{length}
-use borrow.Author.Tests.{ltb-false}
 use Rattle.whole.specs.Below.{replacingFirst}
 use Rattle.rules.specs.declared.Answer.{Answer}
 use Rattle.rules.specs.declared.Answer.the-variants.{Accepted}
 use Rattle.rules.specs.Record.{Hour}
 use Rattle.rules.specs.HourFile.{hourly}
 use Rattle.rules.specs.HourWords.{fileByte, fileLength}
-use Rattle.rules.specs.Refusals.{Row, accepted, verdictOf, verdict, noRoom, writerRows}
-use Rattle.rules.specs.Settling.{HourWritten, isAccepted, writeHour}
-use Rattle.rules.specs.Promises.{AllWhole}
-use Rattle.rules.proofs.Rows.{Numbered, accepts-when-whole, no-place}
+use Rattle.rules.specs.Refusals.{Row, accepted, verdictOf, verdict, writerRows}
+use Rattle.rules.specs.Settling.{isAccepted, writeHour}
+use Rattle.rules.proofs.Rows.{accepts-when-whole}
+use Rattle.rules.proofs.Writing.{writer-numbered, verdict-is, written, room-there}
 use Rattle.answer.proofs.Refusing.{numbered}
 use Rattle.writer.specs.Lists.{hourIn, ListsWhole}
 use Rattle.writer.proofs.Said.{lists-whole}
@@ -35,24 +32,18 @@ module _ (head records file : List ℕ) where
       let refused : isAccepted (verdict rows) ≡ false = ap isAccepted (sym e) ∙ numbered a n in
       rw (refused, e)
 
+  passed : verdict rows ≡ accepted → writeHour head records file .verdict ≡ accepted
+  passed e = verdict-is head records file ∙ e
+
   pub accepted-fills : verdict rows ≡ accepted → writeHour head records file ≡ record {
     verdict = accepted;
     length = fileLength hourly h;
     file = replacingFirst (fileByte hourly h) (fileLength hourly h) file;
   }
-  unfolding writeHour
-  accepted-fills e = rw e
-
-  all-numbered : Numbered rows
-  unfolding writerRows
-  all-numbered = omega arith
-
-  room-there : noRoom h (length file) ≡ none → fileLength hourly h ≤ length file
-  unfolding noRoom
-  room-there e = ltb-false (length file) (fileLength hourly h) (no-place _ e)
+  accepted-fills e = written head records file (passed e)
 
   pub accepted-whole : verdict rows ≡ accepted → ListsWhole head records × (fileLength hourly h ≤ length file)
   unfolding writerRows
   accepted-whole e =
-      let whole = accepts-when-whole rows all-numbered .0 e in
-      (lists-whole head records (whole .0), room-there (whole .1 .1 .1 .0))
+      let whole = accepts-when-whole rows (writer-numbered head records (length file)) .0 e in
+      (lists-whole head records (whole .0), room-there head records file (passed e))

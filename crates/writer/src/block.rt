@@ -1,5 +1,5 @@
-// One block of a file, written into its 512 bytes: its front, the words of its body, zeros past them. The sum is taken over the words that
-// are lent, so that the bytes are stored once, in their order, and none is read.
+// One block of a file, written into its 512 bytes: its front, the words of its body, zeros past them. Word 7 stands before the body, so the
+// sum is taken first, over the words that are lent: then the bytes are stored once, in their order, and none is read.
 ghost use mathlib.Core.Path.{_≡_};
 ghost use Prim.Native.Nat.{_+_, _*_, _%_, _≤_};
 ghost use lib.ListN.{length, getD};

@@ -1,5 +1,6 @@
 // Hour files written from a head and records (document 02, A2): the writer beside the reader. The first block has the head, every other the
-// words of ten records or, in the last, of those that are left; each is written whole, at its place in the caller's buffer.
+// words of ten records or, in the last, of those that are left; each is written whole, at its place in the caller's buffer. The numbers
+// are those of the hourly layout: blocks of 512 bytes, at most 26, marked 1 and 2, with 120 words of body; twelve words to a record.
 ghost use mathlib.Core.Path.{_≡_};
 ghost use Prim.Native.Nat.{_+_, _-_, _*_, _≤_, _<_};
 ghost use lib.ListN.{length};

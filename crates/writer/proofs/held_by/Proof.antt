@@ -1,8 +1,8 @@
 -- `writer::held_by` meets its contract: ten records where so many are left, else all that are.
-use mathlib.Core.Path.{_≡_, sym, _∙_, ap}
-use Prim.Native.Nat.{ℕ, _+_, _-_, _*_}
+use mathlib.Core.Path.{sym, _∙_}
+use Prim.Native.Nat.{_-_, _*_}
 use native.Mathlib.Omega.{arith}
-use lib.ListN.{length, take, drop, length-drop}
+use lib.ListN.{length, drop, length-drop}
 use lib.Seq.{take-all}
 use Rattle.writer.specs.Stored.{heldWords}
 use Rattle.writer.proofs.Said.{part-is}

@@ -51,9 +51,10 @@ returns : tie.Need-returns
 returns c =
     let e = c .before in
     let leaves = sym (refused-leaves (head e) (records e) (file e) (e .examine .result) (e .examine .ensures)
-    (λ a. no-other (rw a at (c .match .keys2)))) in
-    (ap (λ (r : HourWritten). r .verdict) leaves,
-    (ap (λ (r : HourWritten). r .length) leaves, (ap (λ (r : HourWritten). r .file) leaves, words e)))
+    (λ a. no-other (rw a at (c .match .keys2)))) in (
+      ap (λ (r : HourWritten). r .verdict) leaves,
+      (ap (λ (r : HourWritten). r .length) leaves, (ap (λ (r : HourWritten). r .file) leaves, words e)),
+    )
 
 put-file-requires : tie.Need-put-file-requires
 put-file-requires c κs = let e = c .before in

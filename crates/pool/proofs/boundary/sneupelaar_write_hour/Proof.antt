@@ -1,7 +1,8 @@
 -- What was answered and written goes out as it is.
 use mathlib.Core.Path.{_∙_}
 use borrow.Author.Needs.{needs}
-use Rattle.pool.proofs.HandedOut.{numbered-verdict, numbered-filed}
+use Rattle.rules.proofs.Writing.{as-written}
+use Rattle.pool.proofs.HandedOut.{numbered-verdict}
 use Rattle.pool.proofs.boundary.sneupelaar_write_hour.Statement.{statement}
 use Rattle.pool.proofs.boundary.sneupelaar_write_hour.Tie as tie
 
@@ -21,9 +22,11 @@ same-length c = search needs
 returns : tie.Need-returns
 returns c =
     let wrote = c .before .before .before .before .write-hour in
-    let e = wrote .ensures in
-    (numbered-filed _ _ _ (numbered-verdict (wrote .result .answer) (c .before .number-of .ensures) (c .place-of .ensures) ∙ e .0)
-    (e .1 .0) (e .1 .1 .0), e .1 .1 .1)
+    let e = wrote .ensures in (
+      as-written _ _ _ (numbered-verdict (wrote .result .answer) (c .before .number-of .ensures) (c .place-of .ensures) ∙ e .0)
+          (e .1 .0) (e .1 .1 .0),
+      e .1 .1 .1,
+    )
 
 pub sneupelaar-write-hour-spec : {M : Type 1} → statement M
 sneupelaar-write-hour-spec = tie.close (tie.spec write-hour-requires number-of-requires place-of-requires same-length returns)

@@ -1,5 +1,5 @@
 -- `writer::block::closing_word` meets its contract: the words of the front and of the body add up to the block's sum.
-use mathlib.Core.Path.{_≡_, sym, _∙_, ap}
+use mathlib.Core.Path.{sym, _∙_, ap}
 use Prim.Native.Nat.{ℕ, _%_}
 use native.Mathlib.Omega.{arith}
 use Rattle.writer.proofs.Sums.{open-sum, closes, kept-on}

@@ -1,6 +1,6 @@
 -- `writer::block::put_block` meets its contract: each call stores the words that come next, and the last ends where the block does.
 use mathlib.Core.Path.{_≡_, sym, _∙_, ap}
-use Prim.Native.Nat.{ℕ, _+_, _-_, _*_, _≤_}
+use Prim.Native.Nat.{ℕ, _+_, _-_, _*_}
 use native.Mathlib.Omega.{arith}
 use lib.ListN.{length, getD}
 use Rattle.whole.specs.Below.{replacingFirst}

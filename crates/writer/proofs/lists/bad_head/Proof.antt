@@ -3,9 +3,8 @@ use mathlib.Core.Path.{_≡_, sym, _∙_, ap}
 use mathlib.Core.Bool.{not}
 use mathlib.Core.Option.{none}
 use mathlib.Core.List.{List}
-use Prim.Native.Nat.{ℕ, _-_, _≤_, _<_}
+use Prim.Native.Nat.{ℕ, _-_, _≤_}
 use native.Mathlib.Omega.{arith}
-use lib.ListN.{getD}
 use borrow.Author.Tests.{eq-eqb, ne-eqb}
 use Rattle.whole.specs.Below.{firstBelow}
 use Rattle.whole.proofs.Search.{first-next, first-hit, first-less, none-below}
@@ -85,8 +84,8 @@ returns-2 : tie.Need-returns-2 Inv-loop μ-loop Inv-loop2 μ-loop2
 returns-2 c records =
     let turn = c .before .before .before in
     let w = turn .loop2 .w in
-    let broken = head-zero _ _ w _ (turn .loop2 .inv .0) ∙ ap not (ne-eqb _ 0 (c .if2 .taken)) in
-    sym (head-row _ records ∙ first-hit _ w 128 (turn .loop2 .inv .2) broken (omega arith))
+    sym (head-row _ records ∙ first-hit _ w 128 (turn .loop2 .inv .2)
+    (head-zero _ _ w _ (turn .loop2 .inv .0) ∙ ap not (ne-eqb _ 0 (c .if2 .taken))) (omega arith))
 
 -- w += 1
 add-w-2 : tie.Need-add-w-2 Inv-loop μ-loop Inv-loop2 μ-loop2
@@ -98,9 +97,11 @@ loop2-less c = omega arith
 loop2-again : tie.Need-loop2-again Inv-loop μ-loop Inv-loop2 μ-loop2
 loop2-again c =
     let turn = c .before .before .before in
-    let w = turn .loop2 .w in
-    let kept = head-zero _ _ w _ (turn .loop2 .inv .0) ∙ ap not (eq-eqb _ 0 (c .if2 .left)) in
-    (omega arith, omega arith, first-next _ w (turn .loop2 .inv .2) kept)
+    let w = turn .loop2 .w in (
+      omega arith,
+      omega arith,
+      first-next _ w (turn .loop2 .inv .2) (head-zero _ _ w _ (turn .loop2 .inv .0) ∙ ap not (eq-eqb _ 0 (c .if2 .left))),
+    )
 
 -- Found::Nothing
 returns-3 : tie.Need-returns-3 Inv-loop μ-loop Inv-loop2 μ-loop2

@@ -1,5 +1,4 @@
 -- `writer::lists::lists_bad` meets its contract: each answer by the tests that led to it.
-use native.Mathlib.Omega.{arith}
 use borrow.Author.Tests.{eq-eqb, ne-eqb}
 use Rattle.rules.specs.Refusals.{badLists}
 use Rattle.writer.proofs.lists.lists_bad.Statement.{statement}

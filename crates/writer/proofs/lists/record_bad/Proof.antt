@@ -1,12 +1,11 @@
 -- `writer::lists::record_bad` meets its contract. The loop's invariant: no word passed breaks its rule.
 use mathlib.Core.Path.{_≡_, refl, sym, _∙_, ap}
-use mathlib.Core.Bool.{Bool, true, false, not}
+use mathlib.Core.Bool.{Bool, not}
 use mathlib.Core.Option.{none}
 use mathlib.Core.List.{List}
-use Prim.Native.Nat.{ℕ, _-_, _≤_, _<_}
+use Prim.Native.Nat.{ℕ, _-_, _≤_}
 use native.Mathlib.Omega.{arith}
 use lib.ListN.{getD}
-use borrow.Author.Tests.{not-true}
 use Rattle.whole.specs.Below.{firstBelow}
 use Rattle.whole.proofs.Search.{first-next, first-hit, first-less}
 use Rattle.rules.specs.Ranges.{keeps, recordRule, firstBroken}

@@ -1,0 +1,62 @@
+-- What the pages say of the writer of hour files, said of its contract as its callers read it: what it writes is read back as the same hour,
+-- and an accepted file's own head and records give its bytes again; the program's bytes are put whole or not at all.
+use mathlib.Core.Path.{_≡_, refl, sym, _∙_, ap, subst}
+use mathlib.Core.List.{List, _++_}
+use Prim.Native.Nat.{ℕ, _≤_}
+use lib.ListN.{length, take, drop}
+use lib.Seq.{take-append-seam}
+use contract.Lifetimes.{Lfts}
+use denote.Ref.{now}
+use Rattle.rules.specs.HourFile.{hourly}
+use Rattle.rules.specs.HourWords.{headWords, recordWords}
+use Rattle.rules.specs.Refusals.{accepted, refusedAt, verdictOf, verdict, fileRows}
+use Rattle.rules.specs.Settling.{HourWritten, writeHour}
+use Rattle.rules.specs.RawHour.{rawWritten}
+use Rattle.rules.specs.Finals.{AreBytes}
+use Rattle.rules.specs.Writing.{AreWords, fileIn}
+use Rattle.rules.proofs.Writing.{verdict-is, as-written, writing}
+use Rattle.rules.proofs.Raw.{cut-input-same}
+use Rattle.printing.proofs.Showing.{whole-text}
+use Rattle.determined.specs.Determined.{Gives, KeepsWriting}
+use Rattle.writer.proofs.write_hour.Reads as write-hour
+use Rattle.rawhour.proofs.write_raw.Reads as write-raw
+use Rattle.pool.proofs.boundary.sneupelaar_write_hour.Reads as sneupelaar-write-hour
+
+module _ (head records before : List ℕ) where
+  own-bytes : (s : List ℕ) → AreBytes s → verdict (fileRows s) ≡ accepted → head ≡ headWords s → records ≡ recordWords hourly s →
+      length s ≤ length before → let w = writeHour head records before in (w .verdict ≡ accepted) × (fileIn w ≡ s)
+  own-bytes s bytes passes heads recs room =
+      let same = writing .same-bytes s before bytes passes room in
+      rw (heads, recs, same) (refl, take-append-seam s _)
+
+  keeps : AreWords head → AreWords records → KeepsWriting head records before (writeHour head records before)
+  keeps head-words record-words = record {
+    by-the-table = verdict-is head records before;
+    unchanged = writing .changes-nothing head records before;
+    read-back = writing .read-back head records before head-words record-words;
+    past-file = writing .past-file head records before;
+    same-bytes = own-bytes;
+  }
+
+  keeps-as : {w : HourWritten} → w ≡ writeHour head records before → AreWords head → AreWords records → KeepsWriting head records before w
+  keeps-as e head-words record-words = subst (KeepsWriting head records before) (sym e) (keeps head-words record-words)
+
+pub write-hour-keeps : (κs : Lfts 3) → Gives (write-hour.Post κs) (λ a x s. KeepsWriting (now (a .0)) (now (a .1 .0)) (now (a .1 .1 .0))
+    (record { verdict = verdictOf (x .answer); length = x .length; file = now (s .1 .1 .0) }))
+write-hour-keeps κs a x s p =
+    keeps-as (now (a .0)) (now (a .1 .0)) (now (a .1 .1 .0)) (as-written _ _ _ (p .0) (p .1 .0) (p .1 .1 .0)) (p .1 .1 .1 .0) (p .1 .1 .1 .1)
+
+pub sneupelaar-write-hour-keeps : (κs : Lfts 3) → Gives (sneupelaar-write-hour.Post κs) (λ a x s.
+    KeepsWriting (now (a .0)) (now (a .1 .0)) (now (a .1 .1 .0))
+    (record { verdict = refusedAt (x .number) (x .place); length = x .length; file = now (s .1 .1 .0) }))
+sneupelaar-write-hour-keeps κs a x s p = keeps-as (now (a .0)) (now (a .1 .0)) (now (a .1 .1 .0)) (p .0) (p .1 .0) (p .1 .1)
+
+-- with room, the bytes put are the file or the refusal's line, all of it and nothing else
+pub write-raw-is-put : (κs : Lfts 2) → Gives (write-raw.Post κs) (λ a x s. 13312 ≤ length (now (a .1 .0)) →
+    take x (now (s .1 .0)) ≡ rawWritten (now (a .0)))
+write-raw-is-put κs a x s p room = whole-text (record { count-is = p .0; out-is = p .1 }) room
+
+-- a reader that stops one byte past the longest input prints what its whole input asks for
+pub cut-input-is-put : (κs : Lfts 2) (input : List ℕ) → Gives (write-raw.Post κs) (λ a x s. 13312 ≤ length (now (a .1 .0)) →
+    now (a .0) ≡ take 12481 input → take x (now (s .1 .0)) ≡ rawWritten input)
+cut-input-is-put κs input a x s p room cut = write-raw-is-put κs a x s p room ∙ ap rawWritten cut ∙ cut-input-same input
