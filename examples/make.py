@@ -1,5 +1,5 @@
 #!/usr/bin/env python3
-"""Writes the example hours beside this file: python3 examples/make.py
+"""Writes the example hours beside this file, and the printed case's head and records as words for ./write_hour: python3 examples/make.py
 
 What each hour holds is worked out by hand on the page of its name.
 """
@@ -11,6 +11,7 @@ HERE = Path(__file__).resolve().parent
 sys.path.insert(0, str(HERE.parent / "tests"))
 sys.dont_write_bytecode = True
 from hours import EXPORT, GENERATOR, IMPORT, PROFILE_LOAD, REAL_TIME_LOAD, Hour, printed_case, record  # noqa: E402
+from to_write import taken_apart  # noqa: E402
 
 
 def two_zones():
@@ -60,9 +61,14 @@ def neutrality():
 EXAMPLES = {"printed": printed_case, "two-zones": two_zones, "left-over": left_over, "neutrality": neutrality}
 
 
+def printed_words():
+    return taken_apart(printed_case().blocks())
+
+
 def main():
     for name, hour in EXAMPLES.items():
         (HERE / f"{name}.hour").write_bytes(hour().encode())
+    (HERE / "printed.words").write_bytes(printed_words())
 
 
 if __name__ == "__main__":

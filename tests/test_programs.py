@@ -1,8 +1,8 @@
-"""What the built programs and ./settle do when they cannot read or write, and document 01's figures on lengths and prices.
+"""What the built programs, ./settle and ./write_hour do when they cannot read or write, and document 01's figures on lengths and prices.
 
     python3 -m unittest tests/test_programs.py       # programs from target/bin
 
-A program cannot set its exit status: it says what failed on standard error, once, and ./settle makes 1 of that.
+A program cannot set its exit status: it says what failed on standard error, once, and the scripts make 1 of that.
 """
 
 import contextlib
@@ -146,15 +146,46 @@ class Settle(unittest.TestCase):
             self.assertEqual(self.settle(PRINTED, stdout=full),
                              (1, None, f"settle: {PRINTED}: standard output: No space left on device\n"))
 
+
+class WriteHour(unittest.TestCase):
+    """The script; its output is bytes, so that it goes to a file or on to ./settle."""
+
+    WORDS = ROOT / "examples" / "printed.words"
+
+    def test_an_hour(self):
+        with opened(self.WORDS) as (stdin,), tempfile.TemporaryFile() as file:
+            self.assertEqual(ended([ROOT / "write_hour"], stdin, file), (0, None, ""))
+            file.seek(0)
+            self.assertEqual(file.read(), PRINTED.read_bytes())
+
+    def test_an_hour_that_is_settled_at_once(self):
+        with opened(self.WORDS) as (stdin,):
+            self.assertEqual(ended(["bash", "-c", "./write_hour | ./settle"], stdin), (0, Settle.STATEMENT, ""))
+
+    def test_refused_words_are_an_answer(self):
+        self.assertEqual(ended([ROOT / "write_hour"]), (0, "refused 1 at 0\n", ""))
+
+    def test_what_cannot_be_read_or_written(self):
+        with opened(ROOT) as (folder,):
+            self.assertEqual(ended([ROOT / "write_hour"], folder), (1, "", "write_hour: standard input: Is a directory\n"))
+        with opened(self.WORDS, "/dev/full") as (stdin, full):
+            self.assertEqual(ended([ROOT / "write_hour"], stdin, full),
+                             (1, None, "write_hour: standard output: No space left on device\n"))
+
+
+class NothingBuilt(unittest.TestCase):
     def test_a_program_that_is_not_there_cannot_be_built(self):
-        """A copy of ./settle elsewhere, with nothing to prove."""
-        with tempfile.TemporaryDirectory() as folder:
-            copy = Path(folder, "settle")
-            copy.write_bytes((ROOT / "settle").read_bytes())
-            copy.chmod(0o755)
-            status, printed, said = ended([copy, PRINTED])
-            self.assertEqual((status, printed), (1, ""))
-            self.assertTrue(said.endswith("settle: the program could not be proved and built\n"), said)
+        """Copies of the scripts elsewhere, with nothing to prove."""
+        for name in ("settle", "write_hour"):
+            with self.subTest(name), tempfile.TemporaryDirectory() as folder:
+                for part in (name, "tools/program.sh"):
+                    copy = Path(folder, part)
+                    copy.parent.mkdir(exist_ok=True)
+                    copy.write_bytes((ROOT / part).read_bytes())
+                    copy.chmod(0o755)
+                status, printed, said = ended([Path(folder, name)])
+                self.assertEqual((status, printed), (1, ""))
+                self.assertTrue(said.endswith(f"{name}: the program could not be proved and built\n"), said)
 
 
 if __name__ == "__main__":

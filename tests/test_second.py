@@ -977,6 +977,11 @@ class Pages(unittest.TestCase):
                 if figure != second.UNTOUCHED:
                     self.assertIn(self.printed(figure), page, name)
 
+    def test_the_example_to_write(self):
+        words = (ROOT / "examples" / "printed.words").read_bytes()
+        self.assertEqual(words, load_script(ROOT / "examples" / "make.py").printed_words())
+        self.assertEqual(second.written_hour(words), (ROOT / "examples" / "printed.hour").read_bytes())
+
     def test_the_example_in_c(self):
         """What examples/c/check expects, and the example's page."""
         folder = ROOT / "examples" / "c"
