@@ -2,6 +2,7 @@
 pub mod Starred
 pub mod Printed
 pub mod Refused
+pub mod Unwritten
 pub mod Tariff
 pub mod Posting
 pub mod Shares

@@ -20,4 +20,5 @@ pub mod Writing
 pub mod Figures
 pub mod Printed
 pub mod Refused
+pub mod Unwritten
 pub mod Inner

@@ -178,11 +178,7 @@ fileRows s = take 5 (tableRows s 0 0 0 0 0)
 -- the writer of hour files checks 1, then 4 and 5 as the reader, then 11, by the length of the buffer
 unfoldable pub writerRows : (head records : List ℕ) (room : ℕ) → List Row
 writerRows head records room = let h = hourFrom hourly head records in
-    row 1 (badLists head records)
-    ∷ row 4 (badHead h)
-    ∷ row 5 (badRecord h)
-    ∷ row 11 (noRoom h room)
-    ∷ []
+    row 1 (badLists head records) ∷ row 4 (badHead h) ∷ row 5 (badRecord h) ∷ row 11 (noRoom h room) ∷ []
 
 -- writing an amount checks 8, then 9
 unfoldable pub writeRows : ℕ → ℤ → List Row

@@ -1,0 +1,41 @@
+-- Refusals of the writer as figures: for each row lists that break it and every row after it, so that the order shows.
+-- Document 02, A2.
+use Prim.Native.Nat.{ℕ}
+use mathlib.Core.List.{List, [], _∷_, _++_}
+use lib.ListN.{replicate}
+use Rattle.rules.specs.Refusals.{refusedAt}
+use Rattle.rules.specs.Settling.{writeHour}
+use Rattle.rules.specs.Figures.{Case, _is_, AllRight}
+use Rattle.rules.specs.Refused.{plainHead}
+
+-- a buffer a byte shorter than the shortest file
+abbrev pub shortBuffer : List ℕ
+shortBuffer = replicate 511 9
+
+-- the length is 0, and the buffer is as it was
+abbrev pub unwritten : (number place : ℕ) (head records : List ℕ) → Case
+unwritten number place head records =
+    writeHour head records shortBuffer is record { verdict = refusedAt number place; length = 0; file = shortBuffer }
+
+-- a head of two members, with this for its last word
+abbrev pub headTo : ℕ → List ℕ
+headTo last = plainHead 2 ++ replicate 114 0 ++ last ∷ []
+
+-- an export of nothing, and one of kind 6
+abbrev pub twoRecords : List ℕ
+twoRecords = 5 ∷ replicate 11 0 ++ 6 ∷ replicate 11 0
+
+unfoldable pub unwrittenCases : List Case
+unwrittenCases =
+    -- a head a word short; a record a word long; a 251st record
+    unwritten 1 0 (plainHead 2 ++ replicate 113 0 ++ 1 ∷ []) twoRecords
+    ∷ unwritten 1 0 (headTo 1) (twoRecords ++ 6 ∷ [])
+    ∷ unwritten 1 0 (headTo 1) (replicate 3012 6)
+    -- the head's last word is word 127 of its block
+    ∷ unwritten 4 127 (headTo 1) twoRecords
+    ∷ unwritten 5 1 (headTo 0) twoRecords
+    ∷ unwritten 11 0 (headTo 0) []
+    ∷ []
+
+abbrev pub UnwrittenRight : Type 0
+UnwrittenRight = AllRight unwrittenCases
