@@ -1,9 +1,9 @@
--- What the pages say of the writer of hour files, said of its contract as its callers read it: what it writes is read back as the same hour,
--- and an accepted file's own head and records give its bytes again; the program's bytes are put whole or not at all.
+-- What the pages say of the writer of hour files, said of its contract as its callers read it: what it writes is read back as the same
+-- hour, and an accepted file's own head and records give its bytes again; the program's bytes are put whole or not at all.
 use mathlib.Core.Path.{_≡_, refl, sym, _∙_, ap, subst}
-use mathlib.Core.List.{List, _++_}
+use mathlib.Core.List.{List}
 use Prim.Native.Nat.{ℕ, _≤_}
-use lib.ListN.{length, take, drop}
+use lib.ListN.{length, take}
 use lib.Seq.{take-append-seam}
 use contract.Lifetimes.{Lfts}
 use denote.Ref.{now}
@@ -44,7 +44,8 @@ module _ (head records before : List ℕ) where
 pub write-hour-keeps : (κs : Lfts 3) → Gives (write-hour.Post κs) (λ a x s. KeepsWriting (now (a .0)) (now (a .1 .0)) (now (a .1 .1 .0))
     (record { verdict = verdictOf (x .answer); length = x .length; file = now (s .1 .1 .0) }))
 write-hour-keeps κs a x s p =
-    keeps-as (now (a .0)) (now (a .1 .0)) (now (a .1 .1 .0)) (as-written _ _ _ (p .0) (p .1 .0) (p .1 .1 .0)) (p .1 .1 .1 .0) (p .1 .1 .1 .1)
+    keeps-as (now (a .0)) (now (a .1 .0)) (now (a .1 .1 .0)) (as-written _ _ _ (p .0) (p .1 .0) (p .1 .1 .0))
+    (p .1 .1 .1 .0) (p .1 .1 .1 .1)
 
 pub sneupelaar-write-hour-keeps : (κs : Lfts 3) → Gives (sneupelaar-write-hour.Post κs) (λ a x s.
     KeepsWriting (now (a .0)) (now (a .1 .0)) (now (a .1 .1 .0))

@@ -1,7 +1,7 @@
 -- What the program prints, by the input's length and words; and what the writer's promise says of it.
 use mathlib.Core.Path.{_≡_, refl, sym, _∙_, ap, subst}
 use mathlib.Core.Bool.{true, false, not, _||_}
-use mathlib.Core.List.{List, _++_}
+use mathlib.Core.List.{List}
 use Prim.Native.Nat.{ℕ, _-_, _/_, _%_, _≤_, _<_}
 use native.Mathlib.Nat.{zero-add}
 use native.Mathlib.Omega.{arith}
@@ -106,10 +106,11 @@ module _ (words : List ℕ) where
         let accepts : writeHour head records out .verdict ≡ accepted = sym (filed .verdict-is) ∙ ap verdictOf e in
         let h = hourFrom hourly head records in
         let length-is = length-values (fileByte hourly h) (fileLength hourly h) in
+        let room-for-it = room-there head records out accepts in
         rw (same-verdict, e) (record {
           next-is = filed .length-is ∙ rw (written head records out accepts) (omega (arith, length-is));
           after-is = filed .file-is ∙ rw (written head records out accepts) (sym (
-              sets-eq (valuesBelow (fileByte hourly h) (fileLength hourly h)) out 0 (omega (arith, length-is, room-there head records out accepts))
+              sets-eq (valuesBelow (fileByte hourly h) (fileLength hourly h)) out 0 (omega (arith, length-is, room-for-it))
               ∙ rw (length-is, zero-add) refl));
         })
 
@@ -120,4 +121,5 @@ module _ (words : List ℕ) where
     line-put {n} {end} refused put =
         let number-is : isAccepted (verdictOf (r .answer)) ≡ false = numbered (r .answer) refused in
         let same = changes-nothing head records out (λ e. never (rw (filed .verdict-is ∙ e) refl) number-is) .1 in
-        rw (same-verdict, number-is) (subst (λ (l : List ℕ). Put l 0 (refusedLine (verdictOf (r .answer))) n end) (filed .file-is ∙ same) put)
+        rw (same-verdict, number-is)
+        (subst (λ (l : List ℕ). Put l 0 (refusedLine (verdictOf (r .answer))) n end) (filed .file-is ∙ same) put)

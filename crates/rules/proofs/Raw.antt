@@ -1,19 +1,19 @@
 -- What the program write_hour prints: how long it can be, and that a reader that stops one byte past the longest input prints the same.
 -- Document 02, A2.
 use mathlib.Core.Path.{_≡_, refl, sym, _∙_, ap}
-use mathlib.Core.Bool.{true, not, _||_, or-true}
+use mathlib.Core.Bool.{or-true}
 use mathlib.Core.Option.{none}
 use mathlib.Core.List.{List}
-use Prim.Native.Nat.{ℕ, _+_, _-_, _*_, _/_, _%_, _≤_, _<_}
+use Prim.Native.Nat.{ℕ, _-_, _/_, _%_, _≤_, _<_}
 use native.Mathlib.Omega.{arith}
-use lib.ListN.{length, take, drop, length-drop}
+use lib.ListN.{length, take, length-drop}
 use lib.Seq.{take-all, length-take-le}
-use lib.Dec.{ltb, leb, eqb}
+use lib.Dec.{leb, eqb}
 use borrow.Author.Tests.{leb-true, leb-false, eqb-true, eqb-false, lt-ltb, le-ltb, ne-eqb}
 use Rattle.whole.proofs.Tests.{split}
 use Rattle.whole.proofs.Buffers.{length-values}
 use Rattle.rules.specs.HourFile.{hourly, word}
-use Rattle.rules.specs.HourWords.{hourFrom, fileByte, fileLength, fileOf, blocksFor}
+use Rattle.rules.specs.HourWords.{hourFrom, fileLength, fileOf}
 use Rattle.rules.specs.Refusals.{accepted, refusedAt, verdict, badLists, noRoom, writerRows}
 use Rattle.rules.specs.Settling.{isAccepted}
 use Rattle.rules.specs.Statement.{refusedLine}
@@ -26,7 +26,7 @@ use Rattle.rules.proofs.Writing.{lists-whole}
 -- ---- room for the longest file is enough for every one: row 11 decides nothing
 
 -- no hour that the writer accepts has more than 26 blocks
-pub file-most : (head records : List ℕ) → badLists head records ≡ none → fileLength hourly (hourFrom hourly head records) ≤ 13312
+file-most : (head records : List ℕ) → badLists head records ≡ none → fileLength hourly (hourFrom hourly head records) ≤ 13312
 unfolding fileLength hourFrom
 file-most head records e = omega (arith, some-blocks (hourFrom hourly head records), lists-whole head records e .2)
 
@@ -37,15 +37,15 @@ room-for-file head records room enough = last-decides-nothing (take 3 (writerRow
     rw (le-ltb room (fileLength hourly (hourFrom hourly head records)) (omega (arith, file-most head records (whole .0), enough))) refl)
 
 module _ (s : List ℕ) where
-  pub raw-numbered : Numbered (rawRows s)
+  raw-numbered : Numbered (rawRows s)
   unfolding rawRows writerRows
   raw-numbered = omega arith
 
-  pub raw-accepted : verdict (rawRows s) ≡ accepted → rawWritten s ≡ fileOf hourly (hourFrom hourly (rawHead s) (rawRecords s))
+  raw-accepted : verdict (rawRows s) ≡ accepted → rawWritten s ≡ fileOf hourly (hourFrom hourly (rawHead s) (rawRecords s))
   unfolding rawWritten
   raw-accepted e = rw e refl
 
-  pub raw-refused : (verdict (rawRows s) .number ≡ 0 → ⊥) → rawWritten s ≡ refusedLine (verdict (rawRows s))
+  raw-refused : (verdict (rawRows s) .number ≡ 0 → ⊥) → rawWritten s ≡ refusedLine (verdict (rawRows s))
   unfolding rawWritten
   raw-refused r = rw (ne-eqb (verdict (rawRows s) .number) 0 r) refl
 
@@ -73,7 +73,9 @@ module _ (s : List ℕ) where
   unfolding rawRows writerRows badLists verdict
   too-long-refused l = split (eqb (length s % 4) 0)
       (λ t. rw t (split (eqb (length (rawRecords s) % 12) 0)
-      (λ u. rw (u, lt-ltb 250 (length (rawRecords s) / 12) (omega (arith, many, eqb-true (length s % 4) 0 t, eqb-true (length (rawRecords s) % 12) 0 u)), or-true) refl)
+      (λ u. let whole-words = eqb-true (length s % 4) 0 t in
+      let whole-records = eqb-true (length (rawRecords s) % 12) 0 u in
+      rw (u, lt-ltb 250 (length (rawRecords s) / 12) (omega (arith, many, whole-words, whole-records)), or-true) refl)
       (λ u. rw (u, or-true) refl)))
       (λ t. rw t refl)
     where

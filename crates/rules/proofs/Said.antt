@@ -1,7 +1,7 @@
 -- Bytes that say an hour, word by word: the file of an hour does; such bytes pass rows 1 to 3 and hold that hour; a file that passes rows 1
 -- to 5 says its own hour; and no other bytes say an hour than its file. Document 02, A2; document 01, "The hour file".
 use mathlib.Core.Path.{_≡_, refl, sym, _∙_, ap, ap₂, subst, fun-ext}
-use mathlib.Core.Bool.{true, false, not, cond, _&&_}
+use mathlib.Core.Bool.{false, not, cond, _&&_}
 use mathlib.Core.Option.{none}
 use mathlib.Core.List.{List, [], _∷_}
 use Prim.Native.Nat.{ℕ, _+_, _-_, _*_, _/_, _%_, _≤_, _<_}
@@ -10,18 +10,19 @@ use native.Mathlib.Omega.{arith}
 use lib.ListN.{length, getD, List·getD-eq-default}
 use lib.Seq.{ext-getD}
 use lib.Dec.{ltb, leb, eqb}
-use borrow.Author.Tests.{ltb-true, ltb-false, leb-true, leb-false, eqb-true, eqb-false, lt-ltb, le-ltb, le-leb, lt-leb, eq-eqb, ne-eqb, not-false}
-use Rattle.whole.specs.Below.{sumBelow, valuesBelow}
+use borrow.Author.Tests.{ltb-true, ltb-false, leb-true, leb-false, eqb-true, eqb-false, not-false}
+use borrow.Author.Tests.{lt-ltb, le-ltb, le-leb, lt-leb, eq-eqb, ne-eqb}
+use Rattle.whole.specs.Below.{sumBelow}
 use Rattle.whole.proofs.Tests.{split, both}
-use Rattle.whole.proofs.Tables.{EachBelow, at-each}
+use Rattle.whole.proofs.Tables.{at-each}
 use Rattle.whole.proofs.Sums.{sum-ext}
 use Rattle.whole.proofs.Search.{first-none, none-below}
 use Rattle.whole.proofs.Buffers.{length-values, getD-values}
 use Rattle.rules.specs.Record.{Hour}
-use Rattle.rules.specs.HourFile.{hourly, word, blocks, blockWord, blockSum, lengthBad, recordCount, recordWord, hourOf}
+use Rattle.rules.specs.HourFile.{hourly, blocks, blockWord, blockSum, lengthBad, recordCount, recordWord, hourOf}
 use Rattle.rules.specs.HourWords.{byteOf, closing, blocksFor, heldIn, bodyWord, openWord, fileWord, fileByte, fileLength, fileOf}
 use Rattle.rules.specs.declared.Rule.the-variants.{Between}
-use Rattle.rules.specs.Ranges.{keeps, firstBroken, mustBe, countRule, pastRule, blockRule}
+use Rattle.rules.specs.Ranges.{keeps, firstBroken, mustBe, countRule, blockRule}
 use Rattle.rules.specs.Refusals.{isBroken, badLength, badSum, badBlock, tableRows, fileRows}
 use Rattle.rules.specs.Promises.{AllWhole}
 use Rattle.rules.specs.Finals.{AreBytes}
@@ -62,7 +63,7 @@ module _ (h : Hour) where
   held-last b l = rw (le-ltb (b + 1) n l)
 
   -- a block behind the first holds one to ten records, and those before it are full
-  pub held-some : (b : ℕ) → 1 ≤ b → b < n → (1 ≤ heldIn hourly h b) × (heldIn hourly h b ≤ 10) × (10 * (b - 1) + heldIn hourly h b ≤ h .count)
+  held-some : (b : ℕ) → 1 ≤ b → b < n → (1 ≤ heldIn hourly h b) × (heldIn hourly h b ≤ 10) × (10 * (b - 1) + heldIn hourly h b ≤ h .count)
   held-some b one l = split (ltb (b + 1) n)
       (λ t. rw (held-full b (ltb-true (b + 1) n t)) (omega (arith, some-blocks, ltb-true (b + 1) n t)))
       (λ t. rw (held-last b (ltb-false (b + 1) n t)) (omega (arith, some-blocks, ltb-false (b + 1) n t)))
@@ -72,7 +73,7 @@ module _ (h : Hour) where
   front b = cond (eqb b 0) 1 2 ∷ b ∷ cond (eqb b 0) (n - 1) (heldIn hourly h b) ∷ 0 ∷ 0 ∷ 0 ∷ 0 ∷ 0 ∷ []
 
   -- behind them stands its body
-  pub open-body : (b k : ℕ) → openWord hourly h b (8 + k) ≡ bodyWord hourly h b k
+  open-body : (b k : ℕ) → openWord hourly h b (8 + k) ≡ bodyWord hourly h b k
   unfolding openWord
   open-body b k =
       List·getD-eq-default (front b) (bodyWord hourly h b (8 + k - 8)) {n = 8 + k} (omega arith)
@@ -82,21 +83,21 @@ module _ (h : Hour) where
       back k = omega arith
 
   -- the first body is the head
-  pub first-body : (k : ℕ) → bodyWord hourly h 0 k ≡ h .head (8 + k)
+  first-body : (k : ℕ) → bodyWord hourly h 0 k ≡ h .head (8 + k)
   unfolding bodyWord
   first-body k = refl
 
   -- another has its records, and zeros past them
-  pub record-body : (b k : ℕ) → 1 ≤ b → k < 12 * heldIn hourly h b → bodyWord hourly h b k ≡ h .rec (10 * (b - 1) + k / 12) (k % 12)
+  record-body : (b k : ℕ) → 1 ≤ b → k < 12 * heldIn hourly h b → bodyWord hourly h b k ≡ h .rec (10 * (b - 1) + k / 12) (k % 12)
   unfolding bodyWord
   record-body b k one l = rw (ne-eqb b 0 (λ e. omega arith), lt-ltb k (12 * heldIn hourly h b) l)
 
-  pub past-body : (b k : ℕ) → 1 ≤ b → 12 * heldIn hourly h b ≤ k → bodyWord hourly h b k ≡ 0
+  past-body : (b k : ℕ) → 1 ≤ b → 12 * heldIn hourly h b ≤ k → bodyWord hourly h b k ≡ 0
   unfolding bodyWord
   past-body b k one l = rw (ne-eqb b 0 (λ e. omega arith), le-ltb k (12 * heldIn hourly h b) l)
 
   -- any word but word 7
-  pub not-seven : (b w : ℕ) → (w ≡ 7 → ⊥) → fileWord hourly h b w ≡ openWord hourly h b w
+  not-seven : (b w : ℕ) → (w ≡ 7 → ⊥) → fileWord hourly h b w ≡ openWord hourly h b w
   unfolding fileWord
   not-seven b w f = rw (ne-eqb w 7 f)
 
@@ -114,7 +115,8 @@ module _ (h : Hour) where
     unfolding openWord
     front-small b l = split (eqb b 0)
         (λ t. at-each (λ w. openWord hourly h b w < 0x1_0000_0000) 8 (rw t (omega (arith, few-blocks))))
-        (λ t. at-each (λ w. openWord hourly h b w < 0x1_0000_0000) 8 (rw t (omega (arith, few-blocks, held-some b (omega (arith, eqb-false b 0 t)) l))))
+        (λ t. let some = held-some b (omega (arith, eqb-false b 0 t)) l in
+        at-each (λ w. openWord hourly h b w < 0x1_0000_0000) 8 (rw t (omega (arith, few-blocks, some))))
       where
         few-blocks : n ≤ 26
         few-blocks = omega (arith, some-blocks, of-words .few)
@@ -125,7 +127,7 @@ module _ (h : Hour) where
         (λ t. rw t (of-words .head-small (8 + k)))
         (λ t. split (ltb k (12 * heldIn hourly h b)) (λ u. rw (t, u) (of-words .rec-small _ _)) (λ u. rw (t, u) (omega arith)))
 
-    pub file-word-small : (b w : ℕ) → b < n → fileWord hourly h b w < 0x1_0000_0000
+    file-word-small : (b w : ℕ) → b < n → fileWord hourly h b w < 0x1_0000_0000
     unfolding fileWord
     file-word-small b w l = split (eqb w 7)
         (λ t. rw t (closing-small (sumBelow (openWord hourly h b) 128)))
@@ -184,7 +186,7 @@ module _ (h : Hour) (b : ℕ) (there : b < blocksFor hourly h) where
           ∙ open-body h b (w - 8)
           ∙ past-body h b (w - 8) (omega (arith, other)) (omega arith)
 
-  pub block-kept : (w : ℕ) → Keeps w
+  block-kept : (w : ℕ) → Keeps w
   block-kept w = split (ltb w 7)
       (λ t. front-kept w (ltb-true w 7 t))
       (λ t. split (eqb b 0)
@@ -237,7 +239,8 @@ module _ (s : List ℕ) (h : Hour) (says : Says s h) where
   pub sums-whole : badSum s ≡ none
   unfolding badSum blockSum fileWord
   sums-whole = none-below _ (blocks s) (λ b l. ap not (eq-eqb _ 0 (
-      ap (λ (k : ℕ). k % 0x1_0000_0000) (sum-ext (blockWord s b) (fileWord hourly h b) 128 (λ w m. says .word-is b w (rw blocks-are at l) m))
+      ap (λ (k : ℕ). k % 0x1_0000_0000)
+      (sum-ext (blockWord s b) (fileWord hourly h b) 128 (λ w m. says .word-is b w (rw blocks-are at l) m))
       ∙ closed-sum (openWord hourly h b) 128 (omega arith) (still-zero h b))))
 
   pub blocks-whole : badBlock hourly s ≡ none
@@ -342,7 +345,8 @@ module _ (s : List ℕ) (bytes : AreBytes s) (whole : AllWhole (fileRows s)) whe
 
   last-held : 1 < N → (1 ≤ blockWord s (N - 1) 2) × (blockWord s (N - 1) 2 ≤ 10)
   unfolding blockRule countRule
-  last-held l = rw (ne-eqb (N - 1) 0 (λ e. omega arith), le-ltb (N - 1 + 1) N (omega arith)) at (block-holds (N - 1) 2 (omega arith) (omega arith))
+  last-held l = rw (ne-eqb (N - 1) 0 (λ e. omega arith), le-ltb (N - 1 + 1) N (omega arith)) at
+      (block-holds (N - 1) 2 (omega arith) (omega arith))
 
   -- one block has no records, more have full ones between the first and the last
   count-one : N ≤ 1 → h .count ≡ 0
@@ -422,7 +426,8 @@ module _ (s : List ℕ) (bytes : AreBytes s) (whole : AllWhole (fileRows s)) whe
   past-said b k one l m q =
       let far : 8 + 12 * blockWord s b 2 ≤ 8 + k = omega (arith, held-said b one l) in
       let kept = first-none _ 128 (unbroken _ (first-none _ N (whole .1 .1 .0) b l)) (8 + k) (omega arith) in
-      let zero-there = sym (past-records hourly N (blockWord s b 2) b (8 + k) (blockWord s b (8 + k)) (λ e. omega arith) (omega arith)) ∙ kept in
+      let v : ℕ = blockWord s b (8 + k) in
+      let zero-there = sym (past-records hourly N (blockWord s b 2) b (8 + k) v (λ e. omega arith) (omega arith)) ∙ kept in
       sym (eqb-true _ 0 (not-false _ (rw (le-leb _ _ far) at zero-there)))
 
   body-said : (b k : ℕ) → b < N → k < 120 → bodyWord hourly h b k ≡ blockWord s b (8 + k)
@@ -459,7 +464,8 @@ module _ (s : List ℕ) (bytes : AreBytes s) (whole : AllWhole (fileRows s)) whe
 
 pub only-file : (s : List ℕ) (h : Hour) → AreBytes s → Says s h → fileOf hourly h ≡ s
 unfolding fileLength blockWord
-only-file s h bytes says = ext-getD 0 (fileOf hourly h) s (length-of-file h ∙ sym (says .length-is)) (λ k l. byte k (rw (length-of-file h) at l))
+only-file s h bytes says =
+    ext-getD 0 (fileOf hourly h) s (length-of-file h ∙ sym (says .length-is)) (λ k l. byte k (rw (length-of-file h) at l))
   where
     byte : (k : ℕ) → k < 512 * blocksFor hourly h → getD (fileOf hourly h) k 0 ≡ getD s k 0
     byte k l =

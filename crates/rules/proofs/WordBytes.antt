@@ -1,6 +1,6 @@
 -- Words as bytes: four bytes make their word again, and a word its bytes; the word that makes a sum zero, and that no other does.
 -- Document 01, "The hour file"; document 02, A2.
-use mathlib.Core.Path.{_≡_, refl, sym, _∙_, ap, ap₂}
+use mathlib.Core.Path.{_≡_, sym, _∙_, ap}
 use mathlib.Core.Bool.{cond}
 use mathlib.Core.List.{List}
 use Prim.Native.Nat.{ℕ, _+_, _*_, _%_, _^_, _<_}
@@ -10,7 +10,7 @@ use lib.Dec.{eqb}
 use borrow.Author.Tests.{eqb-true, eqb-false}
 use Rattle.whole.specs.Below.{sumBelow}
 use Rattle.whole.proofs.Tests.{split}
-use Rattle.whole.proofs.Tables.{EachBelow, at-each}
+use Rattle.whole.proofs.Tables.{at-each}
 use Rattle.whole.proofs.Sums.{sum-ext, sum-with}
 use Rattle.rules.specs.HourFile.{word}
 use Rattle.rules.specs.HourWords.{byteOf, closing}
@@ -22,7 +22,7 @@ pub word-most : (s : List ℕ) → ((i : ℕ) → getD s i 0 < 256) → (k : ℕ
 unfolding word
 word-most s b k = omega (arith, b (4 * k), b (4 * k + 1), b (4 * k + 2), b (4 * k + 3))
 
-pub bytes-make-word : (v : ℕ) → byteOf v 0 + 256 * byteOf v 1 + 65536 * byteOf v 2 + 16777216 * byteOf v 3 ≡ v % 0x1_0000_0000
+bytes-make-word : (v : ℕ) → byteOf v 0 + 256 * byteOf v 1 + 65536 * byteOf v 2 + 16777216 * byteOf v 3 ≡ v % 0x1_0000_0000
 unfolding byteOf
 bytes-make-word v = omega arith
 
@@ -79,7 +79,7 @@ module _ (plain : ℕ → ℕ) (n : ℕ) (there : 7 < n) (still-zero : plain 7 �
   pub only-word-7 : (word : ℕ → ℕ) → word 7 < 0x1_0000_0000 → sumBelow word n % 0x1_0000_0000 ≡ 0 →
       ((w : ℕ) → w < n → (w ≡ 7 → ⊥) → word w ≡ plain w) → closing (sumBelow plain n) ≡ word 7
   only-word-7 word small zero-sum same = closing-only (sumBelow plain n) (word 7) small (
-      ap (λ (k : ℕ). k % 0x1_0000_0000) (sym (sum-ext word _ n (λ w l. term w l) ∙ sum-with plain (word 7) n 7 there still-zero)) ∙ zero-sum)
+      ap (λ (k : ℕ). k % 0x1_0000_0000) (sym (sum-ext word _ n term ∙ sum-with plain (word 7) n 7 there still-zero)) ∙ zero-sum)
     where
       term : (w : ℕ) → w < n → word w ≡ cond (eqb w 7) (word 7) (plain w)
       term w l = split (eqb w 7) (λ e. rw e (ap word (eqb-true w 7 e))) (λ e. rw e (same w l (eqb-false w 7 e)))

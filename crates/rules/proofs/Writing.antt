@@ -1,30 +1,31 @@
 -- What is asked of the writer of hour files. Document 02, A2.
 use mathlib.Core.Path.{_≡_, refl, sym, _∙_, ap, ap₂}
 use mathlib.Core.Logic.{_↔_}
-use mathlib.Core.Bool.{true, false, not, cond, _&&_, _||_}
+use mathlib.Core.Bool.{not, _&&_, _||_}
 use mathlib.Core.Option.{none}
 use mathlib.Core.List.{List, _++_}
 use Prim.Native.Nat.{ℕ, suc, _+_, _-_, _*_, _/_, _%_, _≤_, _<_}
 use native.Mathlib.Omega.{arith}
-use lib.ListN.{length, take, drop, getD}
+use lib.ListN.{length, drop}
 use lib.Seq.{take-at}
 use lib.Dec.{ltb, leb, eqb}
-use borrow.Author.Tests.{ltb-true, ltb-false, leb-true, eqb-true, lt-ltb, le-ltb, eq-eqb, not-false}
+use borrow.Author.Tests.{ltb-true, ltb-false, leb-true, eqb-true, le-ltb, eq-eqb, not-false}
 use Rattle.whole.specs.Below.{valuesBelow, replacingFirst}
 use Rattle.whole.proofs.Tests.{split, both, neither}
 use Rattle.whole.proofs.Buffers.{length-values, getD-values, length-replacing, drop-replacing}
 use Rattle.rules.specs.Record.{Hour}
-use Rattle.rules.specs.HourFile.{hourly, blocks, blockWord, recordCount, recordWord, hourOf}
+use Rattle.rules.specs.HourFile.{hourly, blockWord, recordCount, recordWord, hourOf}
 use Rattle.rules.specs.HourWords.{hourFrom, headWords, recordWords, fileByte, fileLength, fileOf}
-use Rattle.rules.specs.Refusals.{Verdict, accepted, refusedAt, verdict, badLists, badHead, badRecord, noRoom, tableRows, fileRows, writerRows}
+use Rattle.rules.specs.Refusals.{Verdict, accepted, refusedAt, verdict, badLists, badHead, badRecord, noRoom}
+use Rattle.rules.specs.Refusals.{tableRows, fileRows, writerRows}
 use Rattle.rules.specs.Settling.{HourWritten, isAccepted, writeHour}
 use Rattle.rules.specs.Promises.{AllWhole, FirstBrokenRow}
 use Rattle.rules.specs.Finals.{AreBytes}
 use Rattle.rules.specs.Writing.{AreWords, fileIn, Writing}
 use Rattle.rules.proofs.Rows.{Numbered, accepts-when-whole, zero-accepts, refuses-at-first, file-numbered, no-place}
-use Rattle.rules.proofs.Words.{head-word, record-count, record-word, head-before, head-past}
+use Rattle.rules.proofs.Words.{record-count}
 use Rattle.rules.proofs.Kept.{file-kept}
-use Rattle.rules.proofs.Said.{Says, OfWords, file-says, length-whole, sums-whole, blocks-whole, says-holds, same-hour, own-hour, only-file}
+use Rattle.rules.proofs.Said.{OfWords, file-says, length-whole, sums-whole, blocks-whole, says-holds, same-hour, own-hour, only-file}
 
 -- ---- the writer's rows
 
@@ -42,8 +43,10 @@ module _ (head records : List ℕ) where
     pub lists-whole : (length head ≡ 120) × (length records % 12 ≡ 0) × (length records / 12 ≤ 250)
     unfolding badLists
     lists-whole =
-        let a = neither (not (eqb (length head) 120) || not (eqb (length records % 12) 0)) (ltb 250 (length records / 12)) (no-place _ whole) in
-        let b = neither (not (eqb (length head) 120)) (not (eqb (length records % 12) 0)) (a .0) in
+        let head-other = not (eqb (length head) 120) in
+        let cut = not (eqb (length records % 12) 0) in
+        let a = neither (head-other || cut) (ltb 250 (length records / 12)) (no-place _ whole) in
+        let b = neither head-other cut (a .0) in
         (eqb-true _ _ (not-false _ (b .0)), eqb-true _ _ (not-false _ (b .1)), ltb-false _ _ (a .1))
 
     lists-of-words : AreWords head → AreWords records → OfWords h
@@ -84,7 +87,7 @@ module _ (head records : List ℕ) where
         (λ t. rw t (refl, refl))
 
     pub written : w .verdict ≡ accepted →
-        w ≡ record { verdict = accepted; length = fileLength hourly h; file = replacingFirst (fileByte hourly h) (fileLength hourly h) file }
+        let n = fileLength hourly h in w ≡ record { verdict = accepted; length = n; file = replacingFirst (fileByte hourly h) n file }
     unfolding writeHour
     written e = let a : rows ≡ accepted = sym verdict-is ∙ e in rw a refl
 
@@ -128,7 +131,7 @@ pub as-written : (head records file : List ℕ) {v : Verdict} {n : ℕ} {after :
     v ≡ w .verdict → n ≡ w .length → after ≡ w .file → record { verdict = v; length = n; file = after } ≡ w
 as-written head records file {after = after} e f g =
     ap₂ (λ (u : Verdict) (m : ℕ). record { verdict = u; length = m; file = after }) e f
-    ∙ ap (λ (l : List ℕ). record { verdict = writeHour head records file .verdict; length = writeHour head records file .length; file = l }) g
+    ∙ ap (λ (l : List ℕ). let w = writeHour head records file in record { verdict = w .verdict; length = w .length; file = l }) g
 
 -- ---- a file's own head and records
 
@@ -186,7 +189,11 @@ module _ (s : List ℕ) where
         ap badHead own-lists ∙ whole .1 .1 .1 .0,
         (
           ap badRecord own-lists ∙ whole .1 .1 .1 .1 .0,
-          (rw (own-lists, le-ltb room (fileLength hourly (hourOf hourly s)) (omega (arith, own-hour s bytes whole .length-is, enough))) refl, tt),
+          (
+            rw (own-lists, le-ltb room (fileLength hourly (hourOf hourly s)) (omega (arith, own-hour s bytes whole .length-is, enough)))
+                refl,
+            tt,
+          ),
         ),
       ),
     )
@@ -195,7 +202,8 @@ module _ (s : List ℕ) where
         few = rw (← record-count hourly s) (file-kept s whole .hour-kept .count-most)
 
     same-bytes : (file : List ℕ) → length s ≤ length file →
-        writeHour (headWords s) (recordWords hourly s) file ≡ record { verdict = accepted; length = length s; file = s ++ drop (length s) file }
+        writeHour (headWords s) (recordWords hourly s) file
+        ≡ record { verdict = accepted; length = length s; file = s ++ drop (length s) file }
     unfolding replacingFirst fileOf
     same-bytes file enough =
         let passed = accepts (headWords s) (recordWords hourly s) file .1 (own-lists-pass (length file) enough) in

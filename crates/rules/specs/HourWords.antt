@@ -1,5 +1,5 @@
--- An hour as lists of words, a head and records, and the file that says an hour, byte by byte. Document 02, A2; the layout is document 01's,
--- "The hour file".
+-- An hour as lists of words, a head and records, and the file that says an hour, byte by byte.
+-- Document 02, A2; the layout is document 01's, "The hour file".
 use Prim.Native.Nat.{ℕ, _+_, _-_, _*_, _/_, _%_}
 use mathlib.Core.Bool.{cond, _&&_}
 use mathlib.Core.List.{List, [], _∷_}
@@ -12,8 +12,8 @@ use Rattle.rules.specs.HourFile.{blockWord, recordCount, recordWord}
 
 -- ---- a head and a list of records
 
--- the hour that they say: the head is words 8 to 127 of the first block, a record so many words of the list; 0 at every place that they have
--- not
+-- the hour that they say: the head is words 8 to 127 of the first block, a record so many words of the list; 0 at every place that they
+-- have not
 unfoldable pub hourFrom : Layout → (head records : List ℕ) → Hour
 hourFrom l head records = let count = length records / l .words in record {
   head = λ w. cond (leb 8 w && ltb w 128) (getD head (w - 8) 0) 0;

@@ -37,4 +37,5 @@ pub record Writing : Type 0 where
       w .verdict ≡ accepted → (drop (w .length) (w .file) ≡ drop (w .length) file) × (length (w .file) ≡ length file)
   -- the head and records of a file that passes rows 1 to 5, written into a buffer of any content, give the same bytes
   pub same-bytes : (s file : List ℕ) → AreBytes s → verdict (fileRows s) ≡ accepted → length s ≤ length file →
-      writeHour (headWords s) (recordWords hourly s) file ≡ record { verdict = accepted; length = length s; file = s ++ drop (length s) file }
+      writeHour (headWords s) (recordWords hourly s) file
+      ≡ record { verdict = accepted; length = length s; file = s ++ drop (length s) file }

@@ -38,7 +38,7 @@ module _ {ℓ} {A : Type ℓ} (f : ℕ → A) where
       (λ m. List·getD-append (valuesBelow f n) (f n ∷ []) d i (let e = length-values n in omega arith) ∙ getD-values n i d m)
 
   -- the first n, then the others
-  pub values-then : (n m : ℕ) → valuesBelow f (n + m) ≡ valuesBelow f n ++ valuesBelow (λ i. f (n + i)) m
+  values-then : (n m : ℕ) → valuesBelow f (n + m) ≡ valuesBelow f n ++ valuesBelow (λ i. f (n + i)) m
   unfolding valuesBelow
   values-then n zero = rw add-zero (sym (append-nil (valuesBelow f n)))
   values-then n (suc m) =

@@ -43,7 +43,8 @@ returns c =
     let w = m .before .before .before in
     let s = w .before .before .before .before .before .before in
     let e = w .write-hour .ensures in
-    line-put (s .args .words .now) (w .write-hour .result) (s .pre .1) (record { verdict-is = e .0; length-is = e .1 .0; file-is = e .1 .1 .0 })
+    line-put (s .args .words .now) (w .write-hour .result) (s .pre .1)
+    (record { verdict-is = e .0; length-is = e .1 .0; file-is = e .1 .1 .0 })
     (λ a. no-other (rw a at (m .match .keys2))) (p .put-refused .ensures)
 
 -- out, at the end
@@ -56,7 +57,8 @@ returns-2 c =
     let w = c .before .before .before .before in
     let s = w .before .before .before .before .before .before in
     let e = w .write-hour .ensures in
-    file-put (s .args .words .now) (w .write-hour .result) (s .pre .1) (record { verdict-is = e .0; length-is = e .1 .0; file-is = e .1 .1 .0 }) (c .enum-told .given .1)
+    file-put (s .args .words .now) (w .write-hour .result) (s .pre .1)
+    (record { verdict-is = e .0; length-is = e .1 .0; file-is = e .1 .1 .0 }) (c .enum-told .given .1)
 
 pub put-hour-spec : {M : Type 1} → statement M
 put-hour-spec =
