@@ -22,7 +22,9 @@ pub mod Neutral
 pub mod Demands
 pub mod Finals
 pub mod WordBytes
+pub mod FileWords
 pub mod Said
+pub mod OwnHour
 pub mod Stated
 pub mod Sheet
 pub mod Told

@@ -20,7 +20,8 @@ use Rattle.rules.specs.Statement.{refusedLine}
 use Rattle.rules.specs.RawHour.{rawWords, rawHead, rawRecords, rawRows, rawWritten}
 use Rattle.rules.proofs.Rows.{Numbered, accepts-when-whole, zero-accepts, last-decides-nothing}
 use Rattle.rules.proofs.Stated.{refused-line-most}
-use Rattle.rules.proofs.Said.{some-blocks, length-of-file}
+use Rattle.rules.proofs.FileWords.{some-blocks}
+use Rattle.rules.proofs.Said.{length-of-file}
 use Rattle.rules.proofs.Writing.{lists-whole}
 
 -- ---- room for the longest file is enough for every one: row 11 decides nothing

@@ -25,7 +25,9 @@ use Rattle.rules.specs.Writing.{AreWords, fileIn, Writing}
 use Rattle.rules.proofs.Rows.{Numbered, accepts-when-whole, zero-accepts, refuses-at-first, file-numbered, no-place}
 use Rattle.rules.proofs.Words.{record-count}
 use Rattle.rules.proofs.Kept.{file-kept}
-use Rattle.rules.proofs.Said.{OfWords, file-says, length-whole, sums-whole, blocks-whole, says-holds, same-hour, own-hour, only-file}
+use Rattle.rules.proofs.FileWords.{OfWords}
+use Rattle.rules.proofs.Said.{file-says, length-whole, sums-whole, blocks-whole, says-holds, same-hour, only-file}
+use Rattle.rules.proofs.OwnHour.{own-hour}
 
 -- ---- the writer's rows
 
