@@ -25,17 +25,17 @@ use Rattle.rules.proofs.Raw.{too-long-refused, room-for-file}
 use Rattle.answer.proofs.Refusing.{numbered}
 use Rattle.writer.specs.Promised.{HasFiled}
 use Rattle.printing.specs.Put.{Put}
-use Rattle.rawhour.specs.Filing.{lengthBad, wordsWritten}
+use Rattle.rawhour.specs.Filing.{inputBad, wordsWritten}
 
 module _ (s : List ℕ) where
-  length-good : lengthBad (length s) ≡ false → (length s % 4 ≡ 0) × (480 ≤ length s) × (length s ≤ 12480)
-  unfolding lengthBad
+  length-good : inputBad (length s) ≡ false → (length s % 4 ≡ 0) × (480 ≤ length s) × (length s ≤ 12480)
+  unfolding inputBad
   length-good e =
       let a = neither (not (eqb (length s % 4) 0) || ltb (length s) 480) (ltb 12480 (length s)) e in
       let b = neither (not (eqb (length s % 4) 0)) (ltb (length s) 480) (a .0) in
       (eqb-true _ _ (not-false _ (b .0)), ltb-false _ _ (b .1), ltb-false _ _ (a .1))
 
-  pub words-fit : lengthBad (length s) ≡ false → length s / 4 ≤ 3120
+  pub words-fit : inputBad (length s) ≡ false → length s / 4 ≤ 3120
   words-fit good = omega (arith, length-good good)
 
   words-length : length (rawWords s) ≡ length s / 4
@@ -53,8 +53,8 @@ module _ (s : List ℕ) where
       (λ t. rw t refl)
 
   -- a length that isn't good is refusal 1
-  pub bad-length : lengthBad (length s) ≡ true → rawWritten s ≡ refusedLine (refusedAt 1 0)
-  unfolding rawWritten lengthBad
+  pub bad-length : inputBad (length s) ≡ true → rawWritten s ≡ refusedLine (refusedAt 1 0)
+  unfolding rawWritten inputBad
   bad-length e = rw refused refl
     where
       refused : verdict (rawRows s) ≡ refusedAt 1 0
@@ -69,7 +69,7 @@ module _ (s : List ℕ) where
   unfolding rawWritten rawRows wordsWritten verdict
   good-length e = rw (eq-eqb (length s % 4) 0 e) refl
 
-  pub by-words : {words : List ℕ} {n : ℕ} → lengthBad (length s) ≡ false → n ≡ length s / 4 → words ≡ valuesBelow (word s) n →
+  pub by-words : {words : List ℕ} {n : ℕ} → inputBad (length s) ≡ false → n ≡ length s / 4 → words ≡ valuesBelow (word s) n →
       (120 ≤ length words) × (wordsWritten words ≡ rawWritten s)
   unfolding rawWords
   by-words {words} {n} good n-is are =

@@ -16,8 +16,8 @@ abbrev pub filing : (s out : List ℕ) → Shown
 filing s out = shown 13312 (rawWritten s) out
 
 -- no whole words, fewer than a head's 120, or more than a head's and 250 records'
-unfoldable pub lengthBad : ℕ → Bool
-lengthBad bytes = not (eqb (bytes % 4) 0) || ltb bytes 480 || ltb 12480 bytes
+unfoldable pub inputBad : ℕ → Bool
+inputBad bytes = not (eqb (bytes % 4) 0) || ltb bytes 480 || ltb 12480 bytes
 
 -- a list of words: the file of its head and records, or the line of the first of the writer's rows that they break
 unfoldable pub wordsWritten : List ℕ → List ℕ

@@ -8,15 +8,15 @@ ghost use Rattle.whole.specs.Below.{valuesBelow};
 ghost use Rattle.rules.specs.HourFile as HourFile;
 ghost use Rattle.rules.specs.RawHour as RawHour;
 ghost use Rattle.printing.specs.Put.{Put};
-ghost use Rattle.rawhour.specs.Filing.{lengthBad, filing, wordsWritten};
+ghost use Rattle.rawhour.specs.Filing.{inputBad, filing, wordsWritten};
 use rules::Answer;
 
 // The most bytes that are put: a file of 26 blocks.
 pub const LONGEST: usize = 13312;
 
 // Whether so many bytes are no whole words, fewer than a head's, or more than a head's and 250 records'.
-fn length_bad(bytes: usize) -> bool
-    ensures { λ r. ⌜ r ≡ lengthBad bytes ⌝ }
+fn input_bad(bytes: usize) -> bool
+    ensures { λ r. ⌜ r ≡ inputBad bytes ⌝ }
 {
     if bytes % 4 != 0 {
         return true;
@@ -55,7 +55,7 @@ fn put_hour(words: &[u32], out: &mut [u8]) -> usize
 
 // The same of the input's words, for which as many places are lent.
 fn put_input(input: &[u8], words: &mut [u32], out: &mut [u8]) -> usize
-    requires { ⌜ (lengthBad (length (now input)) ≡ false) × (length (now words) ≡ length (now input) / 4) × (13312 ≤ length (now out)) ⌝ }
+    requires { ⌜ (inputBad (length (now input)) ≡ false) × (length (now words) ≡ length (now input) / 4) × (13312 ≤ length (now out)) ⌝ }
     ensures { λ r. ⌜ Put (now (out .entry)) 0 (RawHour.rawWritten (now (input .entry))) r (now (out .exit)) ⌝ }
 {
     put_words(input, words);
@@ -71,7 +71,7 @@ pub fn write_raw(input: &[u8], out: &mut [u8]) -> usize
     if out.len() < LONGEST {
         return 0;
     }
-    if length_bad(input.len()) {
+    if input_bad(input.len()) {
         return printing::put_refused(out, Answer::BadLength);
     }
     let mut words = [0u32; 3120];

@@ -16,7 +16,7 @@ use Rattle.whole.proofs.Buffers.{replacing-none, replacing-then}
 use Rattle.rules.specs.Record.{Hour}
 use Rattle.rules.specs.HourFile.{hourly}
 use Rattle.rules.specs.HourWords.{closing, blocksFor, heldIn, bodyWord, openWord, fileWord, fileByte}
-use Rattle.writer.specs.Lists.{hourIn, ListsWhole}
+use Rattle.writer.specs.Lists.{hourOfLists, ListsWhole}
 use Rattle.writer.specs.Stored.{bytesOf, openBlock, closedBlock, blockBytes, blockPlaced, heldWords}
 use Rattle.writer.proofs.Said.{said-count, said-head, said-word, block-count, gap}
 
@@ -53,7 +53,7 @@ module _ (h : Hour) (b mark count : ℕ) (body : List ℕ) (mark-is : mark ≡ c
 
 module _ (head records : List ℕ) (whole : ListsWhole head records) where
   abbrev h : Hour
-  h = hourIn head records
+  h = hourOfLists head records
 
   module _ (b : ℕ) (some : 1 ≤ b) (there : b < blocksFor hourly h) where
     abbrev from : ℕ

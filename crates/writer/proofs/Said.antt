@@ -19,7 +19,7 @@ use Rattle.rules.specs.Ranges.{keeps, headRule, firstBroken}
 use Rattle.rules.specs.Refusals.{isBroken, badLists, badHead, badWord, noRoom}
 use Rattle.rules.proofs.Faults.{head-any}
 use Rattle.rules.proofs.Writing.{lists-whole as lists-pass}
-use Rattle.writer.specs.Lists.{hourIn, ListsWhole, recordBad}
+use Rattle.writer.specs.Lists.{hourOfLists, ListsWhole, recordBad}
 
 -- whether word w of the first block, as the head has it, breaks its rule
 abbrev pub headBad : List ℕ → ℕ → Bool
@@ -27,7 +27,7 @@ headBad head w = not (keeps (headRule (getD head 2 0) (getD head 3 0) w) (getD h
 
 module _ (head records : List ℕ) where
   abbrev h : Hour
-  h = hourIn head records
+  h = hourOfLists head records
 
   -- ---- words
 

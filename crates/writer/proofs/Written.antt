@@ -15,12 +15,12 @@ use Rattle.rules.specs.Settling.{isAccepted, writeHour}
 use Rattle.rules.proofs.Rows.{accepts-when-whole}
 use Rattle.rules.proofs.Writing.{writer-numbered, verdict-is, written, room-there}
 use Rattle.answer.proofs.Refusing.{numbered}
-use Rattle.writer.specs.Lists.{hourIn, ListsWhole}
+use Rattle.writer.specs.Lists.{hourOfLists, ListsWhole}
 use Rattle.writer.proofs.Said.{lists-whole}
 
 module _ (head records file : List ℕ) where
   abbrev h : Hour
-  h = hourIn head records
+  h = hourOfLists head records
 
   abbrev rows : List Row
   rows = writerRows head records (length file)

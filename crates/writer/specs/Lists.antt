@@ -11,14 +11,14 @@ use Rattle.rules.specs.Ranges.{firstBroken, recordRule}
 use Rattle.rules.specs.Refusals.{isBroken}
 
 -- the hour that the lists say
-abbrev pub hourIn : (head records : List ℕ) → Hour
-hourIn head records = hourFrom hourly head records
+abbrev pub hourOfLists : (head records : List ℕ) → Hour
+hourOfLists head records = hourFrom hourly head records
 
 -- so many words to a head, and at most 250 whole records
 pub record ListsWhole (head records : List ℕ) : Type 0 where
   pub head-whole : length head ≡ 120
-  pub records-whole : length records ≡ 12 * hourIn head records .count
-  pub few-records : hourIn head records .count ≤ 250
+  pub records-whole : length records ≡ 12 * hourOfLists head records .count
+  pub few-records : hourOfLists head records .count ≤ 250
 
 -- a record's words by themselves, for so many members and areas
 unfoldable pub recordBad : (members areas : ℕ) → List ℕ → Bool

@@ -10,7 +10,7 @@ ghost use Rattle.rules.specs.HourWords as HourWords;
 ghost use Rattle.rules.specs.Refusals as Refusals;
 ghost use Rattle.rules.specs.Settling as Settling;
 ghost use Rattle.rules.specs.Writing.{AreWords};
-ghost use Rattle.writer.specs.Lists.{hourIn, ListsWhole};
+ghost use Rattle.writer.specs.Lists.{hourOfLists, ListsWhole};
 ghost use Rattle.writer.specs.Stored.{blockBytes, blockPlaced, heldWords};
 
 mod block;
@@ -42,13 +42,14 @@ fn put_at(file: &mut [u8], b: usize, mark: u32, count: u32, body: &[u32])
     block::put_block(&mut file[from..to], mark, b as u32, count, body)
 }
 
-// The whole file at the start of the buffer.
-fn put_file(head: &[u32], records: &[u32], file: &mut [u8])
+// The whole file at the start of the buffer; its length is handed back.
+fn put_file(head: &[u32], records: &[u32], file: &mut [u8]) -> usize
     requires { ⌜ ListsWhole (now head) (now records)
-        × (HourWords.fileLength hourly (hourIn (now head) (now records)) ≤ length (now file)) ⌝ }
-    ensures { λ r. ⌜ now (file .exit)
-        ≡ replacingFirst (HourWords.fileByte hourly (hourIn (now (head .entry)) (now (records .entry))))
-        (HourWords.fileLength hourly (hourIn (now (head .entry)) (now (records .entry)))) (now (file .entry)) ⌝ }
+        × (HourWords.fileLength hourly (hourOfLists (now head) (now records)) ≤ length (now file)) ⌝ }
+    ensures length { λ r. ⌜ r ≡ HourWords.fileLength hourly (hourOfLists (now (head .entry)) (now (records .entry))) ⌝ }
+    ensures file { λ r. ⌜ now (file .exit)
+        ≡ replacingFirst (HourWords.fileByte hourly (hourOfLists (now (head .entry)) (now (records .entry))))
+        (HourWords.fileLength hourly (hourOfLists (now (head .entry)) (now (records .entry)))) (now (file .entry)) ⌝ }
 {
     let blocks = lists::blocks_for(records);
     put_at(file, 0, 1, (blocks - 1) as u32, head);
@@ -58,6 +59,7 @@ fn put_file(head: &[u32], records: &[u32], file: &mut [u8])
         put_at(file, b, 2, (held.len() / 12) as u32, held);
         b += 1;
     }
+    512 * blocks
 }
 
 // Writes the hour file of a head and records at the start of `file`.
@@ -75,8 +77,7 @@ pub fn write_hour(head: &[u32], records: &[u32], file: &mut [u8]) -> Filed
             length: 0,
         };
     };
-    put_file(head, records, file);
-    let length = 512 * lists::blocks_for(records);
+    let length = put_file(head, records, file);
     Filed {
         answer: answer,
         length: length,

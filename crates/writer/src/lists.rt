@@ -10,7 +10,7 @@ ghost use Rattle.rules.specs.HourFile.{hourly};
 ghost use Rattle.rules.specs.Ranges as Ranges;
 ghost use Rattle.rules.specs.Refusals as Refusals;
 ghost use Rattle.rules.specs.Inner.Searched.{foundAt};
-ghost use Rattle.writer.specs.Lists.{hourIn, recordBad};
+ghost use Rattle.writer.specs.Lists.{hourOfLists, recordBad};
 use rules::Answer;
 use rules::Found;
 
@@ -43,7 +43,7 @@ fn head_word_bad(head: &[u32], zones: u32, areas: u32, w: usize) -> bool
 // The first word that breaks layout or range, by its number in the first block; from word 48 on all are zero.
 fn bad_head(head: &[u32]) -> Found
     requires { ⌜ length (now head) ≡ 120 ⌝ }
-    ensures { λ r. ⌜ ((records : List ℕ) → foundAt r ≡ Refusals.badHead (hourIn (now (head .entry)) records)) ⌝ }
+    ensures { λ r. ⌜ ((records : List ℕ) → foundAt r ≡ Refusals.badHead (hourOfLists (now (head .entry)) records)) ⌝ }
 {
     let zones = head[2];
     let areas = head[3];
@@ -84,7 +84,7 @@ fn record_bad(words: &[u32], members: u32, areas: u32) -> bool
 // The first such record.
 fn bad_record(head: &[u32], records: &[u32]) -> Found
     requires { ⌜ length (now head) ≡ 120 ⌝ }
-    ensures { λ r. ⌜ foundAt r ≡ Refusals.badRecord (hourIn (now (head .entry)) (now (records .entry))) ⌝ }
+    ensures { λ r. ⌜ foundAt r ≡ Refusals.badRecord (hourOfLists (now (head .entry)) (now (records .entry))) ⌝ }
 {
     let members = head[1];
     let areas = head[3];
@@ -105,7 +105,7 @@ fn bad_record(head: &[u32], records: &[u32]) -> Found
 
 // How many blocks the file has: the first, and one for every ten records or part of them.
 pub fn blocks_for(records: &[u32]) -> usize
-    ensures { λ r. ⌜ ((head : List ℕ) → r ≡ HourWords.blocksFor hourly (hourIn head (now (records .entry)))) ⌝ }
+    ensures { λ r. ⌜ ((head : List ℕ) → r ≡ HourWords.blocksFor hourly (hourOfLists head (now (records .entry)))) ⌝ }
 {
     1 + (records.len() / 12 + 9) / 10
 }

@@ -15,8 +15,8 @@ use Rattle.rawhour.proofs.write_raw.Tie as tie
 returns : tie.Need-returns
 returns c = no-room (rawWritten (c .before .before .before .args .input .now)) (omega (arith, c .if1 .taken))
 
-length-bad-requires : tie.Need-length-bad-requires
-length-bad-requires c κs = search needs
+input-bad-requires : tie.Need-input-bad-requires
+input-bad-requires c κs = search needs
 
 put-refused-requires : tie.Need-put-refused-requires
 put-refused-requires c κs = search needs
@@ -33,12 +33,12 @@ returns-2 c =
     let e = t .before .before in
     let s = e .before .before .before .args .input .now in
     put-shown (e .if1 .left) (raw-fits s)
-    (put-as (sym (bad-length s (sym (t .before .length-bad .ensures) ∙ t .if2 .taken))) (p .put-refused .ensures))
+    (put-as (sym (bad-length s (sym (t .before .input-bad .ensures) ∙ t .if2 .taken))) (p .put-refused .ensures))
 
 -- &mut words[..n]
 array-borrow-prefix-words : tie.Need-array-borrow-prefix-words
 array-borrow-prefix-words c =
-    words-fit (c .before .before .before .before .before .args .input .now) (sym (c .before .length-bad .ensures) ∙ c .if2 .left)
+    words-fit (c .before .before .before .before .before .args .input .now) (sym (c .before .input-bad .ensures) ∙ c .if2 .left)
 
 slice-aggregate-put-input : tie.Need-slice-aggregate-put-input
 slice-aggregate-put-input c = sym (length-take-le _ _ (array-borrow-prefix-words (c .before)))
@@ -46,7 +46,7 @@ slice-aggregate-put-input c = sym (length-take-le _ _ (array-borrow-prefix-words
 put-input-requires : tie.Need-put-input-requires
 put-input-requires c κs =
     let e = c .before .before in
-    (sym (e .before .length-bad .ensures) ∙ e .if2 .left, length-take-le _ _ (array-borrow-prefix-words e), e .before .before .if1 .left)
+    (sym (e .before .input-bad .ensures) ∙ e .if2 .left, length-take-le _ _ (array-borrow-prefix-words e), e .before .before .if1 .left)
 
 -- out, at the end
 same-length-2 : tie.Need-same-length-2
@@ -64,7 +64,7 @@ write-raw-spec =
     tie.close
     (tie.spec
     returns
-    length-bad-requires
+    input-bad-requires
     put-refused-requires
     same-length
     returns-2

@@ -10,7 +10,7 @@ use Rattle.whole.specs.Below.{replacingFirst}
 use Rattle.rules.specs.Record.{Hour}
 use Rattle.rules.specs.HourFile.{hourly}
 use Rattle.rules.specs.HourWords.{blocksFor, fileByte, fileLength}
-use Rattle.writer.specs.Lists.{hourIn, ListsWhole}
+use Rattle.writer.specs.Lists.{hourOfLists, ListsWhole}
 use Rattle.writer.specs.Stored.{blockBytes, blockPlaced}
 use Rattle.writer.proofs.Said.{said-count, block-count, few-blocks, file-length}
 use Rattle.writer.proofs.FileBlocks.{head-placed, records-placed, held-few}
@@ -19,7 +19,7 @@ use Rattle.writer.proofs.put_file.Tie as tie
 
 abbrev Inv-loop : tie.InvT-loop
 Inv-loop head records file₀ blocks b₀ file b =
-    let h = hourIn head records in (1 ≤ b) × Filled (fileByte hourly h) (fileLength hourly h) (512 * b) file₀ file
+    let h = hourOfLists head records in (1 ≤ b) × Filled (fileByte hourly h) (fileLength hourly h) (512 * b) file₀ file
 
 abbrev μ-loop : tie.MeasureT-loop
 μ-loop head records file₀ blocks b₀ file b = blocks - b
@@ -39,7 +39,7 @@ module _ (c : tie.After-blocks-for Inv-loop μ-loop) where
   old = start .args .file .now
 
   abbrev h : Hour
-  h = hourIn head records
+  h = hourOfLists head records
 
   abbrev blocks : ℕ
   blocks = c .blocks-for .result
@@ -190,6 +190,10 @@ loop-again c =
       },
     )
 
+-- 512 * blocks
+mul-result : tie.Need-mul-result Inv-loop μ-loop
+mul-result c = omega (arith, few (counted (c .before .before .before .before)))
+
 -- file: &mut [u8]
 same-length : tie.Need-same-length Inv-loop μ-loop
 same-length c =
@@ -200,10 +204,12 @@ returns : tie.Need-returns Inv-loop μ-loop
 returns c =
     let put = c .before .before .before .before in
     let at = counted put in
-    let size = fileLength hourly (h at) in
-    first-filled (c .before .loop .inv .1) (omega (arith, length-is at, c .loop-test .left))
-    ∙ ap (replacingFirst (byte put) size) (first-put put)
-    ∙ replacing-longer (byte put) 512 size (old at) (omega (arith, length-is at, some-blocks at))
+    let size = fileLength hourly (h at) in (
+      sym (length-is at),
+      first-filled (c .before .loop .inv .1) (omega (arith, length-is at, c .loop-test .left))
+          ∙ ap (replacingFirst (byte put) size) (first-put put)
+          ∙ replacing-longer (byte put) 512 size (old at) (omega (arith, length-is at, some-blocks at)),
+    )
 
 pub put-file-spec : {M : Type 1} → statement M
 put-file-spec =
@@ -222,5 +228,6 @@ put-file-spec =
     add-b
     loop-less
     loop-again
+    mul-result
     same-length
     returns)

@@ -1,14 +1,13 @@
 -- `writer::write_hour` meets its contract: refused, nothing is touched; accepted, the buffer begins with the file.
 use mathlib.Core.Path.{_≡_, sym, _∙_, ap}
 use mathlib.Core.List.{List}
-use Prim.Native.Nat.{ℕ, _*_}
+use Prim.Native.Nat.{ℕ}
 use native.Mathlib.Omega.{arith}
 use lib.ListN.{length}
 use Rattle.rules.specs.Refusals.{verdictOf, verdict, accepted, writerRows}
 use Rattle.rules.specs.Settling.{HourWritten}
 use Rattle.rules.specs.Writing.{AreWords}
 use Rattle.answer.proofs.Refusing.{no-other}
-use Rattle.writer.proofs.Said.{few-blocks, file-length}
 use Rattle.writer.proofs.Written.{refused-leaves, accepted-fills, accepted-whole}
 use Rattle.writer.proofs.write_hour.Statement.{statement}
 use Rattle.writer.proofs.write_hour.Tie as tie
@@ -60,17 +59,6 @@ put-file-requires : tie.Need-put-file-requires
 put-file-requires c κs = let e = c .before in
     accepted-whole (head (examined e)) (records (examined e)) (file (examined e)) (passed e)
 
-blocks-for-requires : tie.Need-blocks-for-requires
-blocks-for-requires c κs = tt
-
--- 512 * lists::blocks_for(records)
-mul-length : tie.Need-mul-length
-mul-length c =
-    let told = c .before .before .before .before .before in
-    let e = examined told in
-    let whole = accepted-whole (head e) (records e) (file e) (passed told) .0 in
-    omega (arith, c .blocks-for .ensures (head e), few-blocks (head e) (records e) whole)
-
 -- file: &mut [u8]
 same-length : tie.Need-same-length
 same-length c = omega arith
@@ -78,15 +66,14 @@ same-length c = omega arith
 -- Filed { answer: answer, length: length }
 returns-2 : tie.Need-returns-2
 returns-2 c =
-    let put = c .before .before .before in
+    let put = c .before .before in
     let told = put .before .before in
     let e = examined told in
-    let fills = sym (accepted-fills (head e) (records e) (file e) (passed told)) in
-    let size = ap (λ (n : ℕ). 512 * n) (c .blocks-for .ensures (head e)) ∙ sym (file-length (head e) (records e)) in (
+    let fills = sym (accepted-fills (head e) (records e) (file e) (passed told)) in (
       ap verdictOf (told .enum-told .given .1) ∙ ap (λ (r : HourWritten). r .verdict) fills,
       (
-        size ∙ ap (λ (r : HourWritten). r .length) fills,
-        (put .put-file .ensures ∙ ap (λ (r : HourWritten). r .file) fills, words e),
+        put .put-file .ensures .0 ∙ ap (λ (r : HourWritten). r .length) fills,
+        (put .put-file .ensures .1 ∙ ap (λ (r : HourWritten). r .file) fills, words e),
       ),
     )
 
@@ -98,7 +85,5 @@ write-hour-spec =
     enum-told
     returns
     put-file-requires
-    blocks-for-requires
-    mul-length
     same-length
     returns-2)

@@ -4,7 +4,7 @@ use mathlib.Core.Option.{none}
 use native.Mathlib.Omega.{arith}
 use Rattle.rules.specs.Refusals.{badLists, badHead, badRecord, verdict, writerRows, placeZeroIf}
 use Rattle.rules.specs.Inner.Searched.{foundAt}
-use Rattle.writer.specs.Lists.{hourIn, ListsWhole}
+use Rattle.writer.specs.Lists.{hourOfLists, ListsWhole}
 use Rattle.writer.proofs.Said.{lists-whole, few-blocks, no-room, has-room}
 use Rattle.writer.proofs.lists.examine.Statement.{statement}
 use Rattle.writer.proofs.lists.examine.Tie as tie
@@ -25,7 +25,7 @@ module _ (c : tie.After-enum-told) where
   abbrev row-1 : tie.Else1
   row-1 = c .before .before .before
 
-  head-good : let at = given row-1 .args in badHead (hourIn (at .head .now) (at .records .now)) ≡ none
+  head-good : let at = given row-1 .args in badHead (hourOfLists (at .head .now) (at .records .now)) ≡ none
   head-good = sym (c .before .before .bad-head .ensures (given row-1 .args .records .now)) ∙ ap foundAt (c .enum-told .given .1)
 
 -- row 5 passed: so are the records
@@ -33,7 +33,7 @@ module _ (c : tie.After-enum-told2) where
   abbrev row-4 : tie.After-enum-told
   row-4 = c .before .before .before
 
-  records-good : let at = given (row-1 row-4) .args in badRecord (hourIn (at .head .now) (at .records .now)) ≡ none
+  records-good : let at = given (row-1 row-4) .args in badRecord (hourOfLists (at .head .now) (at .records .now)) ≡ none
   records-good = sym (c .before .before .bad-record .ensures) ∙ ap foundAt (c .enum-told2 .given .1)
 
 lists-bad-requires : tie.Need-lists-bad-requires
