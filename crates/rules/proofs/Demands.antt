@@ -102,7 +102,7 @@ module _ (h : Hour) (kept : HourKept h) where
         eight-figures = length-values (λ a. cond (ltb a (areas h)) (ufe h a) (pos 0)) 8;
         past-areas = λ a past l. getD-values (λ a. cond (ltb a (areas h)) (ufe h a) (pos 0)) 8 a (pos 0) l ∙ rw (le-ltb a (areas h) past);
         deviation-is =
-            λ i l. getD-replacing (λ i. deviation (entryOf h i)) (h .count) (b .deviations) i (pos 0) l ∙ deviation-renders (entryOf h i);
+            λ i l. getD-replacing (λ i. deviation (entryOf h i)) (h .count) (b .deviations) i (pos 0) l ∙ deviation-renders h i;
         share-is = λ i l. getD-replacing (shareOf h) (h .count) (b .shares) i (pos 0) l ∙ shares-by-rank h i l;
         charge-is = λ m l. charge-at m (pos 0) l ∙ ap cents (iec m);
         line-is = λ m l. line-at m emptyLine l ∙ ap (λ (z : ℤ). record { amount = z; records = recordsOf h m }) (iec m);

@@ -9,7 +9,7 @@ use lib.ListN.{getD}
 use lib.Dec.{ltb, leb, eqb}
 use borrow.Author.Tests.{leb-false, lt-ltb, le-ltb, ne-eqb, not-false}
 use Rattle.whole.specs.Signed.{Under}
-use Rattle.whole.proofs.Tests.{split, never}
+use Rattle.whole.proofs.Tests.{split, never, cond-ind}
 use Rattle.whole.proofs.Linear.{zo}
 use Rattle.whole.proofs.Ranges.{upto-pos}
 use Rattle.whole.proofs.Search.{first-none}
@@ -17,7 +17,7 @@ use Rattle.rules.specs.declared.Kind.{Kind}
 use Rattle.rules.specs.declared.Kind.the-variants.{Generator, RealTimeLoad, ProfileLoad, Import, Export, Unknown}
 use Rattle.rules.specs.declared.Layout.{Layout}
 use Rattle.rules.specs.declared.Rule.{Rule}
-use Rattle.rules.specs.Record.{Hour, members, zones, areas, zonePrice, zoneOf, tieIn, tieOut, memberOf, areaOf, entry, entryOf}
+use Rattle.rules.specs.Record.{Hour, members, zones, areas, zonePrice, zoneOf, tieIn, tieOut, memberOf, areaOf, actual, entry, entryOf}
 use Rattle.rules.specs.Record.{kindOf, isGenerator, isImport, signed}
 use Rattle.rules.specs.HourFile.{hourly, lengthBad, blocks, blockWord, recordCount, hourOf}
 use Rattle.rules.specs.Ranges.{firstBroken, mustBeZero, countRule, blockRule, areaRule, headRule, rulesOf, recordRule}
@@ -57,14 +57,28 @@ unfolding signed
 signed-zero w h = let z : w ≡ 0 = omega arith in rw z (record { under = zero-le })
 
 -- an unknown kind has no row, so that all its words are zero
-entry-kept : (K : Kind) (v : ℕ → ℕ) → RowHeld (rulesOf K) v → EntryKept (entry v)
+energies-most : (K : Kind) (v : ℕ → ℕ) → RowHeld (rulesOf K) v → (v 3 ≤ 100000) × (v 4 ≤ 100000)
+unfolding rulesOf
+energies-most Generator v f = omega arith
+energies-most RealTimeLoad v f = omega arith
+energies-most ProfileLoad v f = omega arith
+energies-most Import v f = omega arith
+energies-most Export v f = omega arith
+energies-most Unknown v f = omega arith
+
+-- A is one of words 3 and 4
+actual-most : (v : ℕ → ℕ) → (v 3 ≤ 100000) × (v 4 ≤ 100000) → actual v ≤ 100000
+unfolding actual
+actual-most v most = cond-ind (isImport (kindOf (v 0))) (v 3) (v 4) (λ a. a ≤ 100000) (λ t. most .0) (λ t. most .1)
+
+entry-kept : (K : Kind) (v : ℕ → ℕ) → RowHeld (rulesOf K) v → actual v ≤ 100000 → EntryKept (entry v)
 unfolding rulesOf entry
-entry-kept Generator v f = omega (arith, zo)
-entry-kept RealTimeLoad v f = omega (arith, zo)
-entry-kept ProfileLoad v f = omega (arith, zo)
-entry-kept Import v f = omega (arith, zo)
-entry-kept Export v f = omega (arith, zo)
-entry-kept Unknown v f = let j = signed-zero (v 5) (f .J-held .1) in omega (arith, zo)
+entry-kept Generator v f a = omega (arith, zo)
+entry-kept RealTimeLoad v f a = omega (arith, zo)
+entry-kept ProfileLoad v f a = omega (arith, zo)
+entry-kept Import v f a = omega (arith, zo)
+entry-kept Export v f a = omega (arith, zo)
+entry-kept Unknown v f a = let j = signed-zero (v 5) (f .J-held .1) in omega (arith, zo)
 
 -- the kinds that use the multipliers
 multipliers-least : (K : Kind) (v : ℕ → ℕ) → RowHeld (rulesOf K) v → (isGenerator K || isImport K) ≡ true → (1 ≤ v 9) × (1 ≤ v 10)
@@ -145,13 +159,13 @@ module _ (h : Hour) (head-whole : badHead h ≡ none) (records-whole : badRecord
   unfolding recordRule memberOf areaOf entryOf entry
   record-kept i l =
       let kind-held : (1 ≤ h .rec i 0) × (h .rec i 0 ≤ 5) = word-holds i 0 l (omega arith) in
-      let kept = entry-kept (kindOf (h .rec i 0)) (h .rec i) (row-held i l) in record {
+      let most = energies-most (kindOf (h .rec i 0)) (h .rec i) (row-held i l) in record {
         kind-least = kind-held .0;
         kind-most = kind-held .1;
         member-there = word-holds i 1 l (omega arith);
         area-there = word-holds i 2 l (omega arith);
-        demand-most = omega (arith, zo);
-        entry-kept = kept;
+        demand-most = most .1;
+        entry-kept = entry-kept (kindOf (h .rec i 0)) (h .rec i) (row-held i l) (actual-most (h .rec i) most);
         multipliers-least = multipliers-least (kindOf (h .rec i 0)) (h .rec i) (row-held i l);
       }
 

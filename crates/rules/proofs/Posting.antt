@@ -11,12 +11,14 @@ use lib.IntN.{ℤ, pos, +ℤ-idr, _+ℤ_, _-ℤ_, _*ℤ_}
 use lib.ListN.{length, getD, length-set, getD-replicate}
 use lib.Seq.{getD-set-other}
 use Rattle.whole.specs.Below.{oneIf, countBelow, sumBelow, totalBelow, replacingFirst}
-use Rattle.whole.proofs.Tests.{cond-both}
+use Rattle.whole.proofs.Tests.{never, cond-both}
 use Rattle.whole.proofs.Sums.{grown-if}
 use Rattle.whole.proofs.Totals.{added-if}
 use Rattle.whole.proofs.Buffers.{getD-changed, replacing-changed, replacing-ext}
+use Rattle.rules.specs.declared.Kind.{Kind}
+use Rattle.rules.specs.declared.Kind.the-variants.{Generator, RealTimeLoad, ProfileLoad, Import, Export, Unknown}
 use Rattle.rules.specs.declared.Line.{Line}
-use Rattle.rules.specs.Record.{Hour, members, tieIn, tieOut, memberOf, areaOf, entry, entryOf, isLoad}
+use Rattle.rules.specs.Record.{Hour, members, tieIn, tieOut, memberOf, areaOf, actual, entry, entryOf, isLoad, isImport}
 use Rattle.rules.specs.Deviation.{unitsPerKWh}
 use Rattle.rules.specs.Ufe.{inArea, ufe, demand, demands}
 use Rattle.rules.specs.Share.{allDemand}
@@ -27,10 +29,19 @@ use Rattle.rules.proofs.Tariff.{ufe-by-record}
 
 -- ---- D
 
--- what is demanded is A, word 4 of every kind's record
-pub demand-is-actual : (h : Hour) (i : ℕ) → pos (demand h i) ≡ entryOf h i .A
-unfolding entryOf entry
-demand-is-actual h i = refl
+-- a load is no import
+load-no-import : (k : Kind) → isLoad k ≡ true → isImport k ≡ false
+load-no-import Generator e = refl
+load-no-import RealTimeLoad e = refl
+load-no-import ProfileLoad e = refl
+load-no-import Import e = never e refl
+load-no-import Export e = refl
+load-no-import Unknown e = refl
+
+-- What a load demands is its A.
+pub demand-is-actual : (h : Hour) (i : ℕ) → isLoad (entryOf h i .kind) ≡ true → pos (demand h i) ≡ entryOf h i .A
+unfolding actual entryOf entry
+demand-is-actual h i is-load = rw (load-no-import (entryOf h i .kind) is-load)
 
 -- ---- the tally
 

@@ -19,7 +19,7 @@ use Rattle.rules.specs.Printed.{PrintedRight, wordBytes, printedFile, us
 
 pub printed-right : PrintedRight
 unfolding Below.countBelow Below.sumBelow Below.totalBelow Below.valuesBelow Below.replacingFirst Below.firstBelow orElse minℤ maxℤ
-    Record.signed Record.kindOf Record.entry Record.memberOf Record.areaOf Record.entryOf Record.zonePrice Record.zoneOf Record.tieIn
+    Record.signed Record.kindOf Record.actual Record.entry Record.memberOf Record.areaOf Record.entryOf Record.zonePrice Record.zoneOf Record.tieIn
     Record.tieOut Record.price Deviation.generatorUnavailable Deviation.generatorDeviation Deviation.loadUnavailable Deviation.loadDeviation
     Deviation.deviation Ufe.inArea Ufe.areaSum Ufe.losses Ufe.ufe Ufe.demands Share.better Share.firstLargest Share.isAt Share.handedOut
     Share.allDemand Share.wholePart Share.remainder Share.unitsLeft Share.shareSize Share.share Charge.entering Charge.nearestCent

@@ -126,13 +126,13 @@ load-uses = used-words RealTimeLoad (λ w. ltb w 8)
     (λ w l. le-ltb w 8 (omega arith))
 
 abbrev importTests : ℕ → Bool
-importTests w = cond (ltb w 7) true (cond (ltb w 9) false (ltb w 11))
+importTests w = cond (eqb w 4) false (cond (ltb w 7) true (cond (ltb w 9) false (ltb w 11)))
 
 pub import-uses : (w : ℕ) → usedBy Import w ≡ importTests w
 unfolding rulesOf keeps signed
 import-uses = used-words Import importTests
     ((((((((((((tt, refl), refl), refl), refl), refl), refl), refl), refl), refl), refl), refl), refl)
-    (λ w l. rw (le-ltb w 7 (omega arith), le-ltb w 9 (omega arith), le-ltb w 11 (omega arith)))
+    (λ w l. rw (ne-eqb w 4 (λ e. omega arith), le-ltb w 7 (omega arith), le-ltb w 9 (omega arith), le-ltb w 11 (omega arith)))
 
 pub export-uses : (w : ℕ) → usedBy Export w ≡ ltb w 6
 unfolding rulesOf keeps signed

@@ -2,7 +2,7 @@
 use mathlib.Core.Path.{refl}
 use Rattle.whole.specs.Below.{valuesBelow, sumBelow}
 use Rattle.whole.specs.Signed.{minℤ, maxℤ}
-use Rattle.rules.specs.Record.{signed, kindOf, entry}
+use Rattle.rules.specs.Record.{signed, kindOf, actual, entry}
 use Rattle.rules.specs.Deviation.{generatorUnavailable, generatorDeviation, loadUnavailable, loadDeviation, importDeviation}
 use Rattle.rules.specs.Deviation.{exportDeviation, deviation}
 use Rattle.rules.specs.Share.{better, firstLargest, isAt, handedOut, allDemand, wholePart, remainder, unitsLeft, shareSize, share}
@@ -13,7 +13,7 @@ use Rattle.rules.specs.Settling.{write}
 use Rattle.rules.specs.Figures.{StarredRight, starred}
 
 pub starred-right : StarredRight
-unfolding starred valuesBelow sumBelow minℤ maxℤ signed kindOf entry generatorUnavailable generatorDeviation loadUnavailable loadDeviation
+unfolding starred valuesBelow sumBelow minℤ maxℤ signed kindOf actual entry generatorUnavailable generatorDeviation loadUnavailable loadDeviation
     importDeviation exportDeviation deviation better firstLargest isAt handedOut allDemand wholePart remainder unitsLeft shareSize share
     nearestCent cents digitsUpTo decimal amountText amountField verdict outOfRange tooNarrow writeRows write
 starred-right = (refl, (refl, (refl, (refl, (refl, (refl, (refl, (refl, (refl, (refl, (refl, (refl, (refl, (refl, (refl, tt)))))))))))))))

@@ -8,11 +8,12 @@ use lib.Dec.{eqb}
 use lib.IntN.{ℤ, pos, +ℤ-idl, +ℤ-idr, *ℤ-zero, _+ℤ_, _-ℤ_, _*ℤ_}
 use borrow.Author.Tests.{eqb-true}
 use Rattle.whole.specs.Below.{totalBelow}
+use Rattle.whole.proofs.Tests.{both, cond-ext}
 use Rattle.whole.proofs.Linear.{zr, all3, all4, all5, all6}
 use Rattle.whole.proofs.Totals.{total-ext, total-add, total-neg, total-mul, total-swap, total-pick}
 use Rattle.rules.specs.declared.Kind.{Kind}
 use Rattle.rules.specs.declared.Kind.the-variants.{Generator, RealTimeLoad, ProfileLoad, Import, Export, Unknown}
-use Rattle.rules.specs.Record.{Hour, Entry, kindNumber, zones, zonePrice, zoneOf, tieIn, tieOut, price, memberOf, areaOf, entryOf}
+use Rattle.rules.specs.Record.{Hour, Entry, kindNumber, zones, zonePrice, zoneOf, tieIn, tieOut, price, memberOf, areaOf, actual, entry, entryOf}
 use Rattle.rules.specs.Record.{isGenerator, isRealTime, isProfile, isLoad, isImport, isExport}
 use Rattle.rules.specs.Deviation.{unitsPerKWh, generatorUnavailable, generatorDeviation, loadUnavailable, loadDeviation}
 use Rattle.rules.specs.Deviation.{importDeviation, exportDeviation, deviation, deviationAs}
@@ -37,9 +38,14 @@ pub load-renders : (r : Entry) → loadDeviation r ≡ loadDev r
 unfolding loadDeviation loadUnavailable loadDev
 load-renders r = load-units (r .S) (r .A -ℤ r .J) (r .N) (loadUnavailable r)
 
-pub import-renders : (r : Entry) → importDeviation r ≡ impDev r
+-- an import's A is its S
+pub import-deemed : (w : ℕ → ℕ) → isImport (entry w .kind) ≡ true → entry w .A ≡ entry w .S
+unfolding actual entry
+import-deemed w is-import = rw is-import
+
+pub import-renders : (r : Entry) → r .A ≡ r .S → importDeviation r ≡ impDev r
 unfolding importDeviation impDev
-import-renders r = refl
+import-renders r deemed = rw deemed
 
 export-units : (s a j : ℤ) → unitsPerKWh *ℤ (s -ℤ a -ℤ j) ≡ unitsPerKWh *ℤ s -ℤ unitsPerKWh *ℤ a -ℤ unitsPerKWh *ℤ j
 export-units = all3 _ (λ s a j. simp zr (omega arith))
@@ -48,18 +54,18 @@ pub export-renders : (r : Entry) → exportDeviation r ≡ expDev r
 unfolding exportDeviation expDev
 export-renders r = export-units (r .S) (r .A) (r .J)
 
-renders-as : (k : Kind) (r : Entry) → deviationAs r k ≡ devAs k r
-renders-as Generator r = generator-renders r
-renders-as RealTimeLoad r = load-renders r
-renders-as ProfileLoad r = load-renders r
-renders-as Import r = import-renders r
-renders-as Export r = export-renders r
-renders-as Unknown r = refl
+renders-as : (k : Kind) (r : Entry) → (isImport k ≡ true → r .A ≡ r .S) → deviationAs r k ≡ devAs k r
+renders-as Generator r deemed = generator-renders r
+renders-as RealTimeLoad r deemed = load-renders r
+renders-as ProfileLoad r deemed = load-renders r
+renders-as Import r deemed = import-renders r (deemed refl)
+renders-as Export r deemed = export-renders r
+renders-as Unknown r deemed = refl
 
 -- A record's deviation is the one of 003 for its kind.
-pub deviation-renders : (r : Entry) → deviation r ≡ devAs (r .kind) r
-unfolding deviation
-deviation-renders r = renders-as (r .kind) r
+pub deviation-renders : (h : Hour) (i : ℕ) → let r = entryOf h i in deviation r ≡ devAs (r .kind) r
+unfolding deviation entryOf
+deviation-renders h i = let w = h .rec i in renders-as (entry w .kind) (entry w) (import-deemed w)
 
 -- ---- UFE
 
@@ -83,9 +89,18 @@ module _ (h : Hour) (a : ℕ) where
   loads-apart : areaSum h a isLoad (λ r. r .A) ≡ areaSum h a isRealTime (λ r. r .A) +ℤ areaSum h a isProfile (λ r. r .A)
   loads-apart = kinds-apart isRealTime isProfile (λ r. r .A) (λ k e. rw (eqb-true (kindNumber k) 2 e))
 
+  -- what is lost of an import, by its A or by its S
+  import-losses : areaSum h a isImport (λ r. r .A *ℤ (unitsPerKWh -ℤ r .H)) ≡ areaSum h a isImport (λ r. r .S *ℤ (unitsPerKWh -ℤ r .H))
+  unfolding areaSum inArea entryOf
+  import-losses = total-ext _ _ (h .count) (λ i l. let w = h .rec i in
+      cond-ext (eqb (areaOf h i) a && isImport (entry w .kind)) _ _ _
+      (λ t. ap (λ (A : ℤ). A *ℤ (unitsPerKWh -ℤ entry w .H)) (import-deemed w (both (eqb (areaOf h i) a) _ t .1))))
+
   losses-apart : losses h a ≡ transmissionLosses h a
   unfolding losses transmissionLosses
-  losses-apart = kinds-apart isGenerator isImport (λ r. r .A *ℤ (unitsPerKWh -ℤ r .H)) (λ k e. rw (eqb-true (kindNumber k) 1 e))
+  losses-apart =
+      kinds-apart isGenerator isImport (λ r. r .A *ℤ (unitsPerKWh -ℤ r .H)) (λ k e. rw (eqb-true (kindNumber k) 1 e))
+      ∙ ap (λ (lost : ℤ). areaSum h a isGenerator (λ r. r .A *ℤ (unitsPerKWh -ℤ r .H)) +ℤ lost) import-losses
 
   -- An area's UFE is that of 003 for its territory, which adds up the two kinds of load apart, and the losses of generators and imports.
   pub ufe-renders : ufe h a ≡ ufeOfTerritory h a
@@ -177,7 +192,7 @@ module _ (h : Hour) (allocated : ℕ → ℤ) (j : ℕ) where
       -- the five sums as one
       ∙ simp (← total-add, ← total-neg, ← total-mul)
       (total-ext _ _ (h .count) (λ i l. let r = entryOf h i in let z = eqb (zoneOf h (areaOf h i)) x in
-      ap (λ (y : ℤ). P *ℤ y) (entering-parts r (r .kind) (deviation r) (allocated i) (eqb (memberOf h i) j) z (deviation-renders r))
+      ap (λ (y : ℤ). P *ℤ y) (entering-parts r (r .kind) (deviation r) (allocated i) (eqb (memberOf h i) j) z (deviation-renders h i))
       ∙ times-cond P z (enters i)))
     where
       P : ℤ

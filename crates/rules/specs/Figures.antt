@@ -41,7 +41,7 @@ starred =
     ∷ deviationOf (1 ∷ 0 ∷ 0 ∷ 1000 ∷ 1000 ∷ 0 ∷ 0 ∷ 600 ∷ 1500 ∷ 10000 ∷ 10000 ∷ 0 ∷ []) is pos 1000000
     ∷ deviationOf (1 ∷ 0 ∷ 0 ∷ 1000 ∷ 1000 ∷ 0 ∷ 0 ∷ 500 ∷ 1500 ∷ 10000 ∷ 10000 ∷ 0 ∷ []) is pos 0
     ∷ deviationOf (2 ∷ 0 ∷ 0 ∷ 500 ∷ 450 ∷ 0 ∷ 30 ∷ 500 ∷ 0 ∷ 0 ∷ 0 ∷ 0 ∷ []) is pos 0
-    ∷ deviationOf (4 ∷ 0 ∷ 0 ∷ 300 ∷ 300 ∷ 50 ∷ 0 ∷ 0 ∷ 0 ∷ 10000 ∷ 9000 ∷ 0 ∷ []) is pos 750000
+    ∷ deviationOf (4 ∷ 0 ∷ 0 ∷ 300 ∷ 0 ∷ 50 ∷ 0 ∷ 0 ∷ 0 ∷ 10000 ∷ 9000 ∷ 0 ∷ []) is pos 750000
     ∷ deviationOf (5 ∷ 0 ∷ 0 ∷ 200 ∷ 180 ∷ 30 ∷ 0 ∷ 0 ∷ 0 ∷ 0 ∷ 0 ∷ 0 ∷ []) is negℤ (pos 100000)
     ∷ sharesOf (pos 10) (1 ∷ 1 ∷ 1 ∷ []) is (pos 4 ∷ pos 3 ∷ pos 3 ∷ [])
     ∷ sharesOf (negℤ (pos 10)) (1 ∷ 1 ∷ 1 ∷ []) is (negℤ (pos 4) ∷ negℤ (pos 3) ∷ negℤ (pos 3) ∷ [])

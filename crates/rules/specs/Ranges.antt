@@ -88,7 +88,7 @@ unfoldable pub rulesOf : Kind → List Rule
 rulesOf Generator = energy ∷ energy ∷ adjustment ∷ energy ∷ energy ∷ energy ∷ multiplier ∷ multiplier ∷ mustBeZero ∷ []
 rulesOf RealTimeLoad = energy ∷ energy ∷ adjustment ∷ energy ∷ energy ∷ unused ∷ unused ∷ unused ∷ mustBeZero ∷ []
 rulesOf ProfileLoad = energy ∷ energy ∷ adjustment ∷ energy ∷ energy ∷ unused ∷ unused ∷ unused ∷ mustBeZero ∷ []
-rulesOf Import = energy ∷ energy ∷ adjustment ∷ energy ∷ unused ∷ unused ∷ multiplier ∷ multiplier ∷ mustBeZero ∷ []
+rulesOf Import = energy ∷ unused ∷ adjustment ∷ energy ∷ unused ∷ unused ∷ multiplier ∷ multiplier ∷ mustBeZero ∷ []
 rulesOf Export = energy ∷ energy ∷ adjustment ∷ unused ∷ unused ∷ unused ∷ unused ∷ unused ∷ mustBeZero ∷ []
 rulesOf Unknown = []
 

@@ -1,5 +1,6 @@
 -- The formulas of 003, D 2.1 and D 2.2, read a second time: in its own letters, its own order and its own sums by
 -- Scheduling Coordinator and Zone. Demand 2 says that both readings give the same numbers, so that a slip in one breaks a proof.
+-- What Ia means is read in 000, D 3.19: document 02, A3.
 -- A GMM is given in ten-thousandths: an energy times a GMM, and any other energy times 10,000, are in units.
 use Prim.Native.Nat.{ℕ}
 use mathlib.Core.Bool.{Bool, cond, _&&_}
@@ -30,8 +31,12 @@ loadDev i =
     let unavailDispLoad = maxℤ (pos 0) ((i .O -ℤ Las) -ℤ La) in
     inUnits Ls -ℤ (inUnits (La -ℤ Ladj) +ℤ inUnits Las) -ℤ inUnits unavailDispLoad
 
+-- 000, D 3.19: the actual import Ia is deemed to be equal to the scheduled import Is, in the deviation and in the losses
+abbrev pub actualImport : Entry → ℤ
+actualImport q = q .S
+
 unfoldable pub impDev : Entry → ℤ
-impDev q = let Is = q .S in let GMMt = q .F in let Ia = q .A in let Iadj = q .J in let GMMahq = q .H in let Ias = q .N in
+impDev q = let Is = q .S in let GMMt = q .F in let Ia = actualImport q in let Iadj = q .J in let GMMahq = q .H in let Ias = q .N in
     Is *ℤ GMMt -ℤ (Ia -ℤ Iadj) *ℤ GMMahq +ℤ inUnits Ias
 
 unfoldable pub expDev : Entry → ℤ
@@ -50,7 +55,7 @@ devAs Unknown i = pos 0
 
 unfoldable pub transmissionLosses : Hour → ℕ → ℤ
 transmissionLosses h k =
-    areaSum h k isGenerator (λ i. i .A *ℤ (pos 10000 -ℤ i .H)) +ℤ areaSum h k isImport (λ q. q .A *ℤ (pos 10000 -ℤ q .H))
+    areaSum h k isGenerator (λ i. i .A *ℤ (pos 10000 -ℤ i .H)) +ℤ areaSum h k isImport (λ q. actualImport q *ℤ (pos 10000 -ℤ q .H))
 
 unfoldable pub ufeOfTerritory : Hour → ℕ → ℤ
 ufeOfTerritory h k =

@@ -50,12 +50,12 @@ no-else (some i) b e = never-some e
 pub last-or-below {ℓ} : {X : Type ℓ} (i n : ℕ) → i < suc n → (i ≡ n → X) → (i < n → X) → X
 last-or-below i n l f g = split (eqb i n) (λ t. f (eqb-true i n t)) (λ t. g (omega (arith, eqb-false i n t)))
 
--- the first branch, where its test has passed
 -- two tests, one after the other
 pub cond-both : (b c : Bool) (d : ℕ) → cond (b && c) d 0 ≡ cond b (cond c d 0) 0
 cond-both true c d = refl
 cond-both false c d = refl
 
+-- the first branch, where its test has passed
 pub cond-ext {ℓ} : {A : Type ℓ} (c : Bool) (x y z : A) → (c ≡ true → x ≡ y) → cond c x z ≡ cond c y z
 cond-ext true x y z f = f refl
 cond-ext false x y z f = refl
