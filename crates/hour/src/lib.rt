@@ -118,6 +118,18 @@ pub fn area_in(words: &[u8]) -> usize
     blocks::whole_word(words, 2) as usize
 }
 
+// A: word 4; an import's is deemed to be S, word 3.
+fn actual_in(words: &[u8]) -> u32
+    requires { ⌜ length (now words) ≡ 48 ⌝ }
+    ensures { λ r. ⌜ r ≡ Record.actual (word (now (words .entry))) ⌝ }
+{
+    let kind = kind_in(words);
+    if let Kind::Import = kind {
+        return blocks::whole_word(words, 3);
+    }
+    blocks::whole_word(words, 4)
+}
+
 pub fn entry_in(words: &[u8]) -> Entry
     requires { ⌜ length (now words) ≡ 48 ⌝ }
     ensures { λ r. ⌜ meant r ≡ Record.entry (word (now (words .entry))) ⌝ }
@@ -125,7 +137,7 @@ pub fn entry_in(words: &[u8]) -> Entry
     Entry {
         kind: kind_in(words),
         s: blocks::whole_word(words, 3) as i64,
-        a: blocks::whole_word(words, 4) as i64,
+        a: actual_in(words) as i64,
         j: blocks::signed(blocks::whole_word(words, 5)),
         n: blocks::whole_word(words, 6) as i64,
         o: blocks::whole_word(words, 7) as i64,

@@ -219,10 +219,13 @@ fn uses(kind: u32, w: usize) -> bool
     false
 }
 
-// An import uses words 3 to 6, 9 and 10.
+// An import uses words 3, 5, 6, 9 and 10: its actual energy is deemed to be the scheduled.
 fn import_uses(w: usize) -> bool
     ensures { λ r. ⌜ r ≡ Ranges.keeps (getD (Ranges.rulesOf Kinds.Import) (w - 3) Ranges.mustBeZero) 1 ⌝ }
 {
+    if w == 4 {
+        return false;
+    }
     if w < 7 {
         return true;
     }
