@@ -29,4 +29,5 @@ pub mod Stated
 pub mod Sheet
 pub mod Told
 pub mod Writing
+pub mod Imports
 pub mod Raw

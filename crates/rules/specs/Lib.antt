@@ -17,6 +17,7 @@ pub mod Tariff
 pub mod Promises
 pub mod Finals
 pub mod Writing
+pub mod Imports
 pub mod Figures
 pub mod Printed
 pub mod Refused

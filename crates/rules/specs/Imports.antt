@@ -1,0 +1,27 @@
+-- What is asked of imports, as statements about the definitions: an import that says what was metered is refused, by the reader and by the
+-- writer. That its A is S, in the deviation and in the losses, demand 2 says (`Tariff`). Document 02, A3.
+use Prim.Native.Nat.{ℕ, _<_}
+use mathlib.Core.Path.{_≡_}
+use mathlib.Core.Option.{none}
+use mathlib.Core.List.{List}
+use lib.ListN.{length, take}
+use Rattle.rules.specs.Record.{Hour}
+use Rattle.rules.specs.HourFile.{hourly, hourOf}
+use Rattle.rules.specs.HourWords.{hourFrom}
+use Rattle.rules.specs.Refusals.{accepted, refusedAt, verdict, badWord, fileRows, writerRows}
+use Rattle.rules.specs.Settling.{Buffers, settle, writeHour}
+
+-- record i is an import whose word 4 isn't zero, and no record before it breaks a rule
+pub record FirstMetered (h : Hour) (i : ℕ) : Type 0 where
+  pub there : i < h .count
+  pub is-import : h .rec i 0 ≡ 4
+  pub metered : h .rec i 4 ≡ 0 → ⊥
+  pub before : (j : ℕ) → j < i → badWord h j ≡ none
+
+pub record Imports : Type 0 where
+  -- 5, of every file that passes rows 1 to 4, whatever else its record breaks
+  pub refused : (s : List ℕ) (b : Buffers) (i : ℕ) → verdict (take 4 (fileRows s)) ≡ accepted →
+      FirstMetered (hourOf hourly s) i → settle s b .verdict ≡ refusedAt 5 i
+  -- and of lists that pass the writer's rows 1 and 4
+  pub unwritten : (head records file : List ℕ) (i : ℕ) → verdict (take 2 (writerRows head records (length file))) ≡ accepted →
+      FirstMetered (hourFrom hourly head records) i → writeHour head records file .verdict ≡ refusedAt 5 i
