@@ -1,5 +1,5 @@
--- What the pages say of a function, said of its contract as its callers read it: settling keeps the three demands, and its finals add up
--- to nothing; an amount written is read, and one read is written again; the statement is put whole or not at all, and tells what it is of;
+-- What the pages say of a function, said of its contract as its callers read it: settling keeps the three demands, its finals add up to
+-- nothing, and it refuses an import that was metered; an amount written is read, and one read is written again; the statement is put whole or not at all, and tells what it is of;
 -- an accepted file keeps its ranges.
 use mathlib.Core.Path.{_≡_, sym, _∙_, ap}
 use mathlib.Core.List.{List}
@@ -22,6 +22,7 @@ use Rattle.rules.specs.Inner.Kept.{FileKept}
 use Rattle.rules.proofs.Rows.{settle-verdict, settle-changes-nothing}
 use Rattle.rules.proofs.Demands.{demand2, demand3}
 use Rattle.rules.proofs.Finals.{neutrality-shared}
+use Rattle.rules.proofs.Imports.{imports}
 use Rattle.rules.proofs.Told.{sheet}
 use Rattle.amount.specs.Promised.{Wrote, HasRead}
 use Rattle.amount.proofs.RoundTrips as RoundTrips
@@ -52,6 +53,7 @@ keeps {s} {b} v u a = record {
   by-formula = λ e. rw (u, a) (demand2 .settled s b (sym v ∙ e));
   fair = λ e. rw (u, a) (demand3 s b (sym v ∙ e));
   neutral = λ e. rw a (neutrality-shared .settled s b (sym v ∙ e));
+  metered-import = λ i passed m. v ∙ imports .refused s b i passed m;
 }
 
 pub settle-keeps-demands : (κs : Lfts 6) → Gives (settle.Post κs) (λ a x s. KeepsDemands (now (a .0))

@@ -15,6 +15,7 @@ use Rattle.rules.specs.RawHour.{rawWritten}
 use Rattle.rules.specs.Finals.{AreBytes}
 use Rattle.rules.specs.Writing.{AreWords, fileIn}
 use Rattle.rules.proofs.Writing.{verdict-is, as-written, writing}
+use Rattle.rules.proofs.Imports.{imports}
 use Rattle.rules.proofs.Raw.{cut-input-same}
 use Rattle.printing.proofs.Showing.{whole-text}
 use Rattle.determined.specs.Determined.{Gives, KeepsWriting}
@@ -36,6 +37,7 @@ module _ (head records before : List ℕ) where
     read-back = writing .read-back head records before head-words record-words;
     past-file = writing .past-file head records before;
     same-bytes = own-bytes;
+    metered-import = imports .unwritten head records before;
   }
 
   keeps-as : {w : HourWritten} → w ≡ writeHour head records before → AreWords head → AreWords records → KeepsWriting head records before w

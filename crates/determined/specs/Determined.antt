@@ -4,14 +4,15 @@ use mathlib.Core.Path.{_≡_}
 use mathlib.Core.List.{List}
 use Prim.Native.Nat.{ℕ, _≤_}
 use lib.IntN.{ℤ}
-use lib.ListN.{length, drop}
+use lib.ListN.{length, take, drop}
 use Rattle.rules.specs.HourFile.{hourly, hourOf}
 use Rattle.rules.specs.HourWords.{hourFrom, headWords, recordWords}
-use Rattle.rules.specs.Refusals.{Verdict, accepted, verdict, fileRows, writerRows}
+use Rattle.rules.specs.Refusals.{Verdict, accepted, refusedAt, verdict, fileRows, writerRows}
 use Rattle.rules.specs.Settling.{Buffers, settleRows, noFigures, HourWritten}
 use Rattle.rules.specs.Promises.{ByFormula, FairOutcome}
 use Rattle.rules.specs.Finals.{NeutralOutcome, AreBytes}
 use Rattle.rules.specs.Writing.{fileIn}
+use Rattle.rules.specs.Imports.{FirstMetered}
 
 module _ {A X S : Type 0} (promise : A → X → S → Type 0) where
   -- two results that keep the promise are the same
@@ -30,8 +31,8 @@ module _ {A X S : Type 0} (promise : A → X → S → Type 0) where
   abbrev pub Gives : (A → X → S → Type 0) → Type 0
   Gives property = (a : A) (x : X) (s : S) → promise a x s → property a x s
 
--- the three demands of a settling and what document 02, A1, asks of its finals, by its file, its buffers before, the verdict told, the UFE
--- figures answered and its buffers afterwards
+-- the three demands of a settling and what document 02 asks of its finals (A1) and of imports (A3), by its file, its buffers before, the
+-- verdict told, the UFE figures answered and its buffers afterwards
 pub record KeepsDemands (file : List ℕ) (before : Buffers) (told : Verdict) (ufes : List ℤ) (after : Buffers) : Type 0 where
   -- 1: the first broken row of the table answers, and a refusal changes nothing
   pub by-the-table : told ≡ verdict (settleRows file before)
@@ -41,8 +42,10 @@ pub record KeepsDemands (file : List ℕ) (before : Buffers) (told : Verdict) (u
   pub fair : told ≡ accepted → FairOutcome (hourOf hourly file) ufes after
   -- A1
   pub neutral : told ≡ accepted → NeutralOutcome (hourOf hourly file) before after
+  -- A3: the first import that says what was metered, if no row before 5 answers
+  pub metered-import : (i : ℕ) → verdict (take 4 (fileRows file)) ≡ accepted → FirstMetered (hourOf hourly file) i → told ≡ refusedAt 5 i
 
--- what document 02, A2, asks of the writer, by its head, records and buffer before, and by what was answered and left
+-- what document 02 asks of the writer (A2) and of imports (A3), by its head, records and buffer before, and by what was answered and left
 pub record KeepsWriting (head records before : List ℕ) (w : HourWritten) : Type 0 where
   -- the first broken row of the table answers, and a refusal changes nothing
   pub by-the-table : w .verdict ≡ verdict (writerRows head records (length before))
@@ -54,3 +57,6 @@ pub record KeepsWriting (head records before : List ℕ) (w : HourWritten) : Typ
   -- the head and records of a file that passes rows 1 to 5 give its bytes again, whatever the buffer held
   pub same-bytes : (s : List ℕ) → AreBytes s → verdict (fileRows s) ≡ accepted → head ≡ headWords s → records ≡ recordWords hourly s →
       length s ≤ length before → (w .verdict ≡ accepted) × (fileIn w ≡ s)
+  -- A3, as of a settling
+  pub metered-import : (i : ℕ) → verdict (take 2 (writerRows head records (length before))) ≡ accepted →
+      FirstMetered (hourFrom hourly head records) i → w .verdict ≡ refusedAt 5 i

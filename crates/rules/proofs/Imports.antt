@@ -28,7 +28,8 @@ module _ {h : Hour} {i : ℕ} (m : FirstMetered h i) where
       let zero : h .rec i 4 ≤ 0 = (rw (m .is-import) at held) .1 in
       absurd (m .metered (omega arith)))
 
-  record-broken : badRecord h ≡ some i
+  -- So it is the record at which row 5 is broken.
+  pub record-broken : badRecord h ≡ some i
   unfolding badRecord
   record-broken = first-some (λ j. isBroken (badWord h j)) (h .count) i .1 (m .there, word-broken, λ j l. rw (m .before j l))
 

@@ -1,6 +1,6 @@
 -- What each word may be. A rule is a test of one word, a table gives the rule of every word; a word of the head or of a record that no table
 -- names must be zero.
--- Document 01, "Units and ranges" and "The hour file"; rows 3 to 5 of the table of refusals cite these.
+-- Document 01, "Units and ranges" and "The hour file"; an import's word 4 is document 02, A3. Rows 3 to 5 of the table of refusals cite these.
 use Prim.Native.Nat.{ℕ, _+_, _-_, _*_, _/_, _%_}
 use mathlib.Core.Bool.{Bool, true, not, cond, _&&_}
 use mathlib.Core.Option.{Option}

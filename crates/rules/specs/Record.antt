@@ -1,5 +1,5 @@
 -- An hour as its file says it, and a record's numbers under document 01's letters.
--- Document 01: "The hour file" (the tables of words), "The sums" (the letters).
+-- Document 01: "The hour file" (the tables of words), "The sums" (the letters); document 02, A3 (an import's A).
 use Prim.Native.Nat.{ℕ, _+_, _*_}
 use mathlib.Core.Bool.{Bool, cond, _||_}
 use mathlib.Core.List.{[], _∷_}
