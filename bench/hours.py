@@ -26,7 +26,10 @@ def some(rng, letter):
 
 
 def record(rng, kind, members, areas):
-    letters = {letter: some(rng, letter) for letter in hours.USED[kind]}
+    # A number for A is drawn for an import too, which doesn't use it (document 02, A3): so every other word is what it was when
+    # imports had one, and figures of then and now can be compared.
+    drawn = {letter: some(rng, letter) for letter in hours.LETTERS if letter == "A" or letter in hours.USED[kind]}
+    letters = {letter: drawn[letter] for letter in hours.USED[kind]}
     return hours.record(kind, rng.randrange(members), rng.randrange(areas), **letters)
 
 

@@ -24,7 +24,7 @@ def two_zones():
             record(REAL_TIME_LOAD, 1, 0, S=1_200, A=1_300),
             record(PROFILE_LOAD, 2, 0, S=800, A=850),
             record(GENERATOR, 1, 1, S=1_000, A=1_050, J=20, N=50, O=300, M=1_200, F=10_000, H=10_000),
-            record(IMPORT, 3, 1, S=400, A=420, J=10, N=5, F=9_900, H=9_900),
+            record(IMPORT, 3, 1, S=400, J=10, N=5, F=9_900, H=9_900),
             record(REAL_TIME_LOAD, 0, 1, S=900, A=880, N=30, O=950),
             record(PROFILE_LOAD, 3, 1, S=500, A=480),
             record(EXPORT, 2, 2, S=200, A=180, J=30),

@@ -26,7 +26,7 @@ LOADS = (REAL_TIME_LOAD, PROFILE_LOAD)
 
 # A record's words 3 to 10 by document 01's letters, the letters that each kind uses, and their ends.
 LETTERS = "SAJNOMFH"
-USED = {GENERATOR: "SAJNOMFH", REAL_TIME_LOAD: "SAJNO", PROFILE_LOAD: "SAJNO", IMPORT: "SAJNFH", EXPORT: "SAJ"}
+USED = {GENERATOR: "SAJNOMFH", REAL_TIME_LOAD: "SAJNO", PROFILE_LOAD: "SAJNO", IMPORT: "SJNFH", EXPORT: "SAJ"}
 LOWEST = dict(S=0, A=0, J=-100_000, N=0, O=0, M=0, F=1, H=1)
 HIGHEST = dict(S=100_000, A=100_000, J=100_000, N=100_000, O=100_000, M=100_000, F=20_000, H=20_000)
 
@@ -77,6 +77,11 @@ class Hour:
 def record(kind, member, area, **letters):
     """A record; letters that are left out are 0."""
     return {"kind": kind, "member": member, "area": area, **dict.fromkeys(LETTERS, 0), **letters}
+
+
+def letter_of_actual(kind):
+    """The letter of what a record took or brought: an import is deemed to have brought what was scheduled (document 02, A3)."""
+    return "S" if kind == IMPORT else "A"
 
 
 def record_words(each):
@@ -205,7 +210,8 @@ def equal_remainders(rng):
     demands = [rng.randint(1, 50) for _ in range(rng.randint(1, 2))]
     records = [record(rng.choice(LOADS), rng.randrange(4), 0, S=rng.randint(0, 50), A=rng.choice(demands))
                for _ in range(count)]
-    source = record(rng.choice([GENERATOR, IMPORT]), rng.randrange(4), 0, A=1, F=10_000, H=rng.randint(1, 20_000))
+    kind = rng.choice([GENERATOR, IMPORT])
+    source = record(kind, rng.randrange(4), 0, F=10_000, H=rng.randint(1, 20_000), **{letter_of_actual(kind): 1})
     records.insert(rng.randint(0, count), source)
     # ties that all but meet the demand, from either side, so that the UFE is small or large
     spare = rng.choice([0, 1, -1, rng.randint(-500, 500)])
@@ -338,7 +344,7 @@ def idle_as_planned(rng, member, areas):
     if kind in LOADS:
         return record(kind, member, area)
     if kind == IMPORT:
-        return record(kind, member, area, S=actual, A=actual, F=10_000, H=10_000)
+        return record(kind, member, area, S=actual, F=10_000, H=10_000)
     areas[area][2] += actual
     return record(kind, member, area, S=actual, A=actual, M=actual, F=10_000, H=10_000)
 
@@ -456,7 +462,7 @@ def largest_amounts(rng):
     else:
         ties = [0, 0, MOST_TIE]
         load = dict(S=100_000, A=1, J=100_000)
-        rest = record(IMPORT, 0, 0, A=100_000, J=-100_000, F=1, H=20_000)
+        rest = record(IMPORT, 0, 0, S=100_000, J=-100_000, F=1, H=20_000)
     areas = rng.choice([1, 8])
     records = [record(REAL_TIME_LOAD, 0, area, **load) for area in range(areas)]
     records += [{**rest, "area": place % areas} for place in range(MOST_RECORDS - areas)]
@@ -510,9 +516,10 @@ def nobody_demands(rng, hour):
 
 def keep_to_plan(each):
     """What was metered was planned, without losses, adjustments or obligations: no deviation."""
-    actual, multiplier = each["A"], 10_000 if "F" in USED[each["kind"]] else 0
+    letter, multiplier = letter_of_actual(each["kind"]), 10_000 if "F" in USED[each["kind"]] else 0
+    actual = each[letter]
     each.update(dict.fromkeys(LETTERS, 0))
-    each.update(S=actual, A=actual, F=multiplier, H=multiplier)
+    each.update({"S": actual, letter: actual, "F": multiplier, "H": multiplier})
     if each["kind"] == GENERATOR:
         each["M"] = actual
 
@@ -520,7 +527,7 @@ def keep_to_plan(each):
 def spoil_area(rng, hour, area):
     """Gives an area UFE that no load can carry."""
     balance(rng, hour, area)
-    sources = [r for r in hour.of_area(area, GENERATOR, IMPORT) if r["A"] > 0]
+    sources = [r for r in hour.of_area(area, GENERATOR, IMPORT) if r[letter_of_actual(r["kind"])] > 0]
     if sources and rng.random() < 0.5:
         rng.choice(sources)["H"] = rng.choice([9_999, 10_001, 1, 20_000])
     else:
@@ -744,6 +751,35 @@ def unused_field(rng, hour, blocks):
     return spoil_record(rng, hour, blocks, choose)
 
 
+PLACES = ("first", "middle", "last")
+
+
+def place_of(hour, which):
+    """The place of the first, a middle or the last of an hour's records; None where it has too few."""
+    count = len(hour.records)
+    return {"first": 0, "middle": count // 2, "last": count - 1}[which] if count >= 3 else None
+
+
+def import_with_actual(which):
+    """A fault for each of these places: an import whose word 4 isn't zero."""
+    def fault(rng, hour, blocks):
+        place = place_of(hour, which)
+        if place is None or hour.records[place]["kind"] != IMPORT:
+            return None
+        put_in_record(blocks, place, 4, unwanted(rng))
+        return 5, place
+    fault.__name__ = f"import_with_actual_{which}"
+    return fault
+
+
+def imports_as_document_01_had_them(rng, hour, blocks):
+    """A file of the form before document 02, A3, in which every import brought what was scheduled: word 4 is word 3."""
+    places = [place for place, each in enumerate(hour.records) if each["kind"] == IMPORT and each["S"] > 0]
+    for place in places:
+        put_in_record(blocks, place, 4, hour.records[place]["S"])
+    return (5, places[0]) if places else None
+
+
 def last_word_of_a_record(rng, hour, blocks):
     return spoil_record(rng, hour, blocks, lambda each: (11, unwanted(rng)))
 
@@ -864,7 +900,8 @@ HEAD_FAULTS = (*itertools.starmap(none_of, COUNTS), *itertools.starmap(too_many,
                price_too_low, price_past_zones, wrong_zone, wrong_tie_in, wrong_tie_out, fourth_word_of_an_area,
                area_past_areas, word_past_areas, last_word_of_the_head)
 RECORD_FAULTS = (wrong_kind, wrong_member, wrong_area, *map(field_too_high, LETTERS), adjustment_too_low,
-                 field_below_zero, no_multiplier, unused_field, last_word_of_a_record, wrong_kind_twice)
+                 field_below_zero, no_multiplier, unused_field, *map(import_with_actual, PLACES),
+                 imports_as_document_01_had_them, last_word_of_a_record, wrong_kind_twice)
 WORD_FAULTS = LAYOUT_FAULTS + HEAD_FAULTS + RECORD_FAULTS
 SUM_FAULTS = (wrong_sum, wrong_sum_by_its_highest_bit, wrong_sum_twice)
 LENGTH_FAULTS = (nothing_at_all, cut, bytes_too_many, file_too_long)

@@ -1,7 +1,7 @@
 """Hour files whose answers are known by hand, from document 01's table: refusals 1 to 5 at a first, a middle and a last place, the ends of
-several ranges, the longest file, the highest price, and two faults of which the table's order or the first place decides; and from document
-02, A1: hours in which nobody takes anything, with refusal 12 and without. And heads and records to be written (document 02, A2): those of
-these files, and inputs of lengths that are right and wrong.
+several ranges, the longest file, the highest price, and two faults of which the table's order or the first place decides; from document
+02, A1: hours in which nobody takes anything, with refusal 12 and without; and from A3: imports whose word 4 isn't zero, and an hour with
+losses of one. And heads and records to be written (document 02, A2): those of these files, and inputs of lengths that are right and wrong.
 
 `cases()` gives each file's name, the first line of its statement, and its bytes; `cases_to_write()` each input's name, what program
 `write_hour` must write, and the input. No program had a part in those lines, and nothing here is left to chance, so that the files come out
@@ -164,8 +164,35 @@ def of_no_demand():
     yield "record-before-no-demand", "refused 5 at 1", words(idle_hour(1_000, (1, 1), (1, 1)).blocks(), (*field(1, 11), 1))
 
 
+# ---- Imports, whose actual energy is deemed to be the scheduled one (document 02, A3)
+
+def import_hour():
+    """An import of member 0 and a load of member 1 in an area with 300 kWh of tie in, at a cent a kWh.
+    Deviation of the import: 300 x 10,000 - (300 - 50) x 9,000 + 10,000 x 20 = 3,000,000 - 2,250,000 + 200,000 = 950,000; of the load: 0.
+    Losses: 300 x (10,000 - 9,000) = 300,000. UFE: 10,000 x (300 - 260) - 300,000 = 100,000, all to the load.
+    Charges: 95 and 10 cents. N is 105, and all of it the load's: finals 95 and -95."""
+    return hours.Hour(7, 2, [1_000], [[0, 300, 0]], [
+        hours.record(hours.IMPORT, 0, 0, S=300, J=50, N=20, F=10_000, H=9_000), hours.record(hours.PROFILE_LOAD, 1, 0, S=260, A=260)])
+
+
+def thirteen_imports():
+    """Three blocks, with three imports in the last."""
+    return hours.Hour(7, 1, [1_000], [[0, 0, 0]], [hours.record(hours.IMPORT, 0, 0, S=300, F=10_000, H=10_000)] * 13).blocks()
+
+
+def of_imports():
+    """Word 4 of an import is zero, whatever its word 3 is."""
+    yield "import-as-scheduled", "hour 7 members 2 records 2", import_hour().encode()
+    yield "imports-as-scheduled", "hour 7 members 1 records 13", hours.to_bytes(thirteen_imports())
+    yield "import-word-4-first", "refused 5 at 0", words(thirteen_imports(), (*field(0, 4), 1))
+    yield "import-word-4-middle", "refused 5 at 6", words(thirteen_imports(), (*field(6, 4), 100_000))
+    yield "import-word-4-last", "refused 5 at 12", words(thirteen_imports(), (*field(12, 4), -1))
+    yield "import-word-4-is-word-3", "refused 5 at 9", words(thirteen_imports(), (*field(9, 4), 300))
+    yield "first-import-of-two", "refused 5 at 2", words(thirteen_imports(), (*field(11, 4), 300), (*field(2, 4), 1))
+
+
 def cases():
-    return itertools.chain(of_lengths(), of_blocks(), of_heads(), of_records(), of_two_faults(), of_no_demand())
+    return itertools.chain(of_lengths(), of_blocks(), of_heads(), of_records(), of_two_faults(), of_no_demand(), of_imports())
 
 
 # ---- Heads and records to be written: name, what must be written, input

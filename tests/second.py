@@ -72,11 +72,12 @@ ENERGY = range(100_001)
 ADJUSTMENT = range(-100_000, 100_001)
 MULTIPLIER = range(1, 20_001)
 
-# Words 3 to 10 of a record by document 01's letters, and which of them each kind uses.
+# Words 3 to 10 of a record by document 01's letters, and which of them each kind uses; an import has no A of its
+# own (document 02, A3).
 RECORD_RANGES = {"S": ENERGY, "A": ENERGY, "J": ADJUSTMENT, "N": ENERGY,
                  "O": ENERGY, "M": ENERGY, "F": MULTIPLIER, "H": MULTIPLIER}
 LETTERS_USED = {GENERATOR: "SAJNOMFH", REAL_TIME_LOAD: "SAJNO", PROFILE_LOAD: "SAJNO",
-                IMPORT: "SAJNFH", EXPORT: "SAJ"}
+                IMPORT: "SJNFH", EXPORT: "SAJ"}
 
 
 def signed(word):
@@ -230,7 +231,7 @@ def write_hour(head, words, room):
     return file
 
 
-# ---- The sums (document 003, D 2.1 and D 2.2; document 01, "The sums")
+# ---- The sums (document 003, D 2.1 and D 2.2; document 01, "The sums"; document 02, A3)
 
 def multiplier(ten_thousandths):
     return Fraction(ten_thousandths, 10_000)
@@ -241,6 +242,11 @@ def units(kwh):
     value = kwh * UNITS_IN_A_KWH
     assert value.denominator == 1
     return value.numerator
+
+
+def actual(r):
+    """A, in kWh: the actual import is deemed to be the scheduled one (document 000, D 3.19)."""
+    return r["S"] if r["kind"] == IMPORT else r["A"]
 
 
 def generator_deviation(r):
@@ -258,7 +264,7 @@ def load_deviation(r):
 
 def import_deviation(r):
     """D 2.1, ImpDev."""
-    return r["S"] * multiplier(r["F"]) - (r["A"] - r["J"]) * multiplier(r["H"]) + r["N"]
+    return r["S"] * multiplier(r["F"]) - (actual(r) - r["J"]) * multiplier(r["H"]) + r["N"]
 
 
 def export_deviation(r):
@@ -290,7 +296,7 @@ def unaccounted_energy(hour, area):
     """D 2.2, UFE of an area, in units."""
     ties = hour["areas"][area]
     generated = sum(r["A"] for r in records_of(hour, area, GENERATOR))
-    losses = sum(r["A"] * (1 - multiplier(r["H"])) for r in records_of(hour, area, GENERATOR, IMPORT))
+    losses = sum(actual(r) * (1 - multiplier(r["H"])) for r in records_of(hour, area, GENERATOR, IMPORT))
     return units(Fraction(ties["in"] - ties["out"] + generated - demand(hour, area)) - losses)
 
 

@@ -2,8 +2,8 @@
 
     python3 -m unittest tests/test_known.py       # `statement` and `write_hour` from target/bin; the programs of tests/archive are made
 
-The files of tests/known.py, the printed case and an hour with finals of its own in buffers of several lengths, hours to be written, and
-text amounts, document 01's figures among them.
+The files of tests/known.py, the printed case, an hour with finals of its own and one with an import in buffers of several lengths, hours to
+be written, and text amounts, document 01's figures among them.
 """
 
 import struct
@@ -75,6 +75,11 @@ class Buffers(unittest.TestCase):
             " 200000000:1 -100000000:2 -20000000:1 0:1", " 20 -10 -2 0", " 20 -14 -5 -1 77 77", " 0 0 0 0 0",
             " 200000 20000 0 100000 0"))
 
+    def test_an_import(self):
+        """Worked by hand in tests/known.py."""
+        self.assertEqual(printed_by("settled", known.import_hour().encode(), 2, 2, 2, 2, 2), "answer 0 at 0\nufe 100000 0 0 0 0 0 0 0\n" +
+                         self.settled(" 950000000:1 100000000:1", " 95 10", " 95 -95", " 0 100000", " 950000 0"))
+
     def test_a_place_short(self):
         for short in range(5):
             lengths = [1 if place == short else 2 for place in range(5)]
@@ -89,7 +94,7 @@ class Buffers(unittest.TestCase):
 
 
 class Statements(unittest.TestCase):
-    """The second column: document 02's printed case, and an hour that is worked by hand in examples/neutrality.md."""
+    """Both columns, of document 02's printed case and of hours that are worked by hand in examples/neutrality.md and tests/known.py."""
 
     def test_finals(self):
         self.assertEqual(printed_by("statement", PRINTED), "hour 7 members 2 records 2\n"
@@ -97,6 +102,10 @@ class Statements(unittest.TestCase):
         self.assertEqual(printed_by("statement", NEUTRALITY), "hour 1402 members 4 records 5\n"
                          "00          +0.20          +0.20\n01          -0.10          -0.14\n"
                          "02          -0.02          -0.05\n03          +0.00          -0.01\n")
+
+    def test_an_import(self):
+        self.assertEqual(printed_by("statement", known.import_hour().encode()), "hour 7 members 2 records 2\n"
+                         "00          +0.95          +0.95\n01          +0.10          -0.95\n")
 
 
 class Written(unittest.TestCase):

@@ -3,7 +3,7 @@
     python3 -m unittest tests/test_second.py
 
 Document 01's own figures and printed case, every refusal, text amounts, the three bounds of demand 3 with
-exact fractions, document 02's finals and hour files that are written, and that tests/compare notices a wrong program.
+exact fractions, document 02's finals, hour files that are written and imports, and that tests/compare notices a wrong program.
 """
 
 import contextlib
@@ -54,7 +54,7 @@ def answer(hour, lengths=second.USUAL_LENGTHS):
 
 
 class Figures(unittest.TestCase):
-    """Document 01, "Figures to check by"."""
+    """Document 01, "Figures to check by", with imports as document 02, A3, has them."""
 
     def deviation(self, kind, **letters):
         return second.deviation(record(kind, 0, 0, **letters))
@@ -71,16 +71,16 @@ class Figures(unittest.TestCase):
             self.assertEqual(self.deviation(kind, S=500, A=450), 500_000)
 
     def test_imports_and_exports(self):
-        self.assertEqual(self.deviation(IMPORT, S=300, A=300, J=50, F=10_000, H=9_000), 750_000)
+        self.assertEqual(self.deviation(IMPORT, S=300, J=50, F=10_000, H=9_000), 750_000)
         self.assertEqual(self.deviation(EXPORT, S=200, A=180, J=30), -100_000)
 
     def test_ancillary_energy_is_not_scaled_by_losses(self):
         self.assertEqual(self.deviation(GENERATOR, A=100, N=40, M=100, F=1, H=9_000), -500_000)
-        self.assertEqual(self.deviation(IMPORT, A=100, N=40, F=1, H=9_000), -500_000)
+        self.assertEqual(self.deviation(IMPORT, S=100, N=40, F=10_000, H=9_000), 500_000)
 
     def test_adjustment_is_scaled_by_losses(self):
         self.assertEqual(self.deviation(GENERATOR, A=100, J=-10, M=100, F=1, H=9_000), -990_000)
-        self.assertEqual(self.deviation(IMPORT, A=100, J=-10, F=1, H=9_000), -990_000)
+        self.assertEqual(self.deviation(IMPORT, S=100, J=-10, F=10_000, H=9_000), 10_000)
 
     def test_deviations_in_units_as_document_01_writes_them(self):
         rng = random.Random(1)
@@ -90,9 +90,25 @@ class Figures(unittest.TestCase):
             load = 10_000 * (s - ((a - j) + n) - max(0, (o - n) - a))
             units = {GENERATOR: s * f - ((a - j) * h - 10_000 * n) - 10_000 * min(0, m - a - (o - n)),
                      REAL_TIME_LOAD: load, PROFILE_LOAD: load,
-                     IMPORT: s * f - (a - j) * h + 10_000 * n,
+                     IMPORT: s * f - (s - j) * h + 10_000 * n,  # A of an import is S (document 02, A3)
                      EXPORT: 10_000 * (s - a - j)}
             self.assertEqual(second.deviation(r), units[r["kind"]], r)
+
+    def test_ufe_in_units_as_document_01_writes_it(self):
+        for turn in range(100):
+            hour = hours.ordinary(random.Random(turn))
+            for area, (_, tie_in, tie_out) in enumerate(hour.areas):
+                generators, loads = hour.of_area(area, GENERATOR), hour.of_area(area, *hours.LOADS)
+                kwh = tie_in - tie_out + sum(r["A"] for r in generators) - sum(r["A"] for r in loads)
+                losses = sum(r["A"] * (10_000 - r["H"]) for r in generators)
+                losses += sum(r["S"] * (10_000 - r["H"]) for r in hour.of_area(area, IMPORT))
+                self.assertEqual(second.unaccounted_energy(second.read_hour(hour.encode()), area), 10_000 * kwh - losses)
+
+    def test_an_import_that_is_worked_by_hand(self):
+        """In tests/known.py."""
+        self.assertEqual(second.settle(known.import_hour().encode(), (2, 2, 2, 2, 2)), (
+            0, 0, [100_000, 0, 0, 0, 0, 0, 0, 0], [95, 10], [95, -95], [0, 100_000], [950_000, 0],
+            [(950_000_000, 1), (100_000_000, 1)]))
 
     def test_shares(self):
         self.assertEqual(second.shares_of([1, 1, 1], 10), [4, 3, 3])
@@ -233,18 +249,19 @@ class Refusals(unittest.TestCase):
                 self.assertEqual(settled[2:], ([0] * 8, [77] * 32, [77] * 32, [77] * 250, [77] * 250, [(77, 77)] * 32))
 
     def test_every_word_of_a_small_file_is_looked_at(self):
-        """One more is accepted in the words that hold a figure with room above it, and in no other."""
-        blocks = hours.printed_case().blocks()
-        figures = {(0, word) for word in (8, 9, 10, 11, 12, 17, 18)}
-        figures |= {(1, 8 + word) for word in (1, *range(3, 11))}
-        figures |= {(1, 20 + word) for word in (0, *range(3, 8))}
-        for block in range(2):
-            for word in set(range(128)) - {7}:
-                changed = [list(each) for each in blocks]
-                changed[block][word] += 1
-                hours.mend(changed[block])
-                number = answer(hours.to_bytes(changed))[0]
-                self.assertEqual(number == 0, (block, word) in figures, (block, word))
+        """One more is accepted in the words that hold a figure with room above it, and in no other: of a generator and a load, and of an
+        import and a load."""
+        for hour, one, other in ((hours.printed_case(), (1, *range(3, 11)), (0, *range(3, 8))),
+                                 (known.import_hour(), (1, 3, 5, 6, 9, 10), range(3, 8))):
+            figures = {(0, word) for word in (8, 9, 10, 11, 12, 17, 18)}
+            figures |= {(1, 8 + word) for word in one} | {(1, 20 + word) for word in other}
+            for block in range(2):
+                for word in set(range(128)) - {7}:
+                    changed = hour.blocks()
+                    changed[block][word] += 1
+                    hours.mend(changed[block])
+                    number = answer(hours.to_bytes(changed))[0]
+                    self.assertEqual(number == 0, (block, word) in figures, (block, word))
 
     def test_seven_cannot_occur(self):
         """The bound that tests/hours.py works out, and the largest amounts that were thought of."""
@@ -384,7 +401,7 @@ class Finals(unittest.TestCase):
     def test_demand_is_of_all_loads_in_all_areas(self):
         hour = Hour(1, 3, [1], [[0, 0, 0]] * 3, [
             record(REAL_TIME_LOAD, 1, 0, A=5), record(PROFILE_LOAD, 1, 2, A=7), record(REAL_TIME_LOAD, 0, 1, S=9, A=1, J=4),
-            record(GENERATOR, 0, 0, A=100, F=1, H=1), record(IMPORT, 1, 0, A=100, F=1, H=1), record(EXPORT, 2, 0, A=100)])
+            record(GENERATOR, 0, 0, A=100, F=1, H=1), record(IMPORT, 1, 0, S=100, F=1, H=1), record(EXPORT, 2, 0, A=100)])
         self.assertEqual(second.member_demands(second.read_hour(hour.encode())), [1, 12, 0])
 
     def test_bounds(self):
@@ -551,14 +568,17 @@ class MadeHours(unittest.TestCase):
             self.assertEqual((len(whole), abs(ufe) - sum(whole)), (250, 249))
 
     def test_the_earlier_of_equal_remainders(self):
-        decided = 0
+        """And a single kWh of a generator or of an import has losses, so that the UFE is no whole kWh."""
+        decided, lossy = 0, set()
         for turn in range(60):
             hour = second.read_hour(hours.equal_remainders(random.Random(turn)).encode())
             ufe, total = abs(second.unaccounted_energy(hour, 0)), second.demand(hour, 0)
+            lossy |= {r["kind"] for r in hour["records"] if ufe % 10_000 != 0} - set(second.LOADS)
             rests = sorted((r["A"] * ufe % total for r in second.records_of(hour, 0, *second.LOADS)), reverse=True)
             left = sum(rests) // total
             decided += 0 < left < len(rests) and rests[left - 1] == rests[left]
         self.assertGreater(decided, 30)
+        self.assertEqual(lossy, {GENERATOR, IMPORT})
 
     def test_halves(self):
         exact = 0
@@ -624,7 +644,7 @@ HOUR_SLIPS = {
     "smallest remainders": ("key=remainders.__getitem__, reverse=True", "key=remainders.__getitem__"),
     "losses of imports left out": ("records_of(hour, area, GENERATOR, IMPORT)", "records_of(hour, area, GENERATOR)"),
     "imports counted as generation": (
-        "records_of(hour, area, GENERATOR))", "records_of(hour, area, GENERATOR) + records_of(hour, area, IMPORT))"),
+        'sum(r["A"] for r in records_of(hour, area, GENERATOR))', "sum(actual(r) for r in records_of(hour, area, GENERATOR, IMPORT))"),
     "profile loads left out": ("LOADS = (REAL_TIME_LOAD, PROFILE_LOAD)", "LOADS = (REAL_TIME_LOAD,)"),
     "import's ancillary energy subtracted": ('multiplier(r["H"]) + r["N"]', 'multiplier(r["H"]) - r["N"]'),
     "export's adjustment added": ('r["S"] - r["A"] - r["J"]', 'r["S"] - r["A"] + r["J"]'),
@@ -680,6 +700,23 @@ HOUR_SLIPS.update({
     "charges in the second column": ("column(charge), column(final)", "column(charge), column(charge)"),
     "finals in the first column": ("column(charge), column(final)", "column(final), column(charge)"),
     "no blank between the columns": ('b"%02d %s %s', 'b"%02d %s%s'),
+})
+
+# The imports of document 02, A3; first what row 5 asks of them, which the hours to write must show too.
+RANGES = "for letter, allowed in RECORD_RANGES.items())"
+IMPORT_SLIPS = {
+    "an import's word 4 ignored": (RANGES, f'{RANGES[:-1]} if (record["kind"], letter) != (IMPORT, "A"))'),
+    "an import's word 4 as other kinds have it": ('IMPORT: "SJNFH"', 'IMPORT: "SAJNFH"'),
+    "an import's word 4 ignored where it is word 3": (
+        RANGES, f'{RANGES[:-1]} if (record["kind"], letter, record["A"]) != (IMPORT, "A", record["S"]))'),
+}
+HOUR_SLIPS.update({
+    **IMPORT_SLIPS,
+    "S in an import's deviation, word 4 in its losses": ("sum(actual(r) * (1 -", 'sum(r["A"] * (1 -'),
+    "S in an import's losses, word 4 in its deviation": ('(actual(r) - r["J"])', '(r["A"] - r["J"])'),
+    "imports as document 01 had them": (
+        'IMPORT: "SJNFH"', 'IMPORT: "SAJNFH"', 'return r["S"] if r["kind"] == IMPORT else r["A"]', 'return r["A"]'),
+    "the losses of every kind as scheduled": ("sum(actual(r) * (1 -", 'sum(r["S"] * (1 -'),
 })
 
 # A refusal that names the last such place in place of the first.
@@ -922,7 +959,7 @@ class Noticing(unittest.TestCase):
     def test_the_hours_to_write_show_every_slip(self):
         cases = [compare.writing_of(1, index) for index in range(500)]
         cases.sort(key=lambda case: len(case.made.data))
-        for name in (*WRITING_SLIPS, "last word of the head", "last record"):
+        for name in (*WRITING_SLIPS, *IMPORT_SLIPS, "last word of the head", "last record"):
             wrong = self.wrong_program(name)
             with self.subTest(name):
                 self.assertTrue(any(wrong.written_hour(case.made.data) != case.file

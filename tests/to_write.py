@@ -63,10 +63,9 @@ def some_room(rng, needed):
 
 def wrong_at(which):
     def fault(rng, hour, blocks):
-        count = len(hour.records)
-        if count < 3:
+        place = hours.place_of(hour, which)
+        if place is None:
             return None
-        place = {"first": 0, "middle": count // 2, "last": count - 1}[which]
         hours.put_in_record(blocks, place, *rng.choice([(0, 6), (11, 1), (1, hour.members), (3, 100_001)]))
         return 5, place
     fault.__name__ = f"{which}_record_wrong"
@@ -102,7 +101,7 @@ def too_many_records(rng, data):
 
 
 LENGTH_FAULTS = (nothing_at_all, head_cut, no_whole_word, no_whole_record, too_many_records)
-PLACED_FAULTS = tuple(map(wrong_at, ("first", "middle", "last")))
+PLACED_FAULTS = tuple(map(wrong_at, hours.PLACES))
 RECORD_FAULTS = hours.RECORD_FAULTS + PLACED_FAULTS
 FAULTS = hours.HEAD_FAULTS + RECORD_FAULTS + LENGTH_FAULTS
 
@@ -188,10 +187,11 @@ def made(seed, index):
 class Reached:
     """What SIDES ask about: what was made, and what the program `write_hour` and the call from C answer to it."""
 
-    def __init__(self, case, program, called):
-        """`program` is the number and place that the program answers, `called` the number that the call does."""
+    def __init__(self, case, program, called, imported):
+        """`program` is the number and place that the program answers, `called` the number that the call does, `imported` the import that
+        row 5 refuses for its word 4 alone, or None."""
         self.number, self.place = program
-        self.called = called
+        self.called, self.imported = called, imported
         self.bytes, self.split, self.records = len(case.data), case.split, records_in(case.data)
         self.spare = case.room - bytes_needed(case.data)
         self.due = [number for number, _ in case.due or []]
@@ -201,6 +201,18 @@ class Reached:
         return self.number == one and self.due.count(two) > (one == two)
 
 
+def at_each_place(name, shows):
+    """Sides of a record that is refused: the first of some, one between, and the last."""
+    return {f"{name} at the first of some records": lambda r: shows(r) and r.place == 0 < r.records - 1,
+            f"{name} at a middle record": lambda r: shows(r) and 0 < r.place < r.records - 1,
+            f"{name} at the last of some records": lambda r: shows(r) and r.place == r.records - 1 > 0}
+
+
+# Document 02, A3; the hours to settle must reach these too.
+IMPORT_SIDES = {
+    **at_each_place("5 by an import's word 4", lambda r: r.imported),
+    "5 by an import's word 4 that is its word 3": lambda r: r.imported and r.imported["A"] == r.imported["S"],
+}
 SIDES = {f"written, {count} records": lambda r, count=count: r.number == 0 and r.records == count for count in COUNTS}
 SIDES.update({
     "1, no bytes": lambda r: r.number == 1 and r.bytes == 0,
@@ -213,9 +225,8 @@ SIDES.update({
     "4 at its first word": lambda r: r.number == 4 and r.place == 9,
     "4 at a middle word": lambda r: r.number == 4 and 9 < r.place < 127,
     "4 at its last word": lambda r: r.number == 4 and r.place == 127,
-    "5 at the first of some records": lambda r: r.number == 5 and r.place == 0 < r.records - 1,
-    "5 at a middle record": lambda r: r.number == 5 and 0 < r.place < r.records - 1,
-    "5 at the last of some records": lambda r: r.number == 5 and r.place == r.records - 1 > 0,
+    **at_each_place("5", lambda r: r.number == 5),
+    **IMPORT_SIDES,
     "1 where 4 is due as well": lambda r: r.both(1, 4),
     "1 where 5 is due as well": lambda r: r.both(1, 5),
     "4 where 5 is due as well": lambda r: r.both(4, 5),

@@ -68,6 +68,19 @@ static void spoil_record(hour_file *hour)
     mend_sum(hour, block);
 }
 
+/* An import with an actual energy, as scheduled or another: a word that it does not use. */
+static void spoil_import(hour_file *hour)
+{
+    size_t record = hour->records == 0 ? 0 : below(hour->records);
+    while (record < hour->records && record_words(hour, record)[KIND] != IMPORT)
+        record++;
+    if (record == hour->records)
+        return;
+    uint32_t *words = record_words(hour, record);
+    words[ACTUAL] = once_in(2) ? words[SCHEDULED] : past_an_end();
+    mend_sum(hour, 1 + record / BLOCK_RECORDS);
+}
+
 static void swap_blocks(hour_file *hour)
 {
     uint32_t held[BLOCK_WORDS];
@@ -89,7 +102,7 @@ static void spoil_length(hour_file *hour)
 void damage_hour(hour_file *hour)
 {
     static void (*const damages[])(hour_file *) = {
-        flip_bit, spoil_front, spoil_count, spoil_zeros, spoil_head, spoil_record, swap_blocks
+        flip_bit, spoil_front, spoil_count, spoil_zeros, spoil_head, spoil_record, spoil_import, swap_blocks
     };
     enum { DAMAGES = sizeof damages / sizeof *damages };
     damages[below(DAMAGES)](hour);

@@ -13,7 +13,7 @@ static enum { SMALL, USUAL, WIDE, ENDS, MANNERS } manner;
 static enum { EVERY_AREA, ANYBODY, NOBODY } takers;
 
 /* Whether a kind uses words 3 to 10 of a record: bit 0 is word 3. */
-static const unsigned uses[] = { [GENERATOR] = 0xFF, [REAL_TIME_LOAD] = 0x1F, [PROFILE_LOAD] = 0x1F, [IMPORT] = 0xCF, [EXPORT] = 0x07 };
+static const unsigned uses[] = { [GENERATOR] = 0xFF, [REAL_TIME_LOAD] = 0x1F, [PROFILE_LOAD] = 0x1F, [IMPORT] = 0xCD, [EXPORT] = 0x07 };
 
 static int64_t up_to(int64_t most, int64_t low, int64_t high)
 {
@@ -38,7 +38,7 @@ static uint32_t number(int64_t low, int64_t high)
     }
 }
 
-static uint32_t *record_words(hour_file *hour, size_t record)
+uint32_t *record_words(hour_file *hour, size_t record)
 {
     return hour->words + BLOCK_WORDS * (1 + record / BLOCK_RECORDS) + BODY_WORD + RECORD_WORDS * (record % BLOCK_RECORDS);
 }

@@ -18,6 +18,8 @@ void make_hour(hour_file *hour);
 /* Spoils one thing, or two. */
 void damage_hour(hour_file *hour);
 
+uint32_t *record_words(hour_file *hour, size_t record);
+
 /* Chooses word 7 of a block so that its words add up to zero. */
 void mend_sum(hour_file *hour, size_t block);
 

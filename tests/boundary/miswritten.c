@@ -14,8 +14,7 @@ static void put_word(uint8_t *block, size_t at, uint32_t value)
     memcpy(block + 4 * at, &value, sizeof value);
 }
 
-/* A word of a block changed, with the sum mended: nothing but the word tells. */
-static void change_word(uint8_t *block, size_t at, uint32_t value)
+void change_word(uint8_t *block, size_t at, uint32_t value)
 {
     put_word(block, SUM_WORD, word(block, SUM_WORD) + word(block, at) - value);
     put_word(block, at, value);
@@ -78,6 +77,18 @@ static sneupelaar_written last_record(ARGUMENTS)
     return written;
 }
 
+/* An import whose word 4 isn't zero, written as though it were. */
+static sneupelaar_written import_let_through(ARGUMENTS)
+{
+    static uint32_t without[RECORD_WORDS * MOST_RECORDS];
+    sneupelaar_written written = sneupelaar_write_hour(PASSED);
+    if (written.number != 5 || records[RECORD_WORDS * written.place + KIND] != IMPORT)
+        return written;
+    memcpy(without, records, 4 * records_length);
+    without[RECORD_WORDS * written.place + ACTUAL] = 0;
+    return sneupelaar_write_hour(head, head_length, without, records_length, file, file_length);
+}
+
 static sneupelaar_written length_on_refusal(ARGUMENTS)
 {
     sneupelaar_written written = sneupelaar_write_hour(PASSED);
@@ -126,7 +137,8 @@ write_hour_function *miswritten(const char *how)
         write_hour_function *write_hour;
     } faults[] = { { "ten", ten_in_the_last }, { "seal", seal_left_out }, { "others", one_block_too_many },
         { "empty", block_for_no_records }, { "word", words_from_0 }, { "record", last_record }, { "length", length_on_refusal },
-        { "past", byte_past_the_last_block }, { "early", head_before_refusal }, { "room", room_first }, { "over", word_past_the_records } };
+        { "past", byte_past_the_last_block }, { "early", head_before_refusal }, { "room", room_first }, { "over", word_past_the_records },
+        { "import", import_let_through } };
     for (size_t at = 0; at < sizeof faults / sizeof *faults; at++)
         if (strcmp(how, faults[at].name) == 0)
             return faults[at].write_hour;

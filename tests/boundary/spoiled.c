@@ -113,6 +113,48 @@ static sneupelaar_settled twelve_last(ARGUMENTS)
     return settled;
 }
 
+/* An import whose word 4 isn't zero, settled as though it were. */
+static sneupelaar_settled import_let_through(ARGUMENTS)
+{
+    static uint8_t without[MOST_BLOCKS * BLOCK_BYTES];
+    sneupelaar_settled settled = sneupelaar_settle(PASSED);
+    if (settled.number != 5 || word(record_at(file, settled.place), KIND) != IMPORT)
+        return settled;
+    memcpy(without, file, file_length);
+    uint8_t *block = without + BLOCK_BYTES * (1 + settled.place / BLOCK_RECORDS);
+    change_word(block, BODY_WORD + RECORD_WORDS * (settled.place % BLOCK_RECORDS) + ACTUAL, 0);
+    file = without;
+    return sneupelaar_settle(PASSED);
+}
+
+/* The actual energy of an import, which is deemed to be the scheduled one; 0 of another record. */
+static int64_t imported(const uint8_t *record)
+{
+    return word(record, KIND) == IMPORT ? word(record, SCHEDULED) : 0;
+}
+
+/* Losses of imports by word 4, which is zero: the UFE is without them. */
+static sneupelaar_settled losses_by_word_4(ARGUMENTS)
+{
+    sneupelaar_settled settled = sneupelaar_settle(PASSED);
+    for (size_t at = 0; settled.number == 0 && at < records_in(file, file_length); at++) {
+        const uint8_t *record = record_at(file, at);
+        settled.ufe[word(record, AREA)] += imported(record) * (10000 - (int64_t)word(record, HOUR_AHEAD_MULTIPLIER));
+    }
+    return settled;
+}
+
+/* And their deviations: what they brought is not taken off. */
+static sneupelaar_settled deviation_by_word_4(ARGUMENTS)
+{
+    sneupelaar_settled settled = sneupelaar_settle(PASSED);
+    for (size_t at = 0; settled.number == 0 && at < records_in(file, file_length); at++) {
+        const uint8_t *record = record_at(file, at);
+        deviations[at] += imported(record) * word(record, HOUR_AHEAD_MULTIPLIER);
+    }
+    return settled;
+}
+
 settle_function *spoiled(const char *how)
 {
     static const struct {
@@ -120,7 +162,8 @@ settle_function *spoiled(const char *how)
         settle_function *settle;
     } faults[] = { { "place", wrong_place }, { "ufe", wrong_ufe }, { "line", last_line }, { "share", last_share },
         { "deviation", first_deviation }, { "refusal", charge_on_refusal }, { "beside", beside_charges }, { "added", share_added },
-        { "kind", real_time_alone }, { "order", twelve_last } };
+        { "kind", real_time_alone }, { "order", twelve_last }, { "actual", import_let_through }, { "losses", losses_by_word_4 },
+        { "deviates", deviation_by_word_4 } };
     for (size_t at = 0; at < sizeof faults / sizeof *faults; at++)
         if (strcmp(how, faults[at].name) == 0)
             return faults[at].settle;

@@ -32,4 +32,7 @@ void lie(const char *buffer, const char *side);
 settle_function *spoiled(const char *how);
 write_hour_function *miswritten(const char *how);
 
+/* A word of a block changed, with the sum mended: nothing but the word tells. */
+void change_word(uint8_t *block, size_t at, uint32_t value);
+
 #endif

@@ -8,7 +8,7 @@ static const int64_t WHOLE = 10000;                /* a kWh in units; a multipli
 static const int64_t CENT = 10000000;              /* in grains */
 static const int64_t MOST_GRAINS = 4000000000000000000;
 
-/* A record's numbers under document 01's letters. */
+/* A record's numbers under document 01's letters; the actual energy of an import is deemed to be the scheduled one (document 02, A3). */
 typedef struct {
     uint32_t kind, member, area;
     int64_t s, a, j, n, o, m, f, h;
@@ -28,12 +28,13 @@ typedef struct {
 static entry entry_at(const uint8_t *file, size_t at)
 {
     const uint8_t *record = record_at(file, at);
+    uint32_t kind = word(record, KIND);
     return (entry){
-        .kind = word(record, KIND),
+        .kind = kind,
         .member = word(record, MEMBER),
         .area = word(record, AREA),
         .s = word(record, SCHEDULED),
-        .a = word(record, ACTUAL),
+        .a = word(record, kind == IMPORT ? SCHEDULED : ACTUAL),
         .j = (int32_t)word(record, ADJUSTMENT),
         .n = word(record, ANCILLARY),
         .o = word(record, OBLIGATION),
