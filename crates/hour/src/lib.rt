@@ -2,6 +2,7 @@
 // that the compiler folds its numbers in. A record's numbers are read from its part of the file, as `record` hands it out, without a test: a
 // word costs one load. Nothing is summed here, and nothing is refused: the file was examined before.
 ghost use mathlib.Core.Path.{_≡_};
+ghost use mathlib.Core.Bool.{cond};
 ghost use Prim.Native.Nat.{_<_};
 ghost use lib.ListN.{length};
 ghost use Rattle.rules.specs.Record as Record;
@@ -118,26 +119,27 @@ pub fn area_in(words: &[u8]) -> usize
     blocks::whole_word(words, 2) as usize
 }
 
-// A: word 4; an import's is deemed to be S, word 3.
-fn actual_in(words: &[u8]) -> u32
-    requires { ⌜ length (now words) ≡ 48 ⌝ }
-    ensures { λ r. ⌜ r ≡ Record.actual (word (now (words .entry))) ⌝ }
+// A: what was metered; an import's is deemed to be S. Both are handed over, so that the compiler chooses between two words that it has read
+// and not between two places.
+fn actual(kind: Kind, scheduled: u32, metered: u32) -> u32
+    ensures { λ r. ⌜ r ≡ cond (Record.isImport kind) scheduled metered ⌝ }
 {
-    let kind = kind_in(words);
     if let Kind::Import = kind {
-        return blocks::whole_word(words, 3);
+        return scheduled;
     }
-    blocks::whole_word(words, 4)
+    metered
 }
 
 pub fn entry_in(words: &[u8]) -> Entry
     requires { ⌜ length (now words) ≡ 48 ⌝ }
     ensures { λ r. ⌜ meant r ≡ Record.entry (word (now (words .entry))) ⌝ }
 {
+    let kind = kind_in(words);
+    let scheduled = blocks::whole_word(words, 3);
     Entry {
-        kind: kind_in(words),
-        s: blocks::whole_word(words, 3) as i64,
-        a: actual_in(words) as i64,
+        kind: kind,
+        s: scheduled as i64,
+        a: actual(kind, scheduled, blocks::whole_word(words, 4)) as i64,
         j: blocks::signed(blocks::whole_word(words, 5)),
         n: blocks::whole_word(words, 6) as i64,
         o: blocks::whole_word(words, 7) as i64,

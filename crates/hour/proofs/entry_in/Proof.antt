@@ -1,9 +1,14 @@
 -- `hour::entry_in` meets its contract, letter by letter: each is one word of the part.
-use mathlib.Core.Path.{_∙_, ap}
+use mathlib.Core.Path.{_≡_, _∙_, ap}
+use mathlib.Core.Bool.{cond}
+use mathlib.Core.List.{List}
+use Prim.Native.Nat.{ℕ}
 use native.Mathlib.Omega.{arith}
 use borrow.Author.Needs.{sfits-of}
 use Rattle.whole.proofs.Machine.{read-back}
-use Rattle.rules.specs.Record.{entry, signed}
+use Rattle.rules.specs.declared.Kind.{Kind}
+use Rattle.rules.specs.Record.{kindOf, isImport, actual, entry, signed}
+use Rattle.rules.specs.HourFile.{word}
 use Rattle.hour.proofs.Wide.{word-is}
 use Rattle.hour.proofs.entry_in.Statement.{statement}
 use Rattle.hour.proofs.entry_in.Tie as tie
@@ -11,68 +16,78 @@ use Rattle.hour.proofs.entry_in.Tie as tie
 kind-in-requires : tie.Need-kind-in-requires
 kind-in-requires c κs = omega arith
 
--- s: blocks::whole_word(words, 3)
+-- blocks::whole_word(words, 3)
 whole-word-requires : tie.Need-whole-word-requires
 whole-word-requires c κs = omega arith
 
--- s: blocks::whole_word(words, 3) as i64
+-- s: scheduled as i64
 cast-t4 : tie.Need-cast-t4
 cast-t4 c = omega arith
 
--- a: actual_in(words)
-actual-in-requires : tie.Need-actual-in-requires
-actual-in-requires c κs = omega arith
-
--- a: actual_in(words) as i64
-cast-t6 : tie.Need-cast-t6
-cast-t6 c = omega arith
-
--- j: blocks::signed(blocks::whole_word(words, 5))
+-- a: actual(kind, scheduled, blocks::whole_word(words, 4))
 whole-word-requires-2 : tie.Need-whole-word-requires-2
 whole-word-requires-2 c κs = omega arith
+
+actual-requires : tie.Need-actual-requires
+actual-requires c κs = tt
+
+-- a: actual(kind, scheduled, blocks::whole_word(words, 4)) as i64
+cast-t7 : tie.Need-cast-t7
+cast-t7 c = omega arith
+
+-- j: blocks::signed(blocks::whole_word(words, 5))
+whole-word-requires-3 : tie.Need-whole-word-requires-3
+whole-word-requires-3 c κs = omega arith
 
 signed-requires : tie.Need-signed-requires
 signed-requires c κs = tt
 
 -- n: blocks::whole_word(words, 6)
-whole-word-requires-3 : tie.Need-whole-word-requires-3
-whole-word-requires-3 c κs = omega arith
-
--- n: blocks::whole_word(words, 6) as i64
-cast-t10 : tie.Need-cast-t10
-cast-t10 c = omega arith
-
--- o: blocks::whole_word(words, 7)
 whole-word-requires-4 : tie.Need-whole-word-requires-4
 whole-word-requires-4 c κs = omega arith
 
--- o: blocks::whole_word(words, 7) as i64
-cast-t12 : tie.Need-cast-t12
-cast-t12 c = omega arith
+-- n: blocks::whole_word(words, 6) as i64
+cast-t11 : tie.Need-cast-t11
+cast-t11 c = omega arith
 
--- m: blocks::whole_word(words, 8)
+-- o: blocks::whole_word(words, 7)
 whole-word-requires-5 : tie.Need-whole-word-requires-5
 whole-word-requires-5 c κs = omega arith
 
--- m: blocks::whole_word(words, 8) as i64
-cast-t14 : tie.Need-cast-t14
-cast-t14 c = omega arith
+-- o: blocks::whole_word(words, 7) as i64
+cast-t13 : tie.Need-cast-t13
+cast-t13 c = omega arith
 
--- f: blocks::whole_word(words, 9)
+-- m: blocks::whole_word(words, 8)
 whole-word-requires-6 : tie.Need-whole-word-requires-6
 whole-word-requires-6 c κs = omega arith
 
--- f: blocks::whole_word(words, 9) as i64
-cast-t16 : tie.Need-cast-t16
-cast-t16 c = omega arith
+-- m: blocks::whole_word(words, 8) as i64
+cast-t15 : tie.Need-cast-t15
+cast-t15 c = omega arith
 
--- h: blocks::whole_word(words, 10)
+-- f: blocks::whole_word(words, 9)
 whole-word-requires-7 : tie.Need-whole-word-requires-7
 whole-word-requires-7 c κs = omega arith
 
+-- f: blocks::whole_word(words, 9) as i64
+cast-t17 : tie.Need-cast-t17
+cast-t17 c = omega arith
+
+-- h: blocks::whole_word(words, 10)
+whole-word-requires-8 : tie.Need-whole-word-requires-8
+whole-word-requires-8 c κs = omega arith
+
 -- h: blocks::whole_word(words, 10) as i64
-cast-t18 : tie.Need-cast-t18
-cast-t18 c = omega arith
+cast-t19 : tie.Need-cast-t19
+cast-t19 c = omega arith
+
+-- A is chosen from the words that were read
+chosen : (words : List ℕ) {kind : Kind} {scheduled metered : ℕ} →
+    kind ≡ kindOf (word words 0) → scheduled ≡ word words 3 → metered ≡ word words 4 →
+    cond (isImport kind) scheduled metered ≡ actual (word words)
+unfolding actual
+chosen words kind scheduled metered = rw (kind, scheduled, metered)
 
 -- each letter names the moment when its word was read, the last word first
 returns : tie.Need-returns
@@ -84,17 +99,20 @@ returns c =
     let n = o .before in
     let j = n .before in
     let a = j .before .before in
-    let s = a .before in
+    let metered = a .before in
+    let s = metered .before in
+    let kind = s .before .kind-in in
     λ k. record {
-      kind = s .before .kind-in .ensures k;
+      kind = kind .ensures k;
       S = word-is (s .whole-word .ok) (s .whole-word .ensures) k;
-      A = word-is (a .actual-in .ok) (a .actual-in .ensures) k;
-      J = (read-back (sfits-of (j .signed .ok)) ∙ j .signed .ensures ∙ ap signed (j .before .whole-word2 .ensures)) k;
-      N = word-is (n .whole-word3 .ok) (n .whole-word3 .ensures) k;
-      O = word-is (o .whole-word4 .ok) (o .whole-word4 .ensures) k;
-      M = word-is (m .whole-word5 .ok) (m .whole-word5 .ensures) k;
-      F = word-is (f .whole-word6 .ok) (f .whole-word6 .ensures) k;
-      H = word-is (c .whole-word7 .ok) (c .whole-word7 .ensures) k;
+      A = word-is (a .actual .ok)
+          (a .actual .ensures ∙ chosen _ (kind .ensures) (s .whole-word .ensures) (metered .whole-word2 .ensures)) k;
+      J = (read-back (sfits-of (j .signed .ok)) ∙ j .signed .ensures ∙ ap signed (j .before .whole-word3 .ensures)) k;
+      N = word-is (n .whole-word4 .ok) (n .whole-word4 .ensures) k;
+      O = word-is (o .whole-word5 .ok) (o .whole-word5 .ensures) k;
+      M = word-is (m .whole-word6 .ok) (m .whole-word6 .ensures) k;
+      F = word-is (f .whole-word7 .ok) (f .whole-word7 .ensures) k;
+      H = word-is (c .whole-word8 .ok) (c .whole-word8 .ensures) k;
     }
 
 pub entry-in-spec : {M : Type 1} → statement M
@@ -104,18 +122,19 @@ entry-in-spec =
     kind-in-requires
     whole-word-requires
     cast-t4
-    actual-in-requires
-    cast-t6
     whole-word-requires-2
-    signed-requires
+    actual-requires
+    cast-t7
     whole-word-requires-3
-    cast-t10
+    signed-requires
     whole-word-requires-4
-    cast-t12
+    cast-t11
     whole-word-requires-5
-    cast-t14
+    cast-t13
     whole-word-requires-6
-    cast-t16
+    cast-t15
     whole-word-requires-7
-    cast-t18
+    cast-t17
+    whole-word-requires-8
+    cast-t19
     returns)
