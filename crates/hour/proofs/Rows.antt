@@ -4,7 +4,7 @@ use mathlib.Core.List.{List}
 use Prim.Native.Nat.{ℕ, _<_}
 use native.Mathlib.Omega.{arith}
 use lib.ListN.{length}
-use Rattle.rules.specs.Record.{memberOf, areaOf, actual, entry, entryOf, kindOf}
+use Rattle.rules.specs.Record.{memberOf, areaOf, entry, entryOf, kindOf}
 use Rattle.rules.specs.HourFile.{hourly, word}
 use Rattle.rules.specs.Inner.Posting.{demandBy, demandOf}
 use Rattle.rules.specs.Inner.Kept.{FileKept, EntryKept}
@@ -38,7 +38,7 @@ module _ {s words : List ℕ} {i : ℕ} (p : PartOf s i words) where
   part-area = says 2 (omega arith)
 
   pub part-entry : entry (word words) ≡ entryOf (hourIn s) i
-  unfolding entryOf entry actual
+  unfolding entryOf entry
   part-entry = rw (
     says 0 (omega arith),
     says 3 (omega arith),

@@ -2,7 +2,6 @@
 // that the compiler folds its numbers in. A record's numbers are read from its part of the file, as `record` hands it out, without a test: a
 // word costs one load. Nothing is summed here, and nothing is refused: the file was examined before.
 ghost use mathlib.Core.Path.{_≡_};
-ghost use mathlib.Core.Bool.{cond};
 ghost use Prim.Native.Nat.{_<_};
 ghost use lib.ListN.{length};
 ghost use Rattle.rules.specs.Record as Record;
@@ -120,9 +119,9 @@ pub fn area_in(words: &[u8]) -> usize
 }
 
 // A: what was metered; an import's is deemed to be S. Both are handed over, so that the compiler chooses between two words that it has read
-// and not between two places.
+// and not between two places to read from.
 fn actual(kind: Kind, scheduled: u32, metered: u32) -> u32
-    ensures { λ r. ⌜ r ≡ cond (Record.isImport kind) scheduled metered ⌝ }
+    ensures { λ r. ⌜ r ≡ Record.actual kind scheduled metered ⌝ }
 {
     if let Kind::Import = kind {
         return scheduled;

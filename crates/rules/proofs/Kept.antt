@@ -66,12 +66,12 @@ energies-most Import v f = omega arith
 energies-most Export v f = omega arith
 energies-most Unknown v f = omega arith
 
--- A is one of words 3 and 4
-actual-most : (v : ℕ → ℕ) → (v 3 ≤ 100000) × (v 4 ≤ 100000) → actual v ≤ 100000
+-- A is one of two energies
+actual-most : (K : Kind) (s m : ℕ) → (s ≤ 100000) × (m ≤ 100000) → actual K s m ≤ 100000
 unfolding actual
-actual-most v most = cond-ind (isImport (kindOf (v 0))) (v 3) (v 4) (λ a. a ≤ 100000) (λ t. most .0) (λ t. most .1)
+actual-most K s m most = cond-ind (isImport K) s m (λ a. a ≤ 100000) (λ t. most .0) (λ t. most .1)
 
-entry-kept : (K : Kind) (v : ℕ → ℕ) → RowHeld (rulesOf K) v → actual v ≤ 100000 → EntryKept (entry v)
+entry-kept : (K : Kind) (v : ℕ → ℕ) → RowHeld (rulesOf K) v → actual (kindOf (v 0)) (v 3) (v 4) ≤ 100000 → EntryKept (entry v)
 unfolding rulesOf entry
 entry-kept Generator v f a = omega (arith, zo)
 entry-kept RealTimeLoad v f a = omega (arith, zo)
@@ -165,7 +165,7 @@ module _ (h : Hour) (head-whole : badHead h ≡ none) (records-whole : badRecord
         member-there = word-holds i 1 l (omega arith);
         area-there = word-holds i 2 l (omega arith);
         demand-most = most .1;
-        entry-kept = entry-kept (kindOf (h .rec i 0)) (h .rec i) (row-held i l) (actual-most (h .rec i) most);
+        entry-kept = entry-kept (kindOf (h .rec i 0)) (h .rec i) (row-held i l) (actual-most _ _ _ most);
         multipliers-least = multipliers-least (kindOf (h .rec i 0)) (h .rec i) (row-held i l);
       }
 

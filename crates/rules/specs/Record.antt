@@ -99,16 +99,16 @@ pub record Entry : Type 0 where
   pub F : ℤ
   pub H : ℤ
 
--- A: word 4; document 02, A3: an import's is S, word 3, to which 000, D 3.19, deems it equal
-unfoldable pub actual : (ℕ → ℕ) → ℕ
-actual w = cond (isImport (kindOf (w 0))) (w 3) (w 4)
+-- A: what was metered; document 02, A3: an import's is S, to which 000, D 3.19, deems it equal
+unfoldable pub actual : Kind → (scheduled metered : ℕ) → ℕ
+actual kind scheduled metered = cond (isImport kind) scheduled metered
 
 -- twelve words as an entry: words 3 to 10 under their letters
 unfoldable pub entry : (ℕ → ℕ) → Entry
 entry w = record {
   kind = kindOf (w 0);
   S = pos (w 3);
-  A = pos (actual w);
+  A = pos (actual (kindOf (w 0)) (w 3) (w 4));
   J = signed (w 5);
   N = pos (w 6);
   O = pos (w 7);

@@ -7,7 +7,7 @@ use denote.Enum.Declared.{tagOf}
 use Rattle.rules.proofs.Kind.{the-type}
 use Rattle.rules.specs.declared.Kind.{Kind}
 use Rattle.rules.specs.declared.Kind.the-variants.{Generator, RealTimeLoad, ProfileLoad, Import, Export, Unknown}
-use Rattle.rules.specs.Record.{isImport}
+use Rattle.rules.specs.Record.{isImport, actual}
 use Rattle.hour.proofs.actual.Statement.{statement}
 use Rattle.hour.proofs.actual.Tie as tie
 
@@ -25,10 +25,12 @@ enum-told : tie.Need-enum-told
 enum-told c = c .match .keys1
 
 returns : tie.Need-returns
+unfolding actual
 returns c = rw (c .enum-told .given .1)
 
 -- every other kind
 returns-2 : tie.Need-returns-2
+unfolding actual
 returns-2 c = rw (no-import _ (c .match .keys2))
 
 pub actual-spec : {M : Type 1} → statement M

@@ -1,14 +1,9 @@
 -- `hour::entry_in` meets its contract, letter by letter: each is one word of the part.
-use mathlib.Core.Path.{_≡_, _∙_, ap}
-use mathlib.Core.Bool.{cond}
-use mathlib.Core.List.{List}
-use Prim.Native.Nat.{ℕ}
+use mathlib.Core.Path.{_∙_, ap}
 use native.Mathlib.Omega.{arith}
 use borrow.Author.Needs.{sfits-of}
 use Rattle.whole.proofs.Machine.{read-back}
-use Rattle.rules.specs.declared.Kind.{Kind}
-use Rattle.rules.specs.Record.{kindOf, isImport, actual, entry, signed}
-use Rattle.rules.specs.HourFile.{word}
+use Rattle.rules.specs.Record.{actual, entry, signed}
 use Rattle.hour.proofs.Wide.{word-is}
 use Rattle.hour.proofs.entry_in.Statement.{statement}
 use Rattle.hour.proofs.entry_in.Tie as tie
@@ -82,13 +77,6 @@ whole-word-requires-8 c κs = omega arith
 cast-t19 : tie.Need-cast-t19
 cast-t19 c = omega arith
 
--- A is chosen from the words that were read
-chosen : (words : List ℕ) {kind : Kind} {scheduled metered : ℕ} →
-    kind ≡ kindOf (word words 0) → scheduled ≡ word words 3 → metered ≡ word words 4 →
-    cond (isImport kind) scheduled metered ≡ actual (word words)
-unfolding actual
-chosen words kind scheduled metered = rw (kind, scheduled, metered)
-
 -- each letter names the moment when its word was read, the last word first
 returns : tie.Need-returns
 unfolding entry
@@ -106,7 +94,7 @@ returns c =
       kind = kind .ensures k;
       S = word-is (s .whole-word .ok) (s .whole-word .ensures) k;
       A = word-is (a .actual .ok)
-          (a .actual .ensures ∙ chosen _ (kind .ensures) (s .whole-word .ensures) (metered .whole-word2 .ensures)) k;
+          (a .actual .ensures ∙ λ l. actual (kind .ensures l) (s .whole-word .ensures l) (metered .whole-word2 .ensures l)) k;
       J = (read-back (sfits-of (j .signed .ok)) ∙ j .signed .ensures ∙ ap signed (j .before .whole-word3 .ensures)) k;
       N = word-is (n .whole-word4 .ok) (n .whole-word4 .ensures) k;
       O = word-is (o .whole-word5 .ok) (o .whole-word5 .ensures) k;
