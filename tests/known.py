@@ -186,7 +186,7 @@ def of_imports():
     yield "imports-as-scheduled", "hour 7 members 1 records 13", hours.to_bytes(thirteen_imports())
     yield "import-word-4-first", "refused 5 at 0", words(thirteen_imports(), (*field(0, 4), 1))
     yield "import-word-4-middle", "refused 5 at 6", words(thirteen_imports(), (*field(6, 4), 100_000))
-    yield "import-word-4-last", "refused 5 at 12", words(thirteen_imports(), (*field(12, 4), -1))
+    yield "import-word-4-last", "refused 5 at 12", words(thirteen_imports(), (*field(12, 4), 299))
     yield "import-word-4-is-word-3", "refused 5 at 9", words(thirteen_imports(), (*field(9, 4), 300))
     yield "first-import-of-two", "refused 5 at 2", words(thirteen_imports(), (*field(11, 4), 300), (*field(2, 4), 1))
 

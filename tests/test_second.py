@@ -943,6 +943,9 @@ class Noticing(unittest.TestCase):
                           "no demand, ", said)
             self.assertIn("never occurred in 500 hours to write: refused 4; refused 5; written, 0 records; written, 1 records; "
                           "written, 9 records; written, 11 records; written, 250 records; 1, no bytes; ", said)
+            imports = "".join(f"5 by an import's word 4 at {place}; " for place in
+                              ("the first of some records", "a middle record", "the last of some records"))
+            self.assertEqual(said.count(imports + "5 by an import's word 4 that is its word 3"), 2)
 
     @staticmethod
     def wrong_program(name):

@@ -34,7 +34,7 @@ static entry entry_at(const uint8_t *file, size_t at)
         .member = word(record, MEMBER),
         .area = word(record, AREA),
         .s = word(record, SCHEDULED),
-        .a = word(record, kind == IMPORT ? SCHEDULED : ACTUAL),
+        .a = kind == IMPORT ? word(record, SCHEDULED) : word(record, ACTUAL),
         .j = (int32_t)word(record, ADJUSTMENT),
         .n = word(record, ANCILLARY),
         .o = word(record, OBLIGATION),
