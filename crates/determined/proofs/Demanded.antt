@@ -1,6 +1,6 @@
 -- What the pages say of a function, said of its contract as its callers read it: settling keeps the three demands, its finals add up to
--- nothing, and it refuses an import that was metered; an amount written is read, and one read is written again; the statement is put whole or not at all, and tells what it is of;
--- an accepted file keeps its ranges.
+-- nothing, and it refuses an import that was metered; an amount written is read, and one read is written again; the statement is put whole
+-- or not at all, and tells what it is of; an accepted file keeps its ranges.
 use mathlib.Core.Path.{_≡_, sym, _∙_, ap}
 use mathlib.Core.List.{List}
 use Prim.Native.Nat.{ℕ, _≤_, _<_}

@@ -1,5 +1,6 @@
 -- What the pages say of the writer of hour files, said of its contract as its callers read it: what it writes is read back as the same
--- hour, and an accepted file's own head and records give its bytes again; the program's bytes are put whole or not at all.
+-- hour, an accepted file's own head and records give its bytes again, and an import that was metered is refused; the program's bytes are
+-- put whole or not at all.
 use mathlib.Core.Path.{_≡_, refl, sym, _∙_, ap, subst}
 use mathlib.Core.List.{List}
 use Prim.Native.Nat.{ℕ, _≤_}

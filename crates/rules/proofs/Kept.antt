@@ -56,7 +56,7 @@ signed-zero : (w : ℕ) → w ≤ 0 → Under (signed w) 0
 unfolding signed
 signed-zero w h = let z : w ≡ 0 = omega arith in rw z (record { under = zero-le })
 
--- an unknown kind has no row, so that all its words are zero
+-- words 3 and 4 are energies, or zero; an unknown kind has no row, so that all its words are zero
 energies-most : (K : Kind) (v : ℕ → ℕ) → RowHeld (rulesOf K) v → (v 3 ≤ 100000) × (v 4 ≤ 100000)
 unfolding rulesOf
 energies-most Generator v f = omega arith
@@ -66,7 +66,7 @@ energies-most Import v f = omega arith
 energies-most Export v f = omega arith
 energies-most Unknown v f = omega arith
 
--- A is one of two energies
+-- and A is one of them
 actual-most : (K : Kind) (s m : ℕ) → (s ≤ 100000) × (m ≤ 100000) → actual K s m ≤ 100000
 unfolding actual
 actual-most K s m most = cond-ind (isImport K) s m (λ a. a ≤ 100000) (λ t. most .0) (λ t. most .1)
