@@ -42,7 +42,7 @@ pub record KeepsDemands (file : List ℕ) (before : Buffers) (told : Verdict) (u
   pub fair : told ≡ accepted → FairOutcome (hourOf hourly file) ufes after
   -- A1
   pub neutral : told ≡ accepted → NeutralOutcome (hourOf hourly file) before after
-  -- A3: the first import that says what was metered, if no row before 5 answers
+  -- A3: an import that says what was metered, where no row before 5 and no record before it is broken
   pub metered-import : (i : ℕ) → verdict (take 4 (fileRows file)) ≡ accepted → FirstMetered (hourOf hourly file) i → told ≡ refusedAt 5 i
 
 -- what document 02 asks of the writer (A2) and of imports (A3), by its head, records and buffer before, and by what was answered and left

@@ -19,17 +19,17 @@ use Rattle.rules.specs.Printed.{PrintedRight, wordBytes, printedFile, us
 
 pub printed-right : PrintedRight
 unfolding Below.countBelow Below.sumBelow Below.totalBelow Below.valuesBelow Below.replacingFirst Below.firstBelow orElse minℤ maxℤ
-    Record.signed Record.kindOf Record.actual Record.entry Record.memberOf Record.areaOf Record.entryOf Record.zonePrice Record.zoneOf Record.tieIn
-    Record.tieOut Record.price Deviation.generatorUnavailable Deviation.generatorDeviation Deviation.loadUnavailable Deviation.loadDeviation
-    Deviation.deviation Ufe.inArea Ufe.areaSum Ufe.losses Ufe.ufe Ufe.demands Share.better Share.firstLargest Share.isAt Share.handedOut
-    Share.allDemand Share.wholePart Share.remainder Share.unitsLeft Share.shareSize Share.share Charge.entering Charge.nearestCent
-    Charge.cents Charge.shareOf Charge.grains Charge.amount Charge.recordsOf Charge.charge Text.digitsUpTo Text.decimal Text.amountText
-    Text.amountField HourFile.word HourFile.blocks HourFile.blockWord HourFile.blockSum HourFile.lengthBad HourFile.recordCount
-    HourFile.recordWord HourFile.hourOf Ranges.keeps Ranges.firstBroken Ranges.countRule Ranges.pastRule Ranges.blockRule Ranges.areaRule
-    Ranges.headRule Ranges.rulesOf Ranges.recordRule Refusals.verdict Refusals.badLength Refusals.badSum Refusals.badBlock Refusals.badHead
-    Refusals.badWord Refusals.badRecord Refusals.badArea Refusals.badAmount Neutrality.neutrality Neutrality.memberDemand
-    Neutrality.hourDemand Neutrality.neutralityShare Neutrality.final Refusals.noDemand Refusals.tooShort Refusals.outOfRange
-    Refusals.tooNarrow Refusals.tableRows Refusals.hourRows Refusals.writeRows Settling.lineOf Settling.filled Settling.ufeFigures
-    Settling.settle Settling.write Statement.firstLine Statement.column Statement.memberLine Statement.memberLines Statement.acceptedLines
-    Statement.statement wordBytes printedFile usedBuffers printedSettlement
+    Record.signed Record.kindOf Record.actual Record.entry Record.memberOf Record.areaOf Record.entryOf Record.zonePrice Record.zoneOf
+    Record.tieIn Record.tieOut Record.price Deviation.generatorUnavailable Deviation.generatorDeviation Deviation.loadUnavailable
+    Deviation.loadDeviation Deviation.deviation Ufe.inArea Ufe.areaSum Ufe.losses Ufe.ufe Ufe.demands Share.better Share.firstLargest
+    Share.isAt Share.handedOut Share.allDemand Share.wholePart Share.remainder Share.unitsLeft Share.shareSize Share.share Charge.entering
+    Charge.nearestCent Charge.cents Charge.shareOf Charge.grains Charge.amount Charge.recordsOf Charge.charge Text.digitsUpTo Text.decimal
+    Text.amountText Text.amountField HourFile.word HourFile.blocks HourFile.blockWord HourFile.blockSum HourFile.lengthBad
+    HourFile.recordCount HourFile.recordWord HourFile.hourOf Ranges.keeps Ranges.firstBroken Ranges.countRule Ranges.pastRule
+    Ranges.blockRule Ranges.areaRule Ranges.headRule Ranges.rulesOf Ranges.recordRule Refusals.verdict Refusals.badLength Refusals.badSum
+    Refusals.badBlock Refusals.badHead Refusals.badWord Refusals.badRecord Refusals.badArea Refusals.badAmount Neutrality.neutrality
+    Neutrality.memberDemand Neutrality.hourDemand Neutrality.neutralityShare Neutrality.final Refusals.noDemand Refusals.tooShort
+    Refusals.outOfRange Refusals.tooNarrow Refusals.tableRows Refusals.hourRows Refusals.writeRows Settling.lineOf Settling.filled
+    Settling.ufeFigures Settling.settle Settling.write Statement.firstLine Statement.column Statement.memberLine Statement.memberLines
+    Statement.acceptedLines Statement.statement wordBytes printedFile usedBuffers printedSettlement
 printed-right = record { settled = refl; stated = refl }

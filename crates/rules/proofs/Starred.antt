@@ -13,7 +13,7 @@ use Rattle.rules.specs.Settling.{write}
 use Rattle.rules.specs.Figures.{StarredRight, starred}
 
 pub starred-right : StarredRight
-unfolding starred valuesBelow sumBelow minℤ maxℤ signed kindOf actual entry generatorUnavailable generatorDeviation loadUnavailable loadDeviation
-    importDeviation exportDeviation deviation better firstLargest isAt handedOut allDemand wholePart remainder unitsLeft shareSize share
-    nearestCent cents digitsUpTo decimal amountText amountField verdict outOfRange tooNarrow writeRows write
+unfolding starred valuesBelow sumBelow minℤ maxℤ signed kindOf actual entry generatorUnavailable generatorDeviation loadUnavailable
+    loadDeviation importDeviation exportDeviation deviation better firstLargest isAt handedOut allDemand wholePart remainder unitsLeft
+    shareSize share nearestCent cents digitsUpTo decimal amountText amountField verdict outOfRange tooNarrow writeRows write
 starred-right = (refl, (refl, (refl, (refl, (refl, (refl, (refl, (refl, (refl, (refl, (refl, (refl, (refl, (refl, (refl, tt)))))))))))))))

@@ -13,8 +13,8 @@ use Rattle.whole.proofs.Linear.{zr, all3, all4, all5, all6}
 use Rattle.whole.proofs.Totals.{total-ext, total-add, total-neg, total-mul, total-swap, total-pick}
 use Rattle.rules.specs.declared.Kind.{Kind}
 use Rattle.rules.specs.declared.Kind.the-variants.{Generator, RealTimeLoad, ProfileLoad, Import, Export, Unknown}
-use Rattle.rules.specs.Record.{Hour, Entry, kindNumber, zones, zonePrice, zoneOf, tieIn, tieOut, price, memberOf, areaOf, actual, entry, entryOf}
-use Rattle.rules.specs.Record.{isGenerator, isRealTime, isProfile, isLoad, isImport, isExport}
+use Rattle.rules.specs.Record.{Hour, Entry, kindNumber, zones, zonePrice, zoneOf, tieIn, tieOut, price, memberOf, areaOf}
+use Rattle.rules.specs.Record.{actual, entry, entryOf, isGenerator, isRealTime, isProfile, isLoad, isImport, isExport}
 use Rattle.rules.specs.Deviation.{unitsPerKWh, generatorUnavailable, generatorDeviation, loadUnavailable, loadDeviation}
 use Rattle.rules.specs.Deviation.{importDeviation, exportDeviation, deviation, deviationAs}
 use Rattle.rules.specs.Ufe.{inArea, areaSum, losses, ufe}
@@ -38,7 +38,7 @@ pub load-renders : (r : Entry) → loadDeviation r ≡ loadDev r
 unfolding loadDeviation loadUnavailable loadDev
 load-renders r = load-units (r .S) (r .A -ℤ r .J) (r .N) (loadUnavailable r)
 
--- an import's A is its S
+-- An import's A is its S.
 pub import-deemed : (w : ℕ → ℕ) → isImport (entry w .kind) ≡ true → entry w .A ≡ entry w .S
 unfolding actual entry
 import-deemed w is-import = rw is-import

@@ -19,7 +19,7 @@ pub record FirstMetered (h : Hour) (i : ℕ) : Type 0 where
   pub before : (j : ℕ) → j < i → badWord h j ≡ none
 
 pub record Imports : Type 0 where
-  -- 5, of every file that passes rows 1 to 4, whatever else its record breaks
+  -- 5, of every file that passes rows 1 to 4, whatever else that record breaks
   pub refused : (s : List ℕ) (b : Buffers) (i : ℕ) → verdict (take 4 (fileRows s)) ≡ accepted →
       FirstMetered (hourOf hourly s) i → settle s b .verdict ≡ refusedAt 5 i
   -- and of lists that pass the writer's rows 1 and 4
