@@ -1,4 +1,4 @@
--- How far the UFE of an hour is shared, area by area, and where an area's loads have their demands and sizes.
+-- How far the UFE of an hour is shared, area by area, and where an area's loads have their demands and then their sizes: in a room lent.
 use Prim.Native.Nat.{ℕ, _≤_, _<_}
 use mathlib.Core.Path.{_≡_}
 use mathlib.Core.Bool.{true, cond}
@@ -28,27 +28,25 @@ module _ (h : Hour) (a : ℕ) where
   unfoldable pub withSizes : ℤ → List ℕ → List ℤ → ℕ → ℤ
   withSizes figure sizes out i = cond (inArea h a isLoad i) (withSignOf figure (getD sizes (loadsBefore i) 0)) (getD out i (pos 0))
 
--- the figures are the hour's, and there is a place for each record's share
-pub record Sharing (s : List ℕ) (figures out : List ℤ) : Type 0 where
+-- the figures are the hour's, and there is a place for each record's share, and one for each record in the room
+pub record Sharing (s : List ℕ) (figures : List ℤ) (room : List ℕ) (out : List ℤ) : Type 0 where
   pub kept : FileKept s
   pub figures-of : figures ≡ ufeFigures (hourIn s)
-  pub room : hourIn s .count ≤ length out
+  pub places : length room ≡ hourIn s .count
+  pub room-out : hourIn s .count ≤ length out
 
--- no share is put yet, and both rooms have a place a record
-pub record Cleared (s : List ℕ) (figures : List ℤ) (demands sizes : List ℕ) (out : List ℤ) : Type 0 where
-  pub sharing : Sharing s figures out
-  pub demands-room : length demands ≡ hourIn s .count
-  pub sizes-room : length sizes ≡ hourIn s .count
+-- no share is put yet
+pub record Cleared (s : List ℕ) (figures : List ℤ) (room : List ℕ) (out : List ℤ) : Type 0 where
+  pub sharing : Sharing s figures room out
   pub zeros : (i : ℕ) → i < hourIn s .count → getD out i (pos 0) ≡ pos 0
 
--- the areas before a are shared, a is there to be shared with its UFE, and both rooms have a place a record
-pub record SharedUpTo (s : List ℕ) (a : ℕ) (figure : ℤ) (demands sizes : List ℕ) (out : List ℤ) : Type 0 where
+-- the areas before a are shared, and a is there to be shared with its UFE
+pub record SharedUpTo (s : List ℕ) (a : ℕ) (figure : ℤ) (room : List ℕ) (out : List ℤ) : Type 0 where
   pub kept : FileKept s
   pub there : a < areas (hourIn s)
   pub figure-of : figure ≡ ufe (hourIn s) a
-  pub demands-room : length demands ≡ hourIn s .count
-  pub sizes-room : length sizes ≡ hourIn s .count
-  pub room : hourIn s .count ≤ length out
+  pub places : length room ≡ hourIn s .count
+  pub room-out : hourIn s .count ≤ length out
   pub shared : (i : ℕ) → i < hourIn s .count → getD out i (pos 0) ≡ sharesBelow (hourIn s) a i
 
 -- sizes of area a's loads in their order, each small enough for a sign, and room for the records' shares

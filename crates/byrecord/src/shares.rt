@@ -1,7 +1,7 @@
 // The share of each record: an area's UFE over its loads, area by area; a record that is no load has 0. The sharing itself is the engine's,
-// `share::shares`, which knows no hours: here the demands of an area's loads, and of nobody else, are gathered from the file, and the sizes
-// put back with the UFE's sign. The UFE figures come from the caller and are not worked again, and refusal 6 was checked before. An area
-// without UFE costs nothing.
+// `share::share_in_place`, which knows no hours: here the demands of an area's loads, and of nobody else, are gathered from the file in a
+// room that the caller lends, and the sizes that then stand there are put back with the UFE's sign. The UFE figures come from the caller
+// and are not worked again, and refusal 6 was checked before. An area without UFE costs nothing.
 ghost use mathlib.Core.Path.{_≡_};
 ghost use mathlib.Core.Bool.{true, cond};
 ghost use Prim.Native.Nat.{_+_, _≤_, _<_};
@@ -98,43 +98,29 @@ fn put_area(file: &[u8], a: usize, figure: i64, sizes: &[u64], out: &mut [i64])
     }
 }
 
-// One area more: its loads' demands and sizes stand in the rooms lent.
-fn share_area(
-    file: &[u8],
-    a: usize,
-    figure: i64,
-    demands: &mut [u64],
-    sizes: &mut [u64],
-    out: &mut [i64],
-)
-    requires { ⌜ SharedUpTo (now file) a figure (now demands) (now sizes) (now out) ⌝ }
+// One area more: in the room lent stand its loads' demands, and then their sizes.
+fn share_area(file: &[u8], a: usize, figure: i64, room: &mut [u64], out: &mut [i64])
+    requires { ⌜ SharedUpTo (now file) a figure (now room) (now out) ⌝ }
     ensures { λ _. ⌜ now (out .exit)
         ≡ replacingFirst (sharesBelow (hourIn (now (file .entry))) (a + 1)) (hourIn (now (file .entry)) .count) (now (out .entry)) ⌝ }
 {
     if figure == 0 {
         return;
     }
-    let loads = put_demands(file, a, demands);
-    share::shares(&demands[..loads], sign::size_of(figure), sizes);
-    put_area(file, a, figure, sizes, out);
+    let loads = put_demands(file, a, room);
+    share::share_in_place(&mut room[..loads], sign::size_of(figure));
+    put_area(file, a, figure, room, out);
 }
 
-// All areas, in the rooms lent.
-fn share_areas(
-    file: &[u8],
-    areas: usize,
-    figures: [i64; 8],
-    demands: &mut [u64],
-    sizes: &mut [u64],
-    out: &mut [i64],
-)
-    requires { ⌜ Cleared (now file) figures (now demands) (now sizes) (now out) × (areas ≡ Record.areas (hourIn (now file))) ⌝ }
+// All areas, in the room lent.
+fn share_areas(file: &[u8], areas: usize, figures: [i64; 8], room: &mut [u64], out: &mut [i64])
+    requires { ⌜ Cleared (now file) figures (now room) (now out) × (areas ≡ Record.areas (hourIn (now file))) ⌝ }
     ensures { λ _. ⌜ now (out .exit)
         ≡ replacingFirst (shareOf (hourIn (now (file .entry)))) (hourIn (now (file .entry)) .count) (now (out .entry)) ⌝ }
 {
     let mut a = 0;
     while a < areas {
-        share_area(file, a, figures[a], demands, sizes, out);
+        share_area(file, a, figures[a], room, out);
         a += 1;
     }
 }
@@ -151,23 +137,25 @@ fn clear(out: &mut [i64], n: usize)
     }
 }
 
-// One a record, into the first places; the places past them are unchanged. The rooms are made before the shares are cleared, which takes 64
-// bytes of stack less.
-pub fn put_shares(file: &[u8], head: Head, figures: [i64; 8], out: &mut [i64])
-    requires { ⌜ Headed (now file) head × Sharing (now file) figures (now out) ⌝ }
-    ensures { λ _. ⌜ now (out .exit)
-        ≡ replacingFirst (shareOf (hourIn (now (file .entry)))) (hourIn (now (file .entry)) .count) (now (out .entry)) ⌝ }
+// Nothing of the hour stays in the room.
+fn clear_room(room: &mut [u64])
+    ensures { λ _. ⌜ now (room .exit) ≡ replacingFirst (λ i. 0) (length (now (room .entry))) (now (room .entry)) ⌝ }
 {
-    let n = head.records;
-    let mut demands = [0u64; 250];
-    let mut sizes = [0u64; 250];
-    clear(out, n);
-    share_areas(
-        file,
-        head.areas,
-        figures,
-        &mut demands[..n],
-        &mut sizes[..n],
-        out,
-    );
+    let mut i = 0;
+    while i < room.len() {
+        room[i] = 0;
+        i += 1;
+    }
+}
+
+// One a record, into the first places; the places past them are unchanged. The room has a place a record, and holds 0 afterwards.
+pub fn put_shares(file: &[u8], head: Head, figures: [i64; 8], room: &mut [u64], out: &mut [i64])
+    requires { ⌜ Headed (now file) head × Sharing (now file) figures (now room) (now out) ⌝ }
+    ensures shares { λ _. ⌜ now (out .exit)
+        ≡ replacingFirst (shareOf (hourIn (now (file .entry)))) (hourIn (now (file .entry)) .count) (now (out .entry)) ⌝ }
+    ensures room { λ _. ⌜ now (room .exit) ≡ replacingFirst (λ i. 0) (hourIn (now (file .entry)) .count) (now (room .entry)) ⌝ }
+{
+    clear(out, head.records);
+    share_areas(file, head.areas, figures, room, out);
+    clear_room(room);
 }

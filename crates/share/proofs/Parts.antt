@@ -2,7 +2,7 @@
 use mathlib.Core.Path.{_≡_, refl, sym, _∙_, ap, ap₂}
 use mathlib.Core.List.{List}
 use Prim.Native.Nat.{ℕ, _+_, _-_, _*_, _/_, _%_, _≤_, _<_}
-use native.Mathlib.Nat.{div-le-self}
+use native.Mathlib.Nat.{div-le-self, mod-lt}
 use native.Mathlib.Omega.{arith}
 use lib.ListN.{length}
 use Rattle.whole.specs.Below.{sumBelow}
@@ -16,7 +16,7 @@ pub demanded-is : (demands : List ℕ) → demanded demands ≡ sumBelow (at dem
 unfolding allDemand
 demanded-is demands = refl
 
-module _ {demands : List ℕ} {size t : ℕ} {rests out : List ℕ} (d : Dividing demands size t rests out) where
+module _ {demands : List ℕ} {size t : ℕ} (d : Dividing demands size t) where
   pub some-demand : 0 < demanded demands
   some-demand = omega (arith, d .sum-is, d .some)
 
@@ -27,6 +27,9 @@ module _ {demands : List ℕ} {size t : ℕ} {rests out : List ℕ} (d : Dividin
   pub rest-is : (i : ℕ) → at demands i * size % t ≡ restOf demands size i
   unfolding remainder
   rest-is i = rw (d .sum-is)
+
+  pub rest-below : (i : ℕ) → restOf demands size i < t
+  rest-below i = rw (← rest-is i) (mod-lt (at demands i * size) (d .some))
 
   pub whole-small : (i : ℕ) → i < length demands → wholeOf demands size i < 10000000000000000000
   whole-small i l = rw (← whole-is i) (omega (arith, div-le-self (at demands i * size) t, d .products-fit i l))

@@ -1,76 +1,93 @@
--- All steps together: what may be shared can be divided, the units left over can be handed out, and what then stands in the buffer are
--- the shares.
-use mathlib.Core.Path.{_≡_, sym, _∙_, ap}
-use mathlib.Core.List.{List}
+-- All steps together: what may be shared can be divided, and with the bound down to which the units left over suffice, the sizes are those
+-- of the shares. And demands that are kept: their copies are shared.
+use mathlib.Core.Path.{_≡_, refl, sym, _∙_, ap, ap₂}
+use mathlib.Core.List.{List, _++_}
 use Prim.Native.Nat.{ℕ, _+_, _≤_, _<_}
+use native.Mathlib.Nat.{le-refl}
 use native.Mathlib.Omega.{arith}
 use lib.Dec.{ltb}
-use lib.ListN.{length}
+use lib.ListN.{length, take, drop}
+use lib.Seq.{length-take-le}
 use borrow.Author.Tests.{ne-eqb}
 use Rattle.whole.specs.Below.{oneIf, countBelow, replacingFirst}
-use Rattle.whole.proofs.Sums.{count-ext}
-use Rattle.whole.proofs.Buffers.{replacing-ext, replacing-twice, getD-replacing, length-replacing}
-use Rattle.rules.specs.Share.{handedOut, shareSize}
-use Rattle.rules.proofs.Shares.{left-few, left-at-most-takers, handed-ext, nothing-without-demand}
+use Rattle.whole.proofs.Sums.{sum-at}
+use Rattle.whole.proofs.Buffers.{own-values, length-replacing, take-replacing, replacing-all, replacing-ext, replacing-same, replacing-twice}
+use Rattle.rules.specs.Share.{shareSize}
+use Rattle.rules.specs.Promises.{ahead, rankedSize}
+use Rattle.rules.proofs.Shares.{left-few, ranked, nothing-without-demand}
 use Rattle.share.specs.Shareable.{at, everyone, demanded, Shareable, sharesIn}
-use Rattle.share.specs.Steps.{Dividing, Divided, Handing, Handed, wholeOf, restOf}
-use Rattle.share.proofs.Parts.{some-demand, whole-small}
+use Rattle.share.specs.Steps.{Dividing, Suffices, wholeOf, restOf, leftOf, countAbove, sizeOf}
+use Rattle.share.proofs.Parts.{demanded-is, some-demand}
+use Rattle.share.proofs.Above.{by-threshold}
 
 -- ---- once the demands are added up
 
-module _ {demands : List ℕ} {size : ℕ} {out : List ℕ} (s : Shareable demands size out) (t : ℕ) (e : t ≡ demanded demands) where
-  -- nobody demands anything
-  pub nothing-shared : t ≡ 0 → replacingFirst (λ i. 0) (length demands) out ≡ sharesIn demands size out
-  nothing-shared z =
-      replacing-ext _ _ (length demands) out (λ i l. sym (nothing-without-demand everyone (at demands) (length demands) size i (sym e ∙ z)))
+module _ {places : List ℕ} {size : ℕ} (s : Shareable places size places) (t : ℕ) (e : t ≡ demanded places) where
+  -- nobody demands anything: the places hold 0 as it is
+  pub nothing-shared : t ≡ 0 → places ≡ sharesIn places size places
+  nothing-shared z = sym (replacing-same _ (length places) places 0 (le-refl (length places)) (λ i l.
+      nothing-without-demand everyone (at places) (length places) size i (sym e ∙ z)
+      ∙ omega (arith, sum-at (at places) (length places) i l, demanded-is places)))
 
   -- somebody does
-  pub can-divide : (t ≡ 0 → ⊥) → (rests : List ℕ) → length rests ≡ length demands → Dividing demands size t rests out
-  can-divide some rests m = record {
-    sum-is = e;
-    some = omega (arith, some);
-    products-fit = λ i l. omega (arith, s .products-fit i l);
-    places = m;
-    room = s .room;
-  }
+  pub can-divide : (t ≡ 0 → ⊥) → Dividing places size t
+  can-divide some = record { sum-is = e; some = omega (arith, some); products-fit = s .products-fit }
 
--- ---- once they are divided
+-- ---- once the units left over are known
 
-module _ {demands : List ℕ} {size t : ℕ} {rests₀ out₀ : List ℕ} (d : Dividing demands size t rests₀ out₀) where
+module _ {demands : List ℕ} {size t : ℕ} (d : Dividing demands size t) (units : ℕ) (e : units ≡ leftOf demands size) where
   abbrev n : ℕ
   n = length demands
 
-  module _ {units : ℕ} {rests out : List ℕ} (p : Divided demands size rests₀ out₀ units rests out) where
-    as-many : length rests ≡ n
-    as-many = ap length (p .remainders) ∙ length-replacing _ n rests₀ (omega (arith, d .places)) ∙ d .places
+  pub few-left : units ≤ countAbove demands size 0
+  few-left = rw e (left-few everyone (at demands) n size (some-demand d))
 
-    rest-at : (i : ℕ) → i < n → at rests i ≡ restOf demands size i
-    rest-at i l = rw (p .remainders) (getD-replacing _ n rests₀ i 0 l)
+  -- a share is the whole part, and a unit where fewer stand ahead than units are left over
+  size-is : (i : ℕ) → i < n →
+      shareSize everyone (at demands) n size i ≡
+      wholeOf demands size i + oneIf (ltb (countBelow (λ j. ahead (restOf demands size) j i) n) units)
+  unfolding rankedSize
+  size-is i l = ranked everyone (at demands) n size i l ∙ rw (ne-eqb (demanded demands) 0 (λ z. omega (arith, some-demand d)), e)
 
-    whole-at : (i : ℕ) → i < n → at out i ≡ wholeOf demands size i
-    whole-at i l = rw (p .whole-parts) (getD-replacing _ n out₀ i 0 l)
+  -- they suffice down to this bound
+  pub sizes-are : {bound spare : ℕ} → Suffices demands size units bound spare → {out : List ℕ} →
+      out ≡ replacingFirst (sizeOf demands size bound spare) n demands → out ≡ sharesIn demands size demands
+  sizes-are {bound} {spare} cut put = put ∙ replacing-ext _ _ n demands (λ i l. sym (size-is i l ∙
+      rw (by-threshold (restOf demands size) n i l units bound spare (cut .with-spare) (cut .enough))))
 
-    pub can-hand-out : Handing rests units out
-    can-hand-out = record {
-      few = rw (as-many, p .left-over, count-ext (λ i. ltb 0 (at rests i)) (λ i. ltb 0 (restOf demands size i)) n (λ i l. rw (rest-at i l)))
-          (left-few everyone (at demands) n size (some-demand d));
-      grow = λ i l. let m : i < n = omega (arith, as-many) in omega (arith, whole-at i m, whole-small d i m);
-      room = omega (arith, as-many, d .room, ap length (p .whole-parts), length-replacing (wholeOf demands size) n out₀ (d .room));
-    }
+-- ---- the first n of more places lent
 
-    -- a demand's size, once the units left over are handed out
-    size-is : (i : ℕ) → i < n → at out i + oneIf (handedOut (at rests) everyone n units i) ≡ shareSize everyone (at demands) n size i
-    unfolding shareSize
-    size-is i l =
-        let most : units ≤ countBelow everyone n = rw (p .left-over) (left-at-most-takers everyone (at demands) n size (some-demand d)) in
-        rw (
-          whole-at i l,
-          handed-ext (at rests) (restOf demands size) everyone n units most rest-at i l,
-          p .left-over,
-          ne-eqb (demanded demands) 0 (λ e. omega (arith, some-demand d)),
-        )
+module _ (places : List ℕ) (n size : ℕ) (l : n ≤ length places) where
+  -- past the sizes stands what stood there
+  pub shared-first : {sizes : List ℕ} → sizes ≡ sharesIn (take n places) size (take n places) →
+      sizes ++ drop n places ≡ sharesIn (take n places) size places
+  unfolding replacingFirst
+  shared-first shared = ap₂ (λ (l r : List ℕ). l ++ r)
+      (shared ∙ replacing-all _ (length (take n places)) (take n places) refl)
+      (ap (λ (k : ℕ). drop k places) (sym (length-take-le n places l)))
 
-    pub shared-out : {rests₁ out₁ : List ℕ} → Handed rests units out rests₁ out₁ → out₁ ≡ sharesIn demands size out₀
-    shared-out {rests₁} {out₁} h =
-        let e : out₁ ≡ replacingFirst (λ i. at out i + oneIf (handedOut (at rests) everyone n units i)) n out = rw as-many at (h .grown) in
-        e ∙ replacing-ext _ _ n out size-is ∙ rw (p .whole-parts) (replacing-twice (wholeOf demands size) _ n out₀)
+-- ---- demands that are kept, and copied into the first places of `out`
+
+module _ {demands : List ℕ} {size : ℕ} {out copied : List ℕ} (s : Shareable demands size out)
+    (put : copied ≡ replacingFirst (at demands) (length demands) out) where
+  pub copies-there : length demands ≤ length copied
+  copies-there = omega (arith, s .room, ap length put, length-replacing (at demands) (length demands) out (s .room))
+
+  copies-are : take (length demands) copied ≡ demands
+  copies-are = rw put (take-replacing (at demands) (length demands) out ∙ own-values demands 0)
+
+  pub copies-shareable : Shareable (take (length demands) copied) size (take (length demands) copied)
+  copies-shareable = rw copies-are (record {
+    few = s .few;
+    sum-fits = s .sum-fits;
+    products-fit = s .products-fit;
+    room = le-refl (length demands);
+  })
+
+  pub copies-shared : {sizes : List ℕ} → sizes ≡ sharesIn (take (length demands) copied) size (take (length demands) copied) →
+      sizes ++ drop (length demands) copied ≡ sharesIn demands size out
+  copies-shared shared =
+      shared-first copied (length demands) size copies-there shared
+      ∙ ap (λ (l : List ℕ). sharesIn l size copied) copies-are
+      ∙ ap (sharesIn demands size) put
+      ∙ replacing-twice (at demands) _ (length demands) out

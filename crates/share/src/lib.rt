@@ -1,13 +1,16 @@
 // A size shared over demands in whole units, by largest remainders: `rules`' definition `shareSize`, with everybody taking part.
 // Who takes no part is not passed. Sizes only: the sign is put on by the caller.
+// Nothing is held for a demand, neither whole part nor remainder: each is worked out again where it is needed, and the sizes come to stand
+// where the demands stood. The units left over go to the largest remainders down to some bound, which is found by bisection.
 ghost use mathlib.Core.Path.{_≡_};
-ghost use mathlib.Core.Option.{some};
 ghost use Prim.Native.Nat.{_≤_, _<_};
+ghost use lib.Dec.{ltb, eqb};
 ghost use lib.ListN.{length};
-ghost use Rattle.whole.specs.Below.{replacingFirst};
-ghost use Rattle.rules.specs.Share.{firstLargest};
-ghost use Rattle.share.specs.Shareable.{at, everyone, demanded, Shareable, sharesIn};
-ghost use Rattle.share.specs.Steps.{Dividing, Divided, Handing, Handed};
+ghost use Rattle.whole.specs.Below.{oneIf, replacingFirst};
+ghost use Rattle.share.specs.Shareable.{at, demanded, Shareable, sharesIn};
+ghost use Rattle.share.specs.Steps.{Dividing, leftOf, countAbove, Suffices, sizeOf};
+
+// ---- the steps
 
 // The sum of the demands.
 fn total(demands: &[u64]) -> u64
@@ -23,87 +26,134 @@ fn total(demands: &[u64]) -> u64
     sum
 }
 
-// Each demand's whole part into `out` and its remainder into `rests`; how many units that leaves over.
-fn divide(demands: &[u64], size: u64, t: u64, rests: &mut [u64], out: &mut [u64]) -> u64
-    requires { ⌜ Dividing (now demands) size t (now rests) (now out) ⌝ }
-    ensures { λ r. ⌜ Divided (now (demands .entry)) size (now (rests .entry)) (now (out .entry)) r (now (rests .exit)) (now (out .exit)) ⌝ }
+// How many units the whole parts leave over.
+fn left_over(demands: &[u64], size: u64, t: u64) -> u64
+    requires { ⌜ Dividing (now demands) size t ⌝ }
+    ensures { λ r. ⌜ r ≡ leftOf (now (demands .entry)) size ⌝ }
 {
     let mut handed: u64 = 0;
     let mut i = 0;
     while i < demands.len() {
-        let product = demands[i] * size;
-        let whole = product / t;
-        out[i] = whole;
-        rests[i] = product % t;
-        handed += whole;
+        handed += demands[i] * size / t;
         i += 1;
     }
     size - handed
 }
 
-// The place of the largest remainder, of equal ones the first. It goes from the last place down, which takes the fewest instructions,
-// so an equal remainder at an earlier place replaces the one found.
-fn largest(rests: &[u64]) -> usize
-    requires { ⌜ 0 < length (now rests) ⌝ }
-    ensures { λ r. ⌜ firstLargest (at (now (rests .entry))) everyone (length (now (rests .entry))) ≡ some r ⌝ }
+fn one_if_above(bound: u64, x: u64) -> u64
+    ensures { λ r. ⌜ (r ≡ oneIf (ltb bound x)) × (r ≤ 1) ⌝ }
 {
-    let mut i = rests.len() - 1;
-    let mut best = i;
-    while 0 < i {
-        i -= 1;
-        if rests[best] <= rests[i] {
-            best = i;
+    if bound < x {
+        return 1;
+    }
+    0
+}
+
+fn one_if_equal(x: u64, bound: u64) -> u64
+    ensures { λ r. ⌜ r ≡ oneIf (eqb x bound) ⌝ }
+{
+    if x == bound {
+        return 1;
+    }
+    0
+}
+
+// How many remainders are above `bound`.
+fn count_above(demands: &[u64], size: u64, t: u64, bound: u64) -> u64
+    requires { ⌜ Dividing (now demands) size t ⌝ }
+    ensures { λ r. ⌜ r ≡ countAbove (now (demands .entry)) size bound ⌝ }
+{
+    let mut count: u64 = 0;
+    let mut i = 0;
+    while i < demands.len() {
+        count += one_if_above(bound, demands[i] * size % t);
+        i += 1;
+    }
+    count
+}
+
+// Every remainder above `bound` gets a unit, and the first `spare` of those equal to it.
+struct Cut {
+    bound: u64,
+    spare: u64,
+}
+
+// Down to which remainder the units suffice: at least as many remainders as units are above `low`, at most as many above `high`. It is found
+// as soon as just as many are above `high`, and at the latest where nothing is left between the two.
+fn threshold(demands: &[u64], size: u64, t: u64, units: u64) -> Cut
+    requires { ⌜ Dividing (now demands) size t × (units ≤ countAbove (now demands) size 0) ⌝ }
+    ensures { λ r. ⌜ Suffices (now (demands .entry)) size units (r .bound) (r .spare) ⌝ }
+{
+    let mut low: u64 = 0;
+    let mut high = t;
+    let mut spare = units;
+    while 0 < spare && 1 < high - low {
+        let middle = low + (high - low) / 2;
+        let above = count_above(demands, size, t, middle);
+        if units < above {
+            low = middle;
+        } else {
+            high = middle;
+            spare = units - above;
         }
     }
-    best
-}
-
-// `units` units, one at a time, each to the largest remainder, which is then 0.
-fn hand_out(rests: &mut [u64], units: u64, out: &mut [u64])
-    requires { ⌜ Handing (now rests) units (now out) ⌝ }
-    ensures { λ _. ⌜ Handed (now (rests .entry)) units (now (out .entry)) (now (rests .exit)) (now (out .exit)) ⌝ }
-{
-    let mut k: u64 = 0;
-    while k < units {
-        let best = largest(rests);
-        rests[best] = 0;
-        out[best] += 1;
-        k += 1;
+    Cut {
+        bound: high,
+        spare: spare,
     }
 }
 
-// The shares where the demands add up to `t`, which is not 0; `rests` is room for the remainders.
-fn share_out(demands: &[u64], size: u64, t: u64, rests: &mut [u64], out: &mut [u64])
-    requires { ⌜ Dividing (now demands) size t (now rests) (now out) ⌝ }
-    ensures { λ _. ⌜ now (out .exit) ≡ sharesIn (now (demands .entry)) size (now (out .entry)) ⌝ }
+// The sizes, where the demands stood. A remainder equal to the bound counts as one more while units are spare for such.
+fn put_sizes(places: &mut [u64], size: u64, t: u64, bound: u64, spare: u64)
+    requires { ⌜ Dividing (now places) size t ⌝ }
+    ensures { λ _. ⌜ now (places .exit)
+        ≡ replacingFirst (sizeOf (now (places .entry)) size bound spare) (length (now (places .entry))) (now (places .entry)) ⌝ }
 {
-    let units = divide(demands, size, t, rests, out);
-    hand_out(rests, units, out);
-}
-
-// The first `n` places 0.
-fn clear(out: &mut [u64], n: usize)
-    requires { ⌜ n ≤ length (now out) ⌝ }
-    ensures { λ _. ⌜ now (out .exit) ≡ replacingFirst (λ i. 0) n (now (out .entry)) ⌝ }
-{
+    let mut equal: u64 = 0;
     let mut i = 0;
-    while i < n {
-        out[i] = 0;
+    while i < places.len() {
+        let product = places[i] * size;
+        let rest = product % t;
+        places[i] = product / t + one_if_above(bound, rest + one_if_above(equal, spare));
+        equal += one_if_equal(rest, bound);
         i += 1;
     }
 }
 
-// The sizes of the shares of `size` over the demands, into the first places of `out`; the places past them are unchanged.
+// ---- sharing
+
+// The sizes of the shares of `size` over the demands, each in the place of its demand. Where all demands are 0 the shares are too.
+pub fn share_in_place(places: &mut [u64], size: u64)
+    requires { ⌜ Shareable (now places) size (now places) ⌝ }
+    ensures { λ _. ⌜ now (places .exit) ≡ sharesIn (now (places .entry)) size (now (places .entry)) ⌝ }
+{
+    let t = total(places);
+    if t == 0 {
+        return;
+    }
+    let units = left_over(places, size, t);
+    let cut = threshold(places, size, t, units);
+    put_sizes(places, size, t, cut.bound, cut.spare);
+}
+
+// The demands into the first places of `out`.
+fn copy(demands: &[u64], out: &mut [u64])
+    requires { ⌜ length (now demands) ≤ length (now out) ⌝ }
+    ensures { λ _. ⌜ now (out .exit) ≡ replacingFirst (at (now (demands .entry))) (length (now (demands .entry))) (now (out .entry)) ⌝ }
+{
+    let mut i = 0;
+    while i < demands.len() {
+        out[i] = demands[i];
+        i += 1;
+    }
+}
+
+// The same for a caller that keeps its demands: the sizes into the first places of `out`; the places past them are unchanged.
 pub fn shares(demands: &[u64], size: u64, out: &mut [u64])
     requires { ⌜ Shareable (now demands) size (now out) ⌝ }
     ensures { λ _. ⌜ now (out .exit) ≡ sharesIn (now (demands .entry)) size (now (out .entry)) ⌝ }
 {
     let n = demands.len();
-    let t = total(demands);
-    if t == 0 {
-        clear(out, n);
-        return;
-    }
-    let mut rests = [0u64; 250];
-    share_out(demands, size, t, &mut rests[..n], out);
+    copy(demands, out);
+    share_in_place(&mut out[..n], size);
 }

@@ -1,12 +1,12 @@
 -- Laws of counts, sums and products of the naturals f 0, .., f (n - 1).
 use mathlib.Core.Path.{_≡_, refl, sym, _∙_, ap, ap₂}
-use mathlib.Core.Bool.{Bool, true, false, cond}
+use mathlib.Core.Bool.{Bool, true, false, cond, _&&_, _||_, and-true, and-false}
 use Prim.Native.Nat.{ℕ, zero, suc, _+_, _*_, _%_, _≤_, _<_, zero-le}
 use native.Mathlib.Nat.{add-zero, add-suc, add-le-add, le-refl, not-suc-le-zero, mul-one, mod-add-mod}
 use native.Mathlib.Numerals.{add-one}
 use native.Mathlib.Omega.{arith}
-use lib.Dec.{eqb}
-use borrow.Author.Tests.{eqb-true, eqb-false, eq-eqb, ne-eqb}
+use lib.Dec.{ltb, eqb}
+use borrow.Author.Tests.{eqb-true, eqb-false, lt-ltb, le-ltb, eq-eqb, ne-eqb}
 use Rattle.whole.specs.Below.{oneIf, countBelow, sumBelow, productBelow}
 use Rattle.whole.proofs.Tests.{split, never, last-or-below}
 
@@ -51,8 +51,32 @@ count-zero p (suc n) e i l = last-or-below i n l
     (λ d. split (p n) (λ t. absurd (let k : countBelow p n + 1 ≡ 0 = rw t at e in omega arith)) (λ f. rw d f))
     (count-zero p n (omega arith) i)
 
+pub none-pass : (p : ℕ → Bool) (n : ℕ) → ((i : ℕ) → i < n → p i ≡ false) → countBelow p n ≡ 0
+unfolding countBelow
+none-pass p zero h = refl
+none-pass p (suc n) h = rw (none-pass p n (λ i l. h i (omega arith)), h n (omega arith))
+
 pub count-most : (p : ℕ → Bool) (n : ℕ) → countBelow p n ≤ n
 count-most p n = let e = all-count n in let h = count-mono p (λ i. true) n (λ i l t. refl) in omega arith
+
+-- those that pass one of two tests that no number passes both
+one-or : (a b : Bool) → (a ≡ true → b ≡ false) → oneIf (a || b) ≡ oneIf a + oneIf b
+one-or true b h = rw (h refl)
+one-or false b h = omega arith
+
+pub count-or : (p q : ℕ → Bool) (n : ℕ) → ((i : ℕ) → p i ≡ true → q i ≡ false) →
+    countBelow (λ i. p i || q i) n ≡ countBelow p n + countBelow q n
+unfolding countBelow
+count-or p q zero h = refl
+count-or p q (suc n) h = let e = count-or p q n h in let f = one-or (p n) (q n) (h n) in omega arith
+
+-- those below i alone
+pub count-cut : (p : ℕ → Bool) (i n : ℕ) → i ≤ n → countBelow (λ j. p j && ltb j i) n ≡ countBelow p i
+unfolding countBelow
+count-cut p i zero l = let e : i ≡ 0 = omega arith in rw e
+count-cut p i (suc n) l = last-or-below i (suc n) (omega arith)
+    (λ e. rw e (count-ext (λ j. p j && ltb j (suc n)) p (suc n) (λ j m. rw (lt-ltb j (suc n) m) (and-true (p j)))))
+    (λ m. rw (le-ltb n i (omega arith), and-false) (rw add-zero (count-cut p i n (omega arith))))
 
 -- ---- sums
 
