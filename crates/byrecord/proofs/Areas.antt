@@ -3,6 +3,7 @@ use mathlib.Core.Path.{_≡_, sym, _∙_, ap, ap₂}
 use mathlib.Core.Bool.{Bool, true, false, cond}
 use mathlib.Core.List.{List}
 use Prim.Native.Nat.{ℕ, _+_, _≤_, _<_}
+use native.Mathlib.Nat.{le-refl}
 use native.Mathlib.Omega.{arith}
 use lib.Dec.{ltb, eqb}
 use lib.IntN.{ℤ, pos, natAbs}
@@ -73,7 +74,7 @@ module _ (h : Hour) (a i : ℕ) where
 
 -- ---- the turn of area a
 
-module _ {s : List ℕ} {a : ℕ} {figure : ℤ} {demands sizes : List ℕ} {out : List ℤ} (p : SharedUpTo s a figure demands sizes out) where
+module _ {s : List ℕ} {a : ℕ} {figure : ℤ} {room : List ℕ} {out : List ℤ} (p : SharedUpTo s a figure room out) where
   abbrev hour : Hour
   hour = hourIn s
 
@@ -90,7 +91,7 @@ module _ {s : List ℕ} {a : ℕ} {figure : ℤ} {demands sizes : List ℕ} {out
           omega (arith, size-at-most (inArea hour a isLoad) (demand hour) (hour .count) (natAbs (ufe hour a)) i l)
 
   pub nothing-to-write : ofZ w64 figure ≡ 0 → out ≡ replacingFirst (sharesBelow hour (a + 1)) (hour .count) out
-  nothing-to-write z = sym (replacing-same _ (hour .count) out (pos 0) (p .room) (λ i l.
+  nothing-to-write z = sym (replacing-same _ (hour .count) out (pos 0) (p .room-out) (λ i l.
       sym (p .shared i l ∙ unshared hour a i (no-ufe-no-share none i l))))
     where
       none : ufe hour a ≡ pos 0
@@ -99,13 +100,13 @@ module _ {s : List ℕ} {a : ℕ} {figure : ℤ} {demands sizes : List ℕ} {out
 -- ---- an area with UFE, over its loads
 
 -- what the engine is asked: in the first places of `room` stand the demands of the area's loads, so many
-pub record Asked (s : List ℕ) (a : ℕ) (figure : ℤ) (lent sizes : List ℕ) (out : List ℤ) (loads : ℕ) (room : List ℕ) : Type 0 where
-  pub up-to : SharedUpTo s a figure lent sizes out
+pub record Asked (s : List ℕ) (a : ℕ) (figure : ℤ) (lent : List ℕ) (out : List ℤ) (loads : ℕ) (room : List ℕ) : Type 0 where
+  pub up-to : SharedUpTo s a figure lent out
   pub counted : loads ≡ loadsBefore (hourIn s) a (hourIn s .count)
   pub holds : room ≡ gatheredBelow (inArea (hourIn s) a isLoad) (demand (hourIn s)) (hourIn s .count) lent
 
-module _ {s : List ℕ} {a : ℕ} {figure : ℤ} {lent sizes : List ℕ} {out : List ℤ} {loads : ℕ} {room : List ℕ}
-    (q : Asked s a figure lent sizes out loads room) where
+module _ {s : List ℕ} {a : ℕ} {figure : ℤ} {lent : List ℕ} {out : List ℤ} {loads : ℕ} {room : List ℕ}
+    (q : Asked s a figure lent out loads room) where
   abbrev h : Hour
   h = hourIn s
 
@@ -128,7 +129,7 @@ module _ {s : List ℕ} {a : ℕ} {figure : ℤ} {lent sizes : List ℕ} {out : 
   room-kept = ap length (q .holds) ∙ gathered-length load (demand h) lent n
 
   pub loads-fit : loads ≤ length room
-  loads-fit = omega (arith, room-kept, q .up-to .demands-room, q .counted, count-most load n)
+  loads-fit = omega (arith, room-kept, q .up-to .places, q .counted, count-most load n)
 
   as-many : length demands ≡ loads
   as-many = length-take-le loads room loads-fit
@@ -139,7 +140,7 @@ module _ {s : List ℕ} {a : ℕ} {figure : ℤ} {lent sizes : List ℕ} {out : 
   demand-at : (j : ℕ) → j < n → load j ≡ true → at demands (place j) ≡ demand h j
   demand-at j l t =
       getD-take loads room (place j) 0 (before-all j l t)
-      ∙ rw (q .holds) (gathered-at load (demand h) lent n (omega (arith, q .up-to .demands-room)) j 0 l t)
+      ∙ rw (q .holds) (gathered-at load (demand h) lent n (omega (arith, q .up-to .places)) j 0 l t)
 
   demand-small : (k : ℕ) → k < length demands → at demands k ≤ 100000
   demand-small k m = passer-at load n k (omega (arith, as-many, q .counted)) (λ j l t e.
@@ -149,30 +150,33 @@ module _ {s : List ℕ} {a : ℕ} {figure : ℤ} {lent sizes : List ℕ} {out : 
   U-most = ufe-under (ranges (q .up-to)) a (q .up-to .there) .under
 
   few : length demands ≤ n
-  few = omega (arith, as-many, loads-fit, room-kept, q .up-to .demands-room)
+  few = omega (arith, as-many, loads-fit, room-kept, q .up-to .places)
 
-  pub shareable : Shareable demands U sizes
+  pub shareable : Shareable demands U demands
   shareable =
-      ufe-shareable demands U sizes (omega (arith, few, q .up-to .sizes-room)) (omega (arith, few, ranges (q .up-to) .count-most))
-      demand-small U-most
+      ufe-shareable demands U demands (le-refl (length demands)) (omega (arith, few, ranges (q .up-to) .count-most)) demand-small U-most
 
-  -- what the engine answered
-  module _ {got : List ℕ} (shared : got ≡ sharesIn demands U sizes) where
-    sizes-kept : length got ≡ length sizes
-    sizes-kept = ap length shared ∙ length-replacing _ (length demands) sizes (omega (arith, few, q .up-to .sizes-room))
+  -- the sizes stand where the demands stood
+  module _ {got : List ℕ} (shared : got ≡ sharesIn demands U room) where
+    sizes-kept : length got ≡ n
+    sizes-kept =
+        ap length shared
+        ∙ length-replacing _ (length demands) room (omega (arith, as-many, loads-fit))
+        ∙ room-kept
+        ∙ q .up-to .places
 
     got-at : (j : ℕ) → j < n → load j ≡ true → getD got (place j) 0 ≡ sizeOf h a j
     got-at j l t =
         ap (λ (g : List ℕ). getD g (place j) 0) shared
-        ∙ getD-replacing _ (length demands) sizes (place j) 0 (omega (arith, as-many, before-all j l t))
+        ∙ getD-replacing _ (length demands) room (place j) 0 (omega (arith, as-many, before-all j l t))
         ∙ ap (λ (m : ℕ). shareSize everyone (at demands) m U (place j)) (as-many ∙ q .counted)
         ∙ gathered-shares load (demand h) (at demands) n U demand-at j l t
 
     pub sized : Sized s a got out
     sized = record {
       kept = q .up-to .kept;
-      as-many = sizes-kept ∙ q .up-to .sizes-room;
-      room = omega (arith, sizes-kept, q .up-to .sizes-room, q .up-to .room);
+      as-many = sizes-kept;
+      room = omega (arith, sizes-kept, q .up-to .room-out);
       small = λ j l t. rw (got-at j l t) (omega (arith, size-at-most load (demand h) n U j l, U-most));
     }
 

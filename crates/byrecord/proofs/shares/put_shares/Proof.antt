@@ -1,72 +1,62 @@
--- `byrecord::shares::put_shares` meets its contract: there is room for 250 demands and sizes, and the records' places are cleared first.
-use mathlib.Core.Path.{sym, _∙_}
-use Prim.Native.Nat.{_≤_}
+-- `byrecord::shares::put_shares` meets its contract: the records' places are cleared, the areas shared, and the room cleared.
+use mathlib.Core.Path.{_∙_}
 use native.Mathlib.Omega.{arith}
-use lib.Seq.{length-take-le}
 use Rattle.hour.proofs.Figures.{head-areas, head-records}
-use Rattle.byrecord.proofs.Hour.{ready, shared-over}
+use Rattle.byrecord.proofs.Hour.{ready, shared-over, room-cleared}
 use Rattle.byrecord.proofs.shares.put_shares.Statement.{statement}
 use Rattle.byrecord.proofs.shares.put_shares.Tie as tie
 
--- the head's count is the file's
-few : (c : tie.Start) → c .args .head .records ≤ 250
-few c = omega (arith, head-records (c .pre .0), c .pre .1 .kept .hour-kept .count-most)
-
 clear-requires : tie.Need-clear-requires
-clear-requires c κs = let start = c .before .before in omega (arith, start .pre .1 .room, head-records (start .pre .0))
+clear-requires c κs = let start = c .before .before .before in omega (arith, start .pre .1 .room-out, head-records (start .pre .0))
 
--- the shares are cleared, as it is seen from the end of the clearing, and from where each room is lent
+-- the start, as it is seen where the shares are cleared
 abbrev start : tie.After-clear → tie.Start
-start c = c .before .before .before
-
--- &mut demands[..n]
-array-borrow-prefix-demands : tie.Need-array-borrow-prefix-demands
-array-borrow-prefix-demands c = few (start (c .before))
-
--- the length of &mut demands[..n]
-slice-aggregate-share-areas : tie.Need-slice-aggregate-share-areas
-slice-aggregate-share-areas c = sym (length-take-le _ _ (few (start (c .before .before))))
-
--- &mut sizes[..n]
-array-borrow-prefix-sizes : tie.Need-array-borrow-prefix-sizes
-array-borrow-prefix-sizes c = few (start (c .before .before))
-
--- the length of &mut sizes[..n]
-slice-aggregate-share-areas-2 : tie.Need-slice-aggregate-share-areas-2
-slice-aggregate-share-areas-2 c = sym (length-take-le _ _ (few (start (c .before .before .before))))
+start c = c .before .before .before .before
 
 share-areas-requires : tie.Need-share-areas-requires
 share-areas-requires c κs =
-    let clearing = c .before .before .before .before in
-    let begun = start clearing in (
-      ready (begun .pre .1) (head-records (begun .pre .0)) (clearing .clear .ensures)
-          (length-take-le _ _ (few begun)) (length-take-le _ _ (few begun)),
-      head-areas (begun .pre .0),
-    )
+    let cleared = c .before .before .before in
+    let begun = start cleared in
+    (ready (begun .pre .1) (head-records (begun .pre .0)) (cleared .clear .ensures), head-areas (begun .pre .0))
 
--- the shares cleared, as it is seen where they are all put
+clear-room-requires : tie.Need-clear-room-requires
+clear-room-requires c κs = tt
+
+-- the moments at which all areas are shared, and at which the shares were cleared, as they are seen where the room is cleared
+abbrev shared : tie.After-clear-room → tie.After-share-areas
+shared c = c .before .before .before .before .before
+
 abbrev cleared : tie.After-share-areas → tie.After-clear
-cleared c = c .before .before .before .before .before
+cleared c = c .before .before .before .before
+
+-- room: &mut [u64]
+same-length : tie.Need-same-length
+same-length c = let emptied = c .before .before in emptied .clear-room .kept .0 ∙ shared emptied .share-areas .kept .1 .1 .1 .0
 
 -- out: &mut [i64]
-same-length : tie.Need-same-length
-same-length c = let shared = c .before .before .before in shared .share-areas .kept .1 .1 .1 .1 .1 .0 ∙ cleared shared .clear .kept .0
+same-length-2 : tie.Need-same-length-2
+same-length-2 c =
+    let done = shared (c .before .before) in
+    done .share-areas .kept .1 .1 .1 .1 .0 ∙ cleared done .clear .kept .0
 
 returns : tie.Need-returns
 returns c =
-    let shared = c .before .before .before in
-    let begun = start (cleared shared) in
-    shared-over (begun .pre .1) (head-records (begun .pre .0)) (cleared shared .clear .ensures) (shared .share-areas .ensures)
+    let emptied = c .before .before in
+    let done = shared emptied in
+    let begun = start (cleared done) in
+    let over = cleared done .clear .ensures in (
+      shared-over (begun .pre .1) (head-records (begun .pre .0)) over (done .share-areas .ensures),
+      room-cleared (begun .pre .1) (head-records (begun .pre .0)) over (done .share-areas .last .1 .1 .1 .0)
+          (done .share-areas .kept .1 .1 .1 .0) (emptied .clear-room .ensures),
+    )
 
 pub put-shares-spec : {M : Type 1} → statement M
 put-shares-spec =
     tie.close
     (tie.spec
     clear-requires
-    array-borrow-prefix-demands
-    slice-aggregate-share-areas
-    array-borrow-prefix-sizes
-    slice-aggregate-share-areas-2
     share-areas-requires
+    clear-room-requires
     same-length
+    same-length-2
     returns)

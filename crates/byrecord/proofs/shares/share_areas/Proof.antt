@@ -9,20 +9,20 @@ use Rattle.byrecord.proofs.shares.share_areas.Statement.{statement}
 use Rattle.byrecord.proofs.shares.share_areas.Tie as tie
 
 abbrev Inv-loop : tie.InvT-loop
-Inv-loop file areas demands₀ sizes₀ out₀ figures a₀ demands sizes out a = AreasShared file a out₀ demands sizes out
+Inv-loop file areas room₀ out₀ figures a₀ room out a = AreasShared file a out₀ room out
 
 abbrev μ-loop : tie.MeasureT-loop
-μ-loop file areas demands₀ sizes₀ out₀ figures a₀ demands sizes out a = areas - a
+μ-loop file areas room₀ out₀ figures a₀ room out a = areas - a
 
 loop-holds : tie.Need-loop-holds Inv-loop μ-loop
-loop-holds c = none-shared (c .before .before .before .pre .0)
+loop-holds c = none-shared (c .before .before .pre .0)
 
 -- the start, as it is seen at the head of a turn; the head of a turn, as it is seen where its area is to be shared
 abbrev start : tie.At-loop Inv-loop μ-loop → tie.Start Inv-loop μ-loop
-start c = c .before .before .before .before
+start c = c .before .before .before
 
-abbrev turn : tie.After-share-area-arg4 Inv-loop μ-loop → tie.At-loop Inv-loop μ-loop
-turn c = c .before .before .before .before .before
+abbrev turn : tie.After-share-area-arg3 Inv-loop μ-loop → tie.At-loop Inv-loop μ-loop
+turn c = c .before .before .before .before
 
 -- the offset of figures[a]
 mul-share-area : tie.Need-mul-share-area Inv-loop μ-loop
@@ -34,7 +34,7 @@ array-copy-out-share-area c = area-place (start (c .before) .pre .0) (c .before 
 
 share-area-requires : tie.Need-share-area-requires Inv-loop μ-loop
 share-area-requires c κs =
-    rw (read-back (sfits-of (c .before .before .before .share-area-arg .given)))
+    rw (read-back (sfits-of (c .before .before .share-area-arg .given)))
     (shared-so-far (start (turn c) .pre .0) (turn c .loop .inv) (omega arith))
 
 -- a += 1
@@ -46,22 +46,17 @@ loop-less c = omega arith
 
 loop-again : tie.Need-loop-again Inv-loop μ-loop
 loop-again c =
-    let shared = c .before .before .before .before .before in
+    let shared = c .before .before .before in
     let at = turn (shared .before) in
-    let kept = shared .share-area .kept .1 .1 .1 in
-    next-area (start at .pre .0) (at .loop .inv) (omega arith) (shared .share-area .ensures) (kept .0) (kept .1 .0)
+    next-area (start at .pre .0) (at .loop .inv) (omega arith) (shared .share-area .ensures) (shared .share-area .kept .1 .1 .1 .0)
 
--- demands: &mut [u64]
+-- room: &mut [u64]
 same-length : tie.Need-same-length Inv-loop μ-loop
-same-length c = c .before .loop .inv .demands-room ∙ sym (start (c .before) .pre .0 .demands-room)
-
--- sizes: &mut [u64]
-same-length-2 : tie.Need-same-length-2 Inv-loop μ-loop
-same-length-2 c = c .before .loop .inv .sizes-room ∙ sym (start (c .before) .pre .0 .sizes-room)
+same-length c = c .before .loop .inv .places ∙ sym (start (c .before) .pre .0 .sharing .places)
 
 -- out: &mut [i64]
-same-length-3 : tie.Need-same-length-3 Inv-loop μ-loop
-same-length-3 c = same-room (start (c .before) .pre .0) (c .before .loop .inv)
+same-length-2 : tie.Need-same-length-2 Inv-loop μ-loop
+same-length-2 c = same-room (start (c .before) .pre .0) (c .before .loop .inv)
 
 returns : tie.Need-returns Inv-loop μ-loop
 returns c = all-shared (start (c .before) .pre .0) (c .before .loop .inv) (omega arith)
@@ -81,5 +76,4 @@ share-areas-spec =
     loop-again
     same-length
     same-length-2
-    same-length-3
     returns)
