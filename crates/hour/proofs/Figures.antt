@@ -42,7 +42,7 @@ module _ (h : Hour) (few : areas h ≤ 8) (a : ℕ) (there : a < areas h) where
   unfolding ufeFigures
   figure-at = own-figure (ufe h) (areas h) few a there
 
-  price-at : getD (pricesOf h) a (pos 0) ≡ price h a
+  pub price-at : getD (pricesOf h) a (pos 0) ≡ price h a
   unfolding pricesOf
   price-at = own-figure (price h) (areas h) few a there
 
@@ -64,7 +64,9 @@ module _ {s : List ℕ} {x : Head} (p : Headed s x) where
   unfolding headOf
   head-records = ap (λ (y : Head). y .records) (p .head-is)
 
-  pub head-price : (a : ℕ) → a < areas hour → getD (x .prices) a (pos 0) ≡ price hour a
+  pub head-prices : x .prices ≡ pricesOf hour
   unfolding headOf
-  head-price a there =
-      ap (λ (y : Head). getD (y .prices) a (pos 0)) (p .head-is) ∙ price-at hour (p .kept .hour-kept .areas-most) a there
+  head-prices = ap (λ (y : Head). y .prices) (p .head-is)
+
+  pub head-price : (a : ℕ) → a < areas hour → getD (x .prices) a (pos 0) ≡ price hour a
+  head-price a there = rw head-prices (price-at hour (p .kept .hour-kept .areas-most) a there)

@@ -3,7 +3,7 @@ use mathlib.Core.Path.{_≡_, refl, sym, _∙_, ap}
 use mathlib.Core.Bool.{cond}
 use mathlib.Core.List.{List}
 use Prim.Native.Nat.{ℕ, _+_, _≤_, _<_}
-use native.Mathlib.Nat.{le-of-lt}
+use native.Mathlib.Nat.{le-refl, le-of-lt}
 use native.Mathlib.Omega.{arith}
 use lib.Dec.{eqb}
 use lib.IntN.{ℤ, natAbs, _+ℤ_, _-ℤ_}
@@ -66,13 +66,12 @@ module _ {h : Hour} (kept : HourKept h) where
 
 -- ---- the engine is asked: in `demands` stand the members', which were put where `lent` was
 
-pub record Asked (h : Hour) (lent demands sizes : List ℕ) : Type 0 where
+pub record Asked (h : Hour) (lent demands : List ℕ) : Type 0 where
   pub kept : HourKept h
-  pub demands-room : length lent ≡ members h
-  pub sizes-room : length sizes ≡ members h
+  pub room : length lent ≡ members h
   pub put : demands ≡ replacingFirst (memberDemand h) (members h) lent
 
-module _ {h : Hour} {lent demands sizes : List ℕ} (q : Asked h lent demands sizes) where
+module _ {h : Hour} {lent demands : List ℕ} (q : Asked h lent demands) where
   abbrev n : ℕ
   n = members h
 
@@ -80,7 +79,7 @@ module _ {h : Hour} {lent demands sizes : List ℕ} (q : Asked h lent demands si
   N = natAbs (neutrality h)
 
   as-many : length demands ≡ n
-  as-many = ap length (q .put) ∙ length-replacing (memberDemand h) n lent (omega (arith, q .demands-room)) ∙ q .demands-room
+  as-many = ap length (q .put) ∙ length-replacing (memberDemand h) n lent (omega (arith, q .room)) ∙ q .room
 
   demand-at : (m : ℕ) → m < n → at demands m ≡ memberDemand h m
   demand-at m l = rw (q .put) (getD-replacing (memberDemand h) n lent m 0 l)
@@ -89,14 +88,14 @@ module _ {h : Hour} {lent demands sizes : List ℕ} (q : Asked h lent demands si
   unfolding hourDemand allDemand
   all-demanded = ap (sumBelow (at demands)) as-many ∙ sum-ext (at demands) (memberDemand h) n demand-at
 
-  pub shareable : Shareable demands N sizes
-  shareable = neutrality-shareable demands N sizes (omega (arith, as-many, q .sizes-room)) (omega (arith, as-many, q .kept .members-most))
+  pub shareable : Shareable demands N demands
+  shareable = neutrality-shareable demands N demands (le-refl (length demands)) (omega (arith, as-many, q .kept .members-most))
       (omega (arith, all-demanded, hour-demand-most (q .kept))) (omega (arith, neutrality-under (q .kept) .under))
 
-  -- what the engine answered
-  module _ {got : List ℕ} (shared : got ≡ sharesIn demands N sizes) where
+  -- the sizes stand where the demands stood
+  module _ {got : List ℕ} (shared : got ≡ sharesIn demands N demands) where
     got-as-many : length got ≡ n
-    got-as-many = ap length shared ∙ length-replacing _ (length demands) sizes (omega (arith, as-many, q .sizes-room)) ∙ q .sizes-room
+    got-as-many = ap length shared ∙ length-replacing _ (length demands) demands (le-refl (length demands)) ∙ as-many
 
     everybody-takes-part : (m : ℕ) → m < n → shareSize everyone (at demands) n N m ≡ sizeOf h m
     unfolding sizeOf
@@ -107,13 +106,13 @@ module _ {h : Hour} {lent demands sizes : List ℕ} (q : Asked h lent demands si
     got-at : (m : ℕ) → m < n → getD got m 0 ≡ sizeOf h m
     got-at m l =
         ap (λ (g : List ℕ). getD g m 0) shared
-        ∙ getD-replacing _ (length demands) sizes m 0 (omega (arith, as-many))
+        ∙ getD-replacing _ (length demands) demands m 0 (omega (arith, as-many))
         ∙ ap (λ (k : ℕ). shareSize everyone (at demands) k N m) as-many
         ∙ everybody-takes-part m l
 
 -- N, as it was added up, and the engine's sizes are all that is needed to take the shares off
-pub sized : {s : List ℕ} {lent demands sizes got : List ℕ} {all : ℤ} → Asked (hourIn s) lent demands sizes → all ≡ neutrality (hourIn s) →
-    got ≡ sharesIn demands (natAbs (neutrality (hourIn s))) sizes → Sized s all got
+pub sized : {s : List ℕ} {lent demands got : List ℕ} {all : ℤ} → Asked (hourIn s) lent demands → all ≡ neutrality (hourIn s) →
+    got ≡ sharesIn demands (natAbs (neutrality (hourIn s))) demands → Sized s all got
 sized q all-is shared = record { all-is = all-is; as-many = got-as-many q shared; sizes-are = got-at q shared }
 
 -- ---- a share is taken off

@@ -1,6 +1,6 @@
 // The neutrality amount N, the sum of all charges, shared over the members by what they demand; a member's final amount is its charge
-// minus its share (document 02, A1). The sharing itself is the engine's, `share::shares`. And refusal 12, which settling asks for before it
-// writes to any buffer.
+// minus its share (document 02, A1). The sharing itself is the engine's, `share::share_in_place`. And refusal 12, which settling asks for
+// before it writes to any buffer.
 ghost use mathlib.Core.Path.{_≡_};
 ghost use mathlib.Core.Bool.{not};
 ghost use Prim.Native.Nat.{_≤_, _<_};
@@ -13,7 +13,7 @@ ghost use Rattle.rules.specs.Charge as Charge;
 ghost use Rattle.rules.specs.Neutrality.{memberDemand, hourDemand, neutrality, final};
 ghost use Rattle.rules.specs.Refusals.{placeZeroIf, noDemand};
 ghost use Rattle.rules.specs.Inner.Kept.{FileKept};
-ghost use Rattle.hour.specs.Hour.{hourIn, Headed};
+ghost use Rattle.hour.specs.Hour.{hourIn, pricesOf, Headed};
 ghost use Rattle.tally.specs.Posted.{Tallied};
 ghost use Rattle.neutrality.specs.Charged.{Charged, Deviated, Empty, Amounts, Sized};
 use hour::Head;
@@ -64,24 +64,17 @@ fn take_off(file: &[u8], charges: &[i64], all: i64, sizes: &[u64], finals: &mut 
     }
 }
 
-// The finals, with room lent for the members' demands and the sizes of their shares.
-fn share_out(
-    file: &[u8],
-    records: usize,
-    charges: &[i64],
-    demands: &mut [u64],
-    sizes: &mut [u64],
-    finals: &mut [i64],
-)
-    requires { ⌜ Charged (now file) (now charges) × (records ≡ hourIn (now file) .count) × Empty 0 (hourIn (now file)) (now demands)
-        × (length (now sizes) ≡ Record.members (hourIn (now file))) × (Record.members (hourIn (now file)) ≤ length (now finals)) ⌝ }
+// The finals, with room lent in which the members' demands stand, and then the sizes of their shares.
+fn share_out(file: &[u8], records: usize, charges: &[i64], room: &mut [u64], finals: &mut [i64])
+    requires { ⌜ Charged (now file) (now charges) × (records ≡ hourIn (now file) .count) × Empty 0 (hourIn (now file)) (now room)
+        × (Record.members (hourIn (now file)) ≤ length (now finals)) ⌝ }
     ensures { λ _. ⌜ now (finals .exit)
         ≡ replacingFirst (final (hourIn (now (file .entry)))) (Record.members (hourIn (now (file .entry)))) (now (finals .entry)) ⌝ }
 {
-    let all = sum_of(file, charges, sizes.len());
-    put_demands(file, records, demands);
-    share::shares(demands, sign::size_of(all), sizes);
-    take_off(file, charges, all, sizes, finals);
+    let all = sum_of(file, charges, room.len());
+    put_demands(file, records, room);
+    share::share_in_place(room, sign::size_of(all));
+    take_off(file, charges, all, room, finals);
 }
 
 // One a member, into the first places; the places past them are unchanged.
@@ -92,34 +85,32 @@ pub fn put_finals(file: &[u8], head: Head, charges: &[i64], finals: &mut [i64])
         ≡ replacingFirst (final (hourIn (now (file .entry)))) (Record.members (hourIn (now (file .entry)))) (now (finals .entry)) ⌝ }
 {
     let n = head.members;
-    let mut demands = [0u64; 32];
-    let mut sizes = [0u64; 32];
-    share_out(
-        file,
-        head.records,
-        charges,
-        &mut demands[..n],
-        &mut sizes[..n],
-        finals,
-    );
+    let mut room = [0u64; 32];
+    share_out(file, head.records, charges, &mut room[..n], finals);
 }
 
 // ---- refusal 12
 
-// Each member's exact amount, added up in its place, in an hour in which nobody demands anything: there every share is 0.
-fn put_amounts(file: &[u8], head: Head, deviations: &[i64], amounts: &mut [i64])
-    requires { ⌜ Headed (now file) head × (hourDemand (hourIn (now file)) ≡ 0) × Deviated (now file) (now deviations)
-        × Empty (pos 0) (hourIn (now file)) (now amounts) ⌝ }
+// Each member's exact amount, added up in its place, in an hour in which nobody demands anything: there every share is 0. Of the head come
+// the prices alone: a whole one would be copied, on what is then the deepest stack.
+fn put_amounts(
+    file: &[u8],
+    records: usize,
+    prices: [i64; 8],
+    deviations: &[i64],
+    amounts: &mut [i64],
+)
+    requires { ⌜ FileKept (now file) × (records ≡ hourIn (now file) .count) × (prices ≡ pricesOf (hourIn (now file)))
+        × (hourDemand (hourIn (now file)) ≡ 0) × Deviated (now file) (now deviations) × Empty (pos 0) (hourIn (now file)) (now amounts) ⌝ }
     ensures { λ _. ⌜ now (amounts .exit)
         ≡ replacingFirst (Charge.amount (hourIn (now (file .entry)))) (Record.members (hourIn (now (file .entry))))
         (now (amounts .entry)) ⌝ }
 {
-    let n = head.records;
     let mut i = 0;
-    while i < n {
+    while i < records {
         let member = hour::member_of(file, i);
         let area = hour::area_of(file, i);
-        amounts[member] += lines::grains(file, i, head.prices[area], deviations[i], 0);
+        amounts[member] += lines::grains(file, i, prices[area], deviations[i], 0);
         i += 1;
     }
 }
@@ -145,7 +136,8 @@ fn left_over_in(file: &[u8], head: Head, deviations: &mut [i64], amounts: &mut [
     ensures { λ r. ⌜ r ≡ not (eqb (natAbs (neutrality (hourIn (now (file .entry))))) 0) ⌝ }
 {
     byrecord::deviations::put_deviations(file, head, deviations);
-    put_amounts(file, head, deviations, amounts);
+    let prices = head.prices;
+    put_amounts(file, head.records, prices, deviations, amounts);
     sum_of_cents(file, amounts) != 0
 }
 

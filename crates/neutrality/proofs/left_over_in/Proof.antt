@@ -5,6 +5,7 @@ use lib.Dec.{eqb}
 use lib.IntN.{ℤ, natAbs}
 use borrow.Author.Needs.{needs, sfits-of}
 use Rattle.whole.proofs.Machine.{zero-test}
+use Rattle.hour.proofs.Figures.{head-records, head-prices}
 use Rattle.neutrality.proofs.Amounts.{deviations-ready, amounts-ready}
 use Rattle.neutrality.proofs.left_over_in.Statement.{statement}
 use Rattle.neutrality.proofs.left_over_in.Tie as tie
@@ -14,15 +15,16 @@ put-deviations-requires c κs = let pre = c .before .before .pre in (pre .0, pre
 
 put-amounts-requires : tie.Need-put-amounts-requires
 put-amounts-requires c κs =
-    let put = c .before .before .before in
+    let put = c .before .before .before .before in
     let begun = put .before .before .before in
     let ready = deviations-ready (begun .args .deviations .now) (begun .pre .2) (put .put-deviations .ensures) in
-    (begun .pre .0, begun .pre .1, ready, begun .pre .3)
+    let headed = begun .pre .0 in
+    (headed .kept, head-records headed, head-prices headed, begun .pre .1, ready, begun .pre .3)
 
 sum-of-cents-requires : tie.Need-sum-of-cents-requires
 sum-of-cents-requires c κs =
     let put = c .before .before in
-    let pre = put .before .before .before .before .before .before .before .pre in
+    let pre = put .before .before .before .before .before .before .before .before .pre in
     amounts-ready (pre .0 .kept) (pre .3) (put .put-amounts .ensures)
 
 -- deviations: &mut [i64]

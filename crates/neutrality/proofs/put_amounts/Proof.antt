@@ -1,8 +1,9 @@
 -- `neutrality::put_amounts` meets its contract. The loop's invariant: each member's place holds the grains of its records passed.
 use mathlib.Core.Path.{_≡_, _∙_, ap}
+use mathlib.Core.List.{List}
 use Prim.Native.Nat.{_-_, _<_}
 use native.Mathlib.Omega.{arith}
-use lib.IntN.{pos}
+use lib.IntN.{ℤ, pos}
 use lib.ListN.{length, getD}
 use borrow.Author.Needs.{sfits-of}
 use Rattle.whole.proofs.Machine.{read-back}
@@ -11,20 +12,20 @@ use Rattle.rules.specs.Record.{Hour, members, areas, price, memberOf, areaOf}
 use Rattle.rules.specs.Charge.{grains}
 use Rattle.rules.specs.Inner.Kept.{HourKept}
 use Rattle.hour.specs.Hour.{hourIn}
-use Rattle.hour.proofs.Figures.{head-records, head-price}
+use Rattle.hour.proofs.Figures.{price-at}
 use Rattle.neutrality.proofs.Amounts.{no-share, grains-fit, grains-added, amounts-are}
 use Rattle.neutrality.proofs.put_amounts.Statement.{statement}
 use Rattle.neutrality.proofs.put_amounts.Tie as tie
 
 abbrev Inv-loop : tie.InvT-loop
-Inv-loop file deviations amounts₀ head n i₀ amounts i =
+Inv-loop file records deviations amounts₀ prices i₀ amounts i =
     Added (totalsBy (memberOf (hourIn file)) (grains (hourIn file))) (members (hourIn file)) (hourIn file .count) i amounts₀ amounts
 
 abbrev μ-loop : tie.MeasureT-loop
-μ-loop file deviations amounts₀ head n i₀ amounts i = n - i
+μ-loop file records deviations amounts₀ prices i₀ amounts i = records - i
 
 loop-holds : tie.Need-loop-holds Inv-loop μ-loop
-loop-holds c = let pre = c .before .pre in no-total-added _ _ (omega (arith, pre .3 .as-many)) (pre .3 .zeros)
+loop-holds c = let pre = c .before .pre in no-total-added _ _ (omega (arith, pre .5 .as-many)) (pre .5 .zeros)
 
 -- a turn's record is there
 module _ (c : tie.In-loop Inv-loop μ-loop) where
@@ -38,19 +39,19 @@ module _ (c : tie.In-loop Inv-loop μ-loop) where
   h = hourIn (start .args .file .now)
 
   kept : HourKept h
-  kept = start .pre .0 .kept .hour-kept
+  kept = start .pre .0 .hour-kept
 
   there : at .loop .i < h .count
-  there = omega (arith, head-records (start .pre .0))
+  there = omega (arith, start .pre .1)
 
   in-deviations : at .loop .i < length (start .args .deviations .now)
-  in-deviations = omega (arith, there, start .pre .2 .room)
+  in-deviations = omega (arith, there, start .pre .4 .room)
 
 member-of-requires : tie.Need-member-of-requires Inv-loop μ-loop
-member-of-requires c κs = (start c .pre .0 .kept, there c)
+member-of-requires c κs = (start c .pre .0, there c)
 
 area-of-requires : tie.Need-area-of-requires Inv-loop μ-loop
-area-of-requires c κs = let t = c .before in (start t .pre .0 .kept, there t)
+area-of-requires c κs = let t = c .before in (start t .pre .0, there t)
 
 -- the record's area is read: it is one of the hour's, of which each has its price
 module _ (c : tie.After-area-of Inv-loop μ-loop) where
@@ -63,16 +64,19 @@ module _ (c : tie.After-area-of Inv-loop μ-loop) where
   area-few : c .area-of .result < 8
   area-few = omega (arith, area-there, kept turn .areas-most)
 
-  price-is : getD (start turn .args .t2 .prices) (c .area-of .result) (pos 0) ≡ price (h turn) (areaOf (h turn) (at turn .loop .i))
-  price-is = head-price (start turn .pre .0) (c .area-of .result) area-there ∙ ap (price (h turn)) (c .area-of .ensures)
+  price-is : getD (start turn .args .t3) (c .area-of .result) (pos 0) ≡ price (h turn) (areaOf (h turn) (at turn .loop .i))
+  price-is =
+      ap (λ (l : List ℤ). getD l (c .area-of .result) (pos 0)) (start turn .pre .2)
+      ∙ price-at (h turn) (kept turn .areas-most) (c .area-of .result) area-there
+      ∙ ap (price (h turn)) (c .area-of .ensures)
 
--- the offset of head.prices[area]
+-- the offset of prices[area]
 mul-grains : tie.Need-mul-grains Inv-loop μ-loop
 mul-grains c = omega (arith, area-few c)
 
--- head.prices[area]
-element-copy-out-grains : tie.Need-element-copy-out-grains Inv-loop μ-loop
-element-copy-out-grains c = area-few c
+-- prices[area]
+array-copy-out-grains : tie.Need-array-copy-out-grains Inv-loop μ-loop
+array-copy-out-grains c = area-few c
 
 -- the offset of deviations[i]
 mul-grains-2 : tie.Need-mul-grains-2 Inv-loop μ-loop
@@ -87,11 +91,11 @@ grains-requires c κs =
     let read = c .before .before in
     let t = turn read in
     record {
-      kept = start t .pre .0 .kept;
+      kept = start t .pre .0;
       there = there t;
       price-is = read-back (sfits-of (c .before .grains-arg .given)) ∙ price-is read;
-      deviation-is = read-back (sfits-of (c .grains-arg2 .given)) ∙ start t .pre .2 .deviations-are (at t .loop .i) (there t);
-      share-is = no-share (kept t) (start t .pre .1) (at t .loop .i) (there t);
+      deviation-is = read-back (sfits-of (c .grains-arg2 .given)) ∙ start t .pre .4 .deviations-are (at t .loop .i) (there t);
+      share-is = no-share (kept t) (start t .pre .3) (at t .loop .i) (there t);
     }
 
 -- the record's member and grains are known
@@ -109,7 +113,7 @@ module _ (c : tie.After-grains Inv-loop μ-loop) where
   few = omega (arith, member-there, kept (turn areaed) .members-most)
 
   place : areaed .before .member-of .result < length (at (turn areaed) .loop .amounts)
-  place = let t = turn areaed in omega (arith, member-there, added-length (at t .loop .inv), start t .pre .3 .as-many)
+  place = let t = turn areaed in omega (arith, member-there, added-length (at t .loop .inv), start t .pre .5 .as-many)
 
 -- the offset of amounts[member]
 mul-amounts : tie.Need-mul-amounts Inv-loop μ-loop
@@ -149,7 +153,7 @@ same-length c = added-length (c .before .loop .inv)
 returns : tie.Need-returns Inv-loop μ-loop
 returns c =
     let begun = c .before .before .before in
-    amounts-are (begun .pre .0 .kept .hour-kept) (c .before .loop .inv) (omega (arith, head-records (begun .pre .0)))
+    amounts-are (begun .pre .0 .hour-kept) (c .before .loop .inv) (omega (arith, begun .pre .1))
 
 pub put-amounts-spec : {M : Type 1} → statement M
 put-amounts-spec =
@@ -161,7 +165,7 @@ put-amounts-spec =
     member-of-requires
     area-of-requires
     mul-grains
-    element-copy-out-grains
+    array-copy-out-grains
     mul-grains-2
     shared-slice-copy-out-grains
     grains-requires

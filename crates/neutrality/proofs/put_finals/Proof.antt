@@ -1,8 +1,9 @@
--- `neutrality::put_finals` meets its contract: there is room for 32 demands and sizes.
+-- `neutrality::put_finals` meets its contract: there is room for 32 members.
 use mathlib.Core.Path.{sym}
 use Prim.Native.Nat.{ℕ, _≤_}
 use native.Mathlib.Omega.{arith}
 use lib.Seq.{length-take-le}
+use borrow.Author.Needs.{needs}
 use Rattle.hour.proofs.Figures.{head-members, head-records}
 use Rattle.neutrality.proofs.Places.{empty}
 use Rattle.neutrality.proofs.put_finals.Statement.{statement}
@@ -12,43 +13,27 @@ use Rattle.neutrality.proofs.put_finals.Tie as tie
 few : (c : tie.Start) → c .args .head .members ≤ 32
 few c = omega (arith, head-members (c .pre .0), c .pre .0 .kept .hour-kept .members-most)
 
--- &mut demands[..n]
-array-borrow-prefix-demands : tie.Need-array-borrow-prefix-demands
-array-borrow-prefix-demands c = few (c .before)
+-- &mut room[..n]
+array-borrow-prefix-room : tie.Need-array-borrow-prefix-room
+array-borrow-prefix-room c = few (c .before)
 
--- the length of &mut demands[..n]
+-- the length of &mut room[..n]
 slice-aggregate-share-out : tie.Need-slice-aggregate-share-out
 slice-aggregate-share-out c = sym (length-take-le _ _ (few (c .before .before)))
 
--- &mut sizes[..n]
-array-borrow-prefix-sizes : tie.Need-array-borrow-prefix-sizes
-array-borrow-prefix-sizes c = few (c .before .before)
-
--- the length of &mut sizes[..n]
-slice-aggregate-share-out-2 : tie.Need-slice-aggregate-share-out-2
-slice-aggregate-share-out-2 c = sym (length-take-le _ _ (few (c .before .before .before)))
-
 share-out-requires : tie.Need-share-out-requires
 share-out-requires c κs =
-    let start = c .before .before .before .before in
+    let start = c .before .before .before in
     let room = empty {A = ℕ} 0 (head-members (start .pre .0)) (few start) in
-    (start .pre .1, head-records (start .pre .0), room, room .as-many, start .pre .2)
+    (start .pre .1, head-records (start .pre .0), room, start .pre .2)
 
 -- finals: &mut [i64]
 same-length : tie.Need-same-length
-same-length c = c .before .before .before .share-out .kept .1 .1 .1 .1 .1 .0
+same-length c = search needs
 
 returns : tie.Need-returns
-returns c = c .before .before .before .share-out .ensures
+returns c = search needs
 
 pub put-finals-spec : {M : Type 1} → statement M
 put-finals-spec =
-    tie.close
-    (tie.spec
-    array-borrow-prefix-demands
-    slice-aggregate-share-out
-    array-borrow-prefix-sizes
-    slice-aggregate-share-out-2
-    share-out-requires
-    same-length
-    returns)
+    tie.close (tie.spec array-borrow-prefix-room slice-aggregate-share-out share-out-requires same-length returns)

@@ -3,7 +3,7 @@ use mathlib.Core.Path.{_≡_, _∙_, ap}
 use mathlib.Core.List.{List}
 use Prim.Native.Nat.{ℕ}
 use lib.IntN.{natAbs}
-use borrow.Author.Needs.{sfits-of}
+use borrow.Author.Needs.{needs, sfits-of}
 use Rattle.whole.proofs.Machine.{back, read-back}
 use Rattle.rules.specs.Record.{Hour}
 use Rattle.rules.specs.Neutrality.{neutrality}
@@ -14,24 +14,24 @@ use Rattle.neutrality.proofs.share_out.Statement.{statement}
 use Rattle.neutrality.proofs.share_out.Tie as tie
 
 sum-of-requires : tie.Need-sum-of-requires
-sum-of-requires c κs = let pre = c .before .before .before .pre in (pre .0, pre .3)
+sum-of-requires c κs = let pre = c .before .before .pre in (pre .0, pre .2 .as-many)
 
 put-demands-requires : tie.Need-put-demands-requires
-put-demands-requires c κs = let pre = c .before .before .before .before .before .pre in (pre .0 .kept, pre .1, pre .2)
+put-demands-requires c κs = let pre = c .before .before .before .before .pre in (pre .0 .kept, pre .1, pre .2)
 
 size-of-requires : tie.Need-size-of-requires
 size-of-requires c κs = tt
 
 -- N is added up and the demands are put, as it is seen where the engine is to be called
-module _ (c : tie.After-shares-arg2) where
+module _ (c : tie.After-size-of) where
   abbrev demanded : tie.After-put-demands
-  demanded = c .before .before .before .before .before
+  demanded = c .before .before .before .before
 
   abbrev summed : tie.After-sum-of
   summed = demanded .before .before
 
   abbrev start : tie.Start
-  start = summed .before .before .before .before
+  start = summed .before .before .before
 
   abbrev h : Hour
   h = hourIn (start .args .file .now)
@@ -42,49 +42,40 @@ module _ (c : tie.After-shares-arg2) where
   all-is : back (summed .sum-of .result) ≡ neutrality h
   all-is = read-back (sfits-of (summed .sum-of .ok)) ∙ summed .sum-of .ensures
 
-  size-is : c .before .size-of .result ≡ natAbs (neutrality h)
-  size-is = c .before .size-of .ensures ∙ ap natAbs all-is
+  size-is : c .size-of .result ≡ natAbs (neutrality h)
+  size-is = c .size-of .ensures ∙ ap natAbs all-is
 
-  asked : Asked h (start .args .demands .now) put (start .args .sizes .now)
+  asked : Asked h (start .args .room .now) put
   asked = record {
     kept = start .pre .0 .kept .hour-kept;
-    demands-room = start .pre .2 .as-many;
-    sizes-room = start .pre .3;
+    room = start .pre .2 .as-many;
     put = demanded .put-demands .ensures;
   }
 
-shares-requires : tie.Need-shares-requires
-shares-requires c κs = rw (size-is c) (shareable (asked c))
+share-in-place-requires : tie.Need-share-in-place-requires
+share-in-place-requires c κs = rw (size-is c) (shareable (asked c))
 
 -- the engine has answered
-module _ (c : tie.After-shares) where
-  abbrev asking : tie.After-shares-arg2
+module _ (c : tie.After-share-in-place) where
+  abbrev asking : tie.After-size-of
   asking = c .before
 
-  shared : c .shares .last .1 .1 .0 ≡ sharesIn (put asking) (natAbs (neutrality (h asking))) (start asking .args .sizes .now)
-  shared = c .shares .ensures ∙ ap (λ u. sharesIn (put asking) u (start asking .args .sizes .now)) (size-is asking)
+  shared : c .share-in-place .last .0 ≡ sharesIn (put asking) (natAbs (neutrality (h asking))) (put asking)
+  shared = c .share-in-place .ensures ∙ ap (λ u. sharesIn (put asking) u (put asking)) (size-is asking)
 
 take-off-requires : tie.Need-take-off-requires
 take-off-requires c κs =
     let answered = c .before .before .before .before in
     let pre = start (answered .before) .pre in
-    (pre .0, sized (asked (answered .before)) (all-is (answered .before)) (shared answered), pre .4)
+    (pre .0, sized (asked (answered .before)) (all-is (answered .before)) (shared answered), pre .3)
 
--- the engine's answer, as it is seen at the end
-abbrev engine : tie.After-take-off → tie.After-shares
-engine c = c .before .before .before .before .before
-
--- demands: &mut [u64]
+-- room: &mut [u64]
 same-length : tie.Need-same-length
-same-length c = demanded (engine (c .before) .before) .put-demands .kept .1 .1 .0
-
--- sizes: &mut [u64]
-same-length-2 : tie.Need-same-length-2
-same-length-2 c = engine (c .before) .shares .kept .1 .1 .0
+same-length c = search needs
 
 -- finals: &mut [i64]
-same-length-3 : tie.Need-same-length-3
-same-length-3 c = c .before .take-off .kept .1 .1 .1 .1 .0
+same-length-2 : tie.Need-same-length-2
+same-length-2 c = search needs
 
 returns : tie.Need-returns
 returns c = c .before .take-off .ensures
@@ -96,9 +87,8 @@ share-out-spec =
     sum-of-requires
     put-demands-requires
     size-of-requires
-    shares-requires
+    share-in-place-requires
     take-off-requires
     same-length
     same-length-2
-    same-length-3
     returns)
