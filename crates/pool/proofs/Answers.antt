@@ -36,7 +36,6 @@ use Rattle.rules.proofs.Posting.{lines-are}
 use Rattle.hour.specs.declared.Head.{Head}
 use Rattle.hour.specs.Hour.{hourIn, Headed}
 use Rattle.hour.proofs.Figures.{head-members, head-records}
-use Rattle.byrecord.specs.Shared.{Sharing}
 use Rattle.lines.specs.Lined.{AllWorked}
 use Rattle.neutrality.specs.Charged.{Charged}
 use Rattle.lines.proofs.Worked.{all-worked}
@@ -143,8 +142,8 @@ module _ (s : List ℕ) (b : Buffers) where
       pub room : Room h b
       room = buffers-room h b (settle-whole s b hour-accepted .1)
 
-      pub can-share : Sharing s (r .ufe) (b .shares)
-      can-share = record { kept = kept; figures-of = said .ufe-is ∙ settle-fills s b hour-accepted .1; room = room .shares-room }
+      pub can-share : (r .ufe ≡ ufeFigures h) × (h .count ≤ length (b .shares))
+      can-share = (said .ufe-is ∙ settle-fills s b hour-accepted .1, room .shares-room)
 
       -- deviations and shares are put
       module _ {deviations shares : List ℤ}

@@ -2,11 +2,15 @@
 // Structs are moved here, not computed with: the sums are worked by value in `formula`.
 ghost use mathlib.Core.Path.{_≡_};
 ghost use mathlib.Core.Bool.{_||_};
+ghost use Prim.Native.Nat.{_≤_};
 ghost use lib.Dec.{ltb};
+ghost use lib.ListN.{length};
+ghost use Rattle.whole.specs.Below.{replacingFirst};
 ghost use Rattle.rules.specs.Settling as Settling;
+ghost use Rattle.rules.specs.Charge.{shareOf};
 ghost use Rattle.rules.specs.Promises.{Fits};
 ghost use Rattle.rules.specs.Refusals.{accepted, verdict, fileRows};
-ghost use Rattle.hour.specs.Hour.{Headed};
+ghost use Rattle.hour.specs.Hour.{hourIn, Headed};
 ghost use Rattle.pool.specs.Buffers.{buffers};
 ghost use Rattle.pool.specs.AsSettled.{AsSettled};
 ghost use Rattle.pool.specs.Unlined.{unlined, FitsUnlined};
@@ -80,6 +84,18 @@ fn answered(
     }
 }
 
+// Each record's share, with a room of settling's own lent: a place for each record that an hour can have.
+fn put_shares(file: &[u8], head: Head, figures: [i64; 8], shares: &mut [i64])
+    requires { ⌜ Headed (now file) head × (figures ≡ Settling.ufeFigures (hourIn (now file)))
+        × (hourIn (now file) .count ≤ length (now shares)) ⌝ }
+    ensures { λ _. ⌜ now (shares .exit)
+        ≡ replacingFirst (shareOf (hourIn (now (file .entry)))) (hourIn (now (file .entry)) .count) (now (shares .entry)) ⌝ }
+{
+    let n = head.records;
+    let mut room = [0u64; 250];
+    byrecord::shares::put_shares(file, head, figures, &mut room[..n], shares);
+}
+
 // Settles an hour file: any bytes, any lengths of buffers. Every check runs before the first store, so that "unchanged" is the absence of
 // code; then each figure is worked once, in the caller's buffers. The head is read once, when rows 1 to 5 are passed.
 pub fn settle(
@@ -114,7 +130,7 @@ pub fn settle(
     };
     byrecord::deviations::put_deviations(file, head, deviations);
     let figures = settled.ufe;
-    byrecord::shares::put_shares(file, head, figures, shares);
+    put_shares(file, head, figures, shares);
     lines::put_lines(file, head, deviations, shares, lines);
     lines::put_charges(lines, head.members, charges);
     neutrality::put_finals(file, head, charges, finals);

@@ -131,7 +131,8 @@ charged c = c .before .before .before
 put-shares-requires : tie.Need-put-shares-requires
 put-shares-requires c κs =
     let t = deviated c .before .before in
-    (with-head t, can-share (bytes t) (rooms t) (said (answer t)) (accepts t))
+    let can = can-share (bytes t) (rooms t) (said (answer t)) (accepts t) in
+    (with-head t, can .0, can .1)
 
 put-lines-requires : tie.Need-put-lines-requires
 put-lines-requires c κs =

@@ -224,7 +224,7 @@ abbrev b24 : Syntax.Body
 b24 = Syntax.assign (Syntax.place 21 List.[]) (Syntax.aggregate (List._∷_ (Syntax.copy (Syntax.place 20 List.[])) (List._∷_ (Syntax.copy (Syntax.place 5 (List._∷_ (Syntax.field 1) List.[]))) List.[])))
 
 abbrev b25 : Syntax.Body
-b25 = Syntax.call "byrecord::shares::put_shares" (List._∷_ (Syntax.copy (Syntax.place 1 List.[])) (List._∷_ (Syntax.copy (Syntax.place 8 List.[])) (List._∷_ (Syntax.copy (Syntax.place 11 List.[])) (List._∷_ (Syntax.copy (Syntax.place 21 List.[])) List.[])))) (Syntax.place 17 List.[])
+b25 = Syntax.call "pool::put_shares" (List._∷_ (Syntax.copy (Syntax.place 1 List.[])) (List._∷_ (Syntax.copy (Syntax.place 8 List.[])) (List._∷_ (Syntax.copy (Syntax.place 11 List.[])) (List._∷_ (Syntax.copy (Syntax.place 21 List.[])) List.[])))) (Syntax.place 17 List.[])
 
 abbrev b26 : Syntax.Body
 b26 = Syntax.assign (Syntax.place 22 List.[]) (Syntax.addrOf (Syntax.place 6 (List._∷_ (Syntax.field 0) (List._∷_ (Syntax.deref (Syntax.tyInt Syntax.w64)) List.[]))))
@@ -1055,7 +1055,7 @@ module _ (claims· : Claims) where
   module _ (Pre· : (κs : Lifetimes.Lfts 6) → Kinds.Dens κs ps → Type 0) (Post· : (κs : Lifetimes.Lfts 6) → (a : Kinds.Dens κs ps) → Kinds.Plain 6 ps r κs) where
     module _ (M : Type 1) where
       abbrev pub Closed : Type 2
-      Closed = (𝓤 : URA.URA M) (H : Wp.Heap 𝓤) (A : Atoms.Atoms 𝓤) (W : Kit.Given 𝓤 H A) (𝓣 : Wp.Tables 𝓤 H) (known0 : Plain.Known 𝓤 H A W 𝓣 1 ps·0 r·0 (claims· .0) (claims· .1) "examine::examine") (known1 : Plain.Known 𝓤 H A W 𝓣 0 ps·1 r·1 (claims· .2) (claims· .3) "answer::refused") (known2 : Plain.Known 𝓤 H A W 𝓣 1 ps·2 r·2 (claims· .4) (claims· .5) "hour::head_of") (known3 : Plain.Known 𝓤 H A W 𝓣 1 ps·3 r·3 (claims· .6) (claims· .7) "pool::answered") (known4 : Plain.Known 𝓤 H A W 𝓣 2 ps·4 r·4 (claims· .8) (claims· .9) "byrecord::deviations::put_deviations") (known5 : Plain.Known 𝓤 H A W 𝓣 2 ps·5 r·5 (claims· .10) (claims· .11) "byrecord::shares::put_shares") (known6 : Plain.Known 𝓤 H A W 𝓣 4 ps·6 r·6 (claims· .12) (claims· .13) "lines::put_lines") (known7 : Plain.Known 𝓤 H A W 𝓣 2 ps·7 r·7 (claims· .14) (claims· .15) "lines::put_charges") (known8 : Plain.Known 𝓤 H A W 𝓣 3 ps·8 r·8 (claims· .16) (claims· .17) "neutrality::put_finals") → Statement.Triple 𝓤 (Wp.WpFn 𝓤 H (𝓣 .C) (𝓣 .Λ) (Function.fnOf 6 ps r xs m hs body)) (Function.plainOf 𝓤 H A 6 ps r Pre· Post·)
+      Closed = (𝓤 : URA.URA M) (H : Wp.Heap 𝓤) (A : Atoms.Atoms 𝓤) (W : Kit.Given 𝓤 H A) (𝓣 : Wp.Tables 𝓤 H) (known0 : Plain.Known 𝓤 H A W 𝓣 1 ps·0 r·0 (claims· .0) (claims· .1) "examine::examine") (known1 : Plain.Known 𝓤 H A W 𝓣 0 ps·1 r·1 (claims· .2) (claims· .3) "answer::refused") (known2 : Plain.Known 𝓤 H A W 𝓣 1 ps·2 r·2 (claims· .4) (claims· .5) "hour::head_of") (known3 : Plain.Known 𝓤 H A W 𝓣 1 ps·3 r·3 (claims· .6) (claims· .7) "pool::answered") (known4 : Plain.Known 𝓤 H A W 𝓣 2 ps·4 r·4 (claims· .8) (claims· .9) "byrecord::deviations::put_deviations") (known5 : Plain.Known 𝓤 H A W 𝓣 2 ps·5 r·5 (claims· .10) (claims· .11) "pool::put_shares") (known6 : Plain.Known 𝓤 H A W 𝓣 4 ps·6 r·6 (claims· .12) (claims· .13) "lines::put_lines") (known7 : Plain.Known 𝓤 H A W 𝓣 2 ps·7 r·7 (claims· .14) (claims· .15) "lines::put_charges") (known8 : Plain.Known 𝓤 H A W 𝓣 3 ps·8 r·8 (claims· .16) (claims· .17) "neutrality::put_finals") → Statement.Triple 𝓤 (Wp.WpFn 𝓤 H (𝓣 .C) (𝓣 .Λ) (Function.fnOf 6 ps r xs m hs body)) (Function.plainOf 𝓤 H A 6 ps r Pre· Post·)
 
     module _ where
       abbrev at0 : (bs : List.List Nat.ℕ) → Typed.TF T6 O1
@@ -1384,7 +1384,7 @@ module _ (claims· : Claims) where
 
       module _ {M : Type 1} (𝓤 : URA.URA M) (H : Wp.Heap 𝓤) (A : Atoms.Atoms 𝓤) (W : Kit.Given 𝓤 H A) (𝓣 : Wp.Tables 𝓤 H) where
         abbrev Knowns : Type 1
-        Knowns = Plain.Known 𝓤 H A W 𝓣 1 ps·0 r·0 (claims· .0) (claims· .1) "examine::examine" × Plain.Known 𝓤 H A W 𝓣 0 ps·1 r·1 (claims· .2) (claims· .3) "answer::refused" × Plain.Known 𝓤 H A W 𝓣 1 ps·2 r·2 (claims· .4) (claims· .5) "hour::head_of" × Plain.Known 𝓤 H A W 𝓣 1 ps·3 r·3 (claims· .6) (claims· .7) "pool::answered" × Plain.Known 𝓤 H A W 𝓣 2 ps·4 r·4 (claims· .8) (claims· .9) "byrecord::deviations::put_deviations" × Plain.Known 𝓤 H A W 𝓣 2 ps·5 r·5 (claims· .10) (claims· .11) "byrecord::shares::put_shares" × Plain.Known 𝓤 H A W 𝓣 4 ps·6 r·6 (claims· .12) (claims· .13) "lines::put_lines" × Plain.Known 𝓤 H A W 𝓣 2 ps·7 r·7 (claims· .14) (claims· .15) "lines::put_charges" × Plain.Known 𝓤 H A W 𝓣 3 ps·8 r·8 (claims· .16) (claims· .17) "neutrality::put_finals"
+        Knowns = Plain.Known 𝓤 H A W 𝓣 1 ps·0 r·0 (claims· .0) (claims· .1) "examine::examine" × Plain.Known 𝓤 H A W 𝓣 0 ps·1 r·1 (claims· .2) (claims· .3) "answer::refused" × Plain.Known 𝓤 H A W 𝓣 1 ps·2 r·2 (claims· .4) (claims· .5) "hour::head_of" × Plain.Known 𝓤 H A W 𝓣 1 ps·3 r·3 (claims· .6) (claims· .7) "pool::answered" × Plain.Known 𝓤 H A W 𝓣 2 ps·4 r·4 (claims· .8) (claims· .9) "byrecord::deviations::put_deviations" × Plain.Known 𝓤 H A W 𝓣 2 ps·5 r·5 (claims· .10) (claims· .11) "pool::put_shares" × Plain.Known 𝓤 H A W 𝓣 4 ps·6 r·6 (claims· .12) (claims· .13) "lines::put_lines" × Plain.Known 𝓤 H A W 𝓣 2 ps·7 r·7 (claims· .14) (claims· .15) "lines::put_charges" × Plain.Known 𝓤 H A W 𝓣 3 ps·8 r·8 (claims· .16) (claims· .17) "neutrality::put_finals"
 
       module _ (κs : Lifetimes.Lfts 6) (qs : Lifetimes.Shares 6) where
         abbrev g21 : List.List Row.Entry
@@ -1983,7 +1983,7 @@ module _ (claims· : Claims) where
           d76 = Typed.g-pre 𝓤 H A W 𝓣 E G41 G42 b62 Δ0 (Typed.pass T41 T42 (s38 bs)) (at75 bs) (Scalar.g-room 𝓤 H A W E G41 11 (Syntax.tyArray (Syntax.tyInt Syntax.w64) 8) (Init.room-arr 𝓤 H A W (DenSigned.SInt Syntax.w64) 8 0 8 Path'.refl)) d75
 
           d77 : Typed.Typed 𝓤 H A 𝓣 E G40 b63 Δ0 (at77 bs)
-          d77 = Typed.s-seq 𝓤 H A W 𝓣 E G40 G41 b25 b62 Δ0 (Typed.both (s37 bs)) (at76 bs) (Plain.t-call-plain 𝓤 H A W 𝓣 2 ps·5 r·5 (claims· .10) (claims· .11) "byrecord::shares::put_shares" (known .5) E (λ pos β. β) G40 (record { pos = 1; ty = Syntax.tyRef (Syntax.named 0) Syntax.imm (Syntax.tyInt Syntax.w8); ref = λ x. x }, (record { pos = 8; st = List.[]; d = 0; at = λ x. x }, (record { pos = 11; st = List.[]; d = 0; at = λ x. x }, (record { pos = 21; ty = Syntax.tyRef Syntax.erased Syntax.mut (Syntax.tyInt Syntax.w64); ref = λ x. x }, tt)))) 17 (List._∷_ 0 (List._∷_ 7 List.[])) (Call.sub-id 𝓤 H A W (G40 .slots)) (ShrSlice.spares-sslice 𝓤 H A W (Referent.rtF (Referent.fInt Syntax.w8)) (Syntax.tyRef (Syntax.named 0) Syntax.imm (Syntax.tyInt Syntax.w8)) 0, Shared.reads-sslice 𝓤 H A W (Referent.rtF (Referent.fInt Syntax.w8)) (Syntax.tyRef (Syntax.named 0) Syntax.imm (Syntax.tyInt Syntax.w8)) 0, Path'.refl, ((Yields.yields-copy 𝓤 H A W (λ ρ. Unit) (Declared'.row Head.the-type) Path'.refl (Copies.cStruct Head.the-type Laws.the-laws Laws.the-copy .copy 𝓤 H A W) (Rows'.whole (Declared'.row Head.the-type)) (λ x. x) (λ x. x) (λ ρ told. Local.mem-whole 𝓤 H A W (Declared'.row Head.the-type) ρ) λ ρ told. Local.whole-mem 𝓤 H A W (Declared'.row Head.the-type) ρ, Path'.refl), ((Array.arr-yields 𝓤 H A W (Array.eSInt Syntax.w64) (Array.eSInt-laws Syntax.w64) 8, Path'.refl), (Reads'.as-is 𝓤 H A (Mut.mslice (DenSigned.SInt Syntax.w64) (Syntax.tyRef Syntax.erased Syntax.mut (Syntax.tyInt Syntax.w64)) 7), Mut.reads-mslice 𝓤 H A W (DenSigned.SInt Syntax.w64) (Syntax.tyRef Syntax.erased Syntax.mut (Syntax.tyInt Syntax.w64)) 7, Path'.refl, tt)))) (Reads'.room-gone 𝓤 H A Syntax.tyUnit) (tt, (tt, tt)) Path'.refl) d76
+          d77 = Typed.s-seq 𝓤 H A W 𝓣 E G40 G41 b25 b62 Δ0 (Typed.both (s37 bs)) (at76 bs) (Plain.t-call-plain 𝓤 H A W 𝓣 2 ps·5 r·5 (claims· .10) (claims· .11) "pool::put_shares" (known .5) E (λ pos β. β) G40 (record { pos = 1; ty = Syntax.tyRef (Syntax.named 0) Syntax.imm (Syntax.tyInt Syntax.w8); ref = λ x. x }, (record { pos = 8; st = List.[]; d = 0; at = λ x. x }, (record { pos = 11; st = List.[]; d = 0; at = λ x. x }, (record { pos = 21; ty = Syntax.tyRef Syntax.erased Syntax.mut (Syntax.tyInt Syntax.w64); ref = λ x. x }, tt)))) 17 (List._∷_ 0 (List._∷_ 7 List.[])) (Call.sub-id 𝓤 H A W (G40 .slots)) (ShrSlice.spares-sslice 𝓤 H A W (Referent.rtF (Referent.fInt Syntax.w8)) (Syntax.tyRef (Syntax.named 0) Syntax.imm (Syntax.tyInt Syntax.w8)) 0, Shared.reads-sslice 𝓤 H A W (Referent.rtF (Referent.fInt Syntax.w8)) (Syntax.tyRef (Syntax.named 0) Syntax.imm (Syntax.tyInt Syntax.w8)) 0, Path'.refl, ((Yields.yields-copy 𝓤 H A W (λ ρ. Unit) (Declared'.row Head.the-type) Path'.refl (Copies.cStruct Head.the-type Laws.the-laws Laws.the-copy .copy 𝓤 H A W) (Rows'.whole (Declared'.row Head.the-type)) (λ x. x) (λ x. x) (λ ρ told. Local.mem-whole 𝓤 H A W (Declared'.row Head.the-type) ρ) λ ρ told. Local.whole-mem 𝓤 H A W (Declared'.row Head.the-type) ρ, Path'.refl), ((Array.arr-yields 𝓤 H A W (Array.eSInt Syntax.w64) (Array.eSInt-laws Syntax.w64) 8, Path'.refl), (Reads'.as-is 𝓤 H A (Mut.mslice (DenSigned.SInt Syntax.w64) (Syntax.tyRef Syntax.erased Syntax.mut (Syntax.tyInt Syntax.w64)) 7), Mut.reads-mslice 𝓤 H A W (DenSigned.SInt Syntax.w64) (Syntax.tyRef Syntax.erased Syntax.mut (Syntax.tyInt Syntax.w64)) 7, Path'.refl, tt)))) (Reads'.room-gone 𝓤 H A Syntax.tyUnit) (tt, (tt, tt)) Path'.refl) d76
 
           d78 : Typed.Typed 𝓤 H A 𝓣 E G39 b64 Δ0 (at78 bs)
           d78 = Typed.s-seq 𝓤 H A W 𝓣 E G39 G40 b24 b63 Δ0 (Typed.ask (s36 bs)) (at77 bs) (Relend.t-sl-aggregate 𝓤 H A W E (DenSigned.SInt Syntax.w64) 𝓣 (Relend.asMut (DenSigned.SInt Syntax.w64)) G39 20 21 7 (Syntax.tyRef Syntax.erased Syntax.mut (Syntax.tyInt Syntax.w64)) (Syntax.tyRef Syntax.erased Syntax.mut (Syntax.tyInt Syntax.w64)) (λ x. x) (Scalar.oFld 5 (List._∷_ (Syntax.field 1) List.[]) (Syntax.tyInt Syntax.w64) 8 λ v. Shared.lenV (v .0)) (Reads'.as-is 𝓤 H A (Relend.msptr (DenSigned.SInt Syntax.w64) (Syntax.tyRef Syntax.erased Syntax.mut (Syntax.tyInt Syntax.w64)) 7)) (Reads'.room-gone 𝓤 H A (Syntax.tyStruct (List._∷_ 38 (List._∷_ 91 (List._∷_ 93 List.[]))) (Syntax.tcons (Syntax.tyRef Syntax.erased Syntax.mut (Syntax.tyInt Syntax.w64)) (Syntax.tcons (Syntax.tyInt Syntax.w64) Syntax.tnil)))) (Relend.reads-owed-len 𝓤 H A W (DenSigned.SInt Syntax.w64) (Syntax.tyRef (Syntax.named 4) Syntax.mut (Syntax.tyInt Syntax.w64)) 4 7 (Row.lease (κs .1 .1 .1 .1 .0) (qs .1 .1 .1 .1 .0)) 8 Path'.refl, Path'.refl) Path'.refl Path'.refl λ b o k. tt) d77
@@ -2692,6 +2692,6 @@ module _ (claims· : Claims) where
           pub asked : (a : Kinds.Dens κs ps) → (good : Kinds.GoodsP κs ps a) → (pre : Pre· κs a) → (bs : List.List Nat.ℕ) → Φ bs (Any.wantQ 6 ps r xs m κs qs a (Post· κs a)) (Function.init 6 ps r xs m κs qs a)
           asked = λ a good pre bs. laid record { κs = κs; args = record { file = a .0; lines = a .1 .0; charges = a .1 .1 .0; finals = a .1 .1 .1 .0; shares = a .1 .1 .1 .1 .0; deviations = a .1 .1 .1 .1 .1 .0 }; blocks = bs; good = good; pre = pre }
 
-        module _ {M : Type 1} (𝓤 : URA.URA M) (H : Wp.Heap 𝓤) (A : Atoms.Atoms 𝓤) (W : Kit.Given 𝓤 H A) (𝓣 : Wp.Tables 𝓤 H) (known0 : Plain.Known 𝓤 H A W 𝓣 1 ps·0 r·0 (claims· .0) (claims· .1) "examine::examine") (known1 : Plain.Known 𝓤 H A W 𝓣 0 ps·1 r·1 (claims· .2) (claims· .3) "answer::refused") (known2 : Plain.Known 𝓤 H A W 𝓣 1 ps·2 r·2 (claims· .4) (claims· .5) "hour::head_of") (known3 : Plain.Known 𝓤 H A W 𝓣 1 ps·3 r·3 (claims· .6) (claims· .7) "pool::answered") (known4 : Plain.Known 𝓤 H A W 𝓣 2 ps·4 r·4 (claims· .8) (claims· .9) "byrecord::deviations::put_deviations") (known5 : Plain.Known 𝓤 H A W 𝓣 2 ps·5 r·5 (claims· .10) (claims· .11) "byrecord::shares::put_shares") (known6 : Plain.Known 𝓤 H A W 𝓣 4 ps·6 r·6 (claims· .12) (claims· .13) "lines::put_lines") (known7 : Plain.Known 𝓤 H A W 𝓣 2 ps·7 r·7 (claims· .14) (claims· .15) "lines::put_charges") (known8 : Plain.Known 𝓤 H A W 𝓣 3 ps·8 r·8 (claims· .16) (claims· .17) "neutrality::put_finals") where
+        module _ {M : Type 1} (𝓤 : URA.URA M) (H : Wp.Heap 𝓤) (A : Atoms.Atoms 𝓤) (W : Kit.Given 𝓤 H A) (𝓣 : Wp.Tables 𝓤 H) (known0 : Plain.Known 𝓤 H A W 𝓣 1 ps·0 r·0 (claims· .0) (claims· .1) "examine::examine") (known1 : Plain.Known 𝓤 H A W 𝓣 0 ps·1 r·1 (claims· .2) (claims· .3) "answer::refused") (known2 : Plain.Known 𝓤 H A W 𝓣 1 ps·2 r·2 (claims· .4) (claims· .5) "hour::head_of") (known3 : Plain.Known 𝓤 H A W 𝓣 1 ps·3 r·3 (claims· .6) (claims· .7) "pool::answered") (known4 : Plain.Known 𝓤 H A W 𝓣 2 ps·4 r·4 (claims· .8) (claims· .9) "byrecord::deviations::put_deviations") (known5 : Plain.Known 𝓤 H A W 𝓣 2 ps·5 r·5 (claims· .10) (claims· .11) "pool::put_shares") (known6 : Plain.Known 𝓤 H A W 𝓣 4 ps·6 r·6 (claims· .12) (claims· .13) "lines::put_lines") (known7 : Plain.Known 𝓤 H A W 𝓣 2 ps·7 r·7 (claims· .14) (claims· .15) "lines::put_charges") (known8 : Plain.Known 𝓤 H A W 𝓣 3 ps·8 r·8 (claims· .16) (claims· .17) "neutrality::put_finals") where
           pub spec : Statement.Triple 𝓤 (Wp.WpFn 𝓤 H (𝓣 .C) (𝓣 .Λ) (Function.fnOf 6 ps r xs m hs body)) (Function.plainOf 𝓤 H A 6 ps r Pre· Post·)
           spec = Plain.t-fn-plain 𝓤 H A W 𝓣 6 ps r xs m hs body (λ κs qs bs. Φ bs) (λ κs qs bs bd. typed κs qs 𝓤 H A W 𝓣 (known0, known1, known2, known3, known4, known5, known6, known7, known8) bs bd) Pre· Post· asked
