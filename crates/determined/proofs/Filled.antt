@@ -1,6 +1,8 @@
 -- Functions that fill a caller's buffers.
 use mathlib.Core.Path.{refl, ap, ap₂}
+use mathlib.Core.List.{List}
 use Prim.Native.Nat.{ℕ}
+use lib.IntN.{ℤ}
 use contract.Lifetimes.{Lfts}
 use denote.Ref.{now}
 use Rattle.amount.proofs.RoundTrips.{one-reading}
@@ -14,6 +16,7 @@ use Rattle.determined.proofs.Laws.{agree, agree-answer}
 use Rattle.amount.proofs.write.Reads as write
 use Rattle.amount.proofs.read.Reads as read
 use Rattle.amount.proofs.decimal.put_digits.Reads as put-digits
+use Rattle.share.proofs.share_in_place.Reads as share-in-place
 use Rattle.share.proofs.shares.Reads as shares
 use Rattle.byrecord.proofs.deviations.put_deviations.Reads as put-deviations
 use Rattle.byrecord.proofs.shares.put_shares.Reads as put-shares
@@ -45,14 +48,17 @@ one-read κs a x y s t p q =
 pub one-put-digits : (κs : Lfts 1) → OneOutcome (put-digits.Post κs) (λ s. now (s .0))
 one-put-digits κs a x y s t p q = (refl, agree p q)
 
+pub one-share-in-place : (κs : Lfts 1) → OneOutcome (share-in-place.Post κs) (λ s. now (s .0))
+one-share-in-place κs a x y s t p q = (refl, agree p q)
+
 pub one-shares : (κs : Lfts 2) → OneOutcome (shares.Post κs) (λ s. now (s .1 .1 .0))
 one-shares κs a x y s t p q = (refl, agree p q)
 
 pub one-put-deviations : (κs : Lfts 2) → OneOutcome (put-deviations.Post κs) (λ s. now (s .1 .1 .0))
 one-put-deviations κs a x y s t p q = (refl, agree p q)
 
-pub one-put-shares : (κs : Lfts 2) → OneOutcome (put-shares.Post κs) (λ s. now (s .1 .1 .1 .0))
-one-put-shares κs a x y s t p q = (refl, agree p q)
+pub one-put-shares : (κs : Lfts 3) → OneOutcome (put-shares.Post κs) {B = List ℕ × List ℤ} (λ s. (now (s .1 .1 .1 .0), now (s .1 .1 .1 .1 .0)))
+one-put-shares κs a x y s t p q = (refl, ap₂ (λ (room : List ℕ) (out : List ℤ). (room, out)) (agree (p .1) (q .1)) (agree (p .0) (q .0)))
 
 pub one-put-lines : (κs : Lfts 4) → OneOutcome (put-lines.Post κs) (λ s. now (s .1 .1 .1 .1 .0))
 one-put-lines κs a x y s t p q = (refl, agree p q)
