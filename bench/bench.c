@@ -1,6 +1,6 @@
 /* bench.c: what the bench counts.
-     bench FOLDER WHAT WHO ROUNDS   WHAT: worst, ordinary, refused (settles that hour of the folder once a round), full (writes that
-                                    hour, taken apart, once a round), write, read (1,000 amounts a round); WHO: rattle (the archive) or
+     bench FOLDER WHAT WHO ROUNDS   WHAT: full (writes that hour of the folder, taken apart, once a round), write, read (1,000 amounts a
+                                    round), or another hour of the folder, which is settled once a round; WHO: rattle (the archive) or
                                     hand. Prints a sum of what was answered, which both have alike
      bench FOLDER WHAT WHO stack    prints how many bytes of stack a round takes */
 #include <stdio.h>

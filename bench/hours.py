@@ -1,12 +1,16 @@
 """Makes the hours that the bench settles and writes:   hours.py FOLDER
 
-worst.hour      250 loads in one area, and 249 units left over: the most that there can be
-ordinary.hour   8 members, 2 zones, 2 areas, 60 records of all kinds
-refused.hour    250 records, the last of which is one past a range: refusal 5 at record 249
-full.hour       250 records of all kinds
+worst.hour            250 loads in one area, and 249 units left over: the most that there can be
+ordinary.hour         8 members, 2 zones, 2 areas, 60 records of all kinds
+refused.hour          250 records, the last of which is one past a range: refusal 5 at record 249
+full.hour             250 records of all kinds
+loads-N-left-U.hour   N loads in one area, the first N of the same 250, and U units left over
+halved.hour           250 loads in one area: for the UFE and for N the bound is halved as often as it can be
 The numbers come from a fixed seed, so that every run takes the same bytes.
 """
 
+import functools
+import itertools
 import random
 import sys
 from pathlib import Path
@@ -14,6 +18,10 @@ from pathlib import Path
 sys.dont_write_bytecode = True
 sys.path.insert(0, str(Path(__file__).resolve().parent.parent / "tests"))
 import hours  # noqa: E402
+import second  # noqa: E402
+
+# Loads and units left over: more loads with half as many units, and more units left of as many loads.
+GROWING = ((25, 12), (50, 25), (100, 50), (150, 75), (200, 100), (250, 125), (250, 0), (250, 1), (250, 25), (250, 225), (250, 249))
 
 
 def some(rng, letter):
@@ -33,18 +41,72 @@ def record(rng, kind, members, areas):
     return hours.record(kind, rng.randrange(members), rng.randrange(areas), **letters)
 
 
-def worst():
-    """Where the UFE is one short of a multiple of the demand T, every remainder is T less the load's own demand, and one unit a load but
-    for one is left. The ties are whole kWh, 10,000 units each, so 10,000 x over = -1 modulo T is solved, for a T that is prime to 10."""
+def remainders(demands, size):
+    total = sum(demands)
+    return [demand * size % total for demand in demands]
+
+
+def units_left(demands, size):
+    """How many units are left after the whole parts."""
+    return sum(remainders(demands, size)) // sum(demands)
+
+
+def halvings(demands, size):
+    """How often the hand's share.c halves until it has the bound."""
+    units, rests = units_left(demands, size), remainders(demands, size)
+    low, high, spare = 0, sum(demands), units
+    for times in itertools.count():
+        if spare == 0 or high - low == 1:
+            return times
+        middle = (low + high) // 2
+        above = sum(rest > middle for rest in rests)
+        if above > units:
+            low = middle
+        else:
+            high, spare = middle, units - above
+
+
+def loads(count, left):
+    """So many loads in one area, and so many units left; these hang on R alone, which is the UFE modulo the demand T. Most R leave about
+    half as many units as there are loads: of some such R the one with the middle number of halvings is taken. For other numbers R is small,
+    or just short of T. The ties are whole kWh, 10,000 units each, so 10,000 x over = R modulo T is solved, for a T that is prime to 10."""
     rng = random.Random(1)
-    records = [record(rng, rng.choice(hours.LOADS), 32, 1) for _ in range(hours.MOST_RECORDS)]
+    records = [record(rng, rng.choice(hours.LOADS), 32, 1) for _ in range(count)]
     for each in records:
         each["A"] += 1
     while sum(each["A"] for each in records) % 2 == 0 or sum(each["A"] for each in records) % 5 == 0:
         records[0]["A"] += 1
-    demand = sum(each["A"] for each in records)
-    over = -pow(10_000, -1, demand) % demand
-    return hours.Hour(1, 32, [4_321], [[0, demand + over, 0]], records)
+    demands = [each["A"] for each in records]
+    total = sum(demands)
+    tried = [rng.randrange(total) for _ in range(500)] + [left, left - count]
+    found = sorted((each for each in tried if units_left(demands, each) == left), key=functools.partial(halvings, demands))
+    over = found[len(found) // 2] * pow(10_000, -1, total) % total or total  # with a UFE of 0 nothing would be shared
+    assert units_left(demands, 10_000 * over) == left
+    return hours.Hour(1, 32, [4_321], [[0, total + over, 0]], records)
+
+
+def worst():
+    """Where the UFE is one short of a multiple of the demand T, every remainder is T less the load's own demand, and one unit a load but
+    for one is left."""
+    return loads(hours.MOST_RECORDS, hours.MOST_RECORDS - 1)
+
+
+def halved():
+    """All demands but one are the largest there can be, so that T is nearly 25,000,000, which can be halved 25 times. As many remainders
+    are equal, and half of the loads get a unit: the bound is one of the equal ones, and the last halving finds it. The price is one at
+    which N takes 25 halvings as well."""
+    records = [hours.record(hours.LOADS[at % 2], at % 32, 0, S=90_000, A=100_000) for at in range(hours.MOST_RECORDS)]
+    records[0]["A"] -= 1
+    demands = [each["A"] for each in records]
+    total = sum(demands)
+    rng = random.Random(4)
+    sizes = (10_000 * (total - rng.randint(0, hours.MOST_TIE)) for _ in itertools.count())
+    size = next(each for each in sizes if units_left(demands, each) == 125 and halvings(demands, each) == 25)
+    for price in itertools.count(4_321):
+        hour = hours.Hour(4, 32, [price], [[0, total - size // 10_000, 0]], records)
+        read = second.read_hour(hour.encode())
+        if halvings(second.member_demands(read), abs(sum(second.work_out(read)["charges"]))) == 25:
+            return hour
 
 
 def ordinary():
@@ -66,8 +128,12 @@ def refused():
 
 
 def main(folder):
-    for make in (worst, ordinary, refused, full):
-        (Path(folder) / f"{make.__name__}.hour").write_bytes(make().encode())
+    made = {make.__name__: make() for make in (worst, ordinary, refused, full, halved)}
+    made.update((f"loads-{count}-left-{left}", loads(count, left)) for count, left in GROWING)
+    for name, hour in made.items():
+        data = hour.encode()
+        assert second.settle(data)[:2] == ((5, 249) if name == "refused" else (0, 0)), name
+        (Path(folder) / f"{name}.hour").write_bytes(data)
 
 
 if __name__ == "__main__":

@@ -664,6 +664,18 @@ HOUR_SLIPS = {
     "an invented record count": ('hour["members"], len(hour["records"]))\n    for', 'hour["members"], 2)\n    for'),
 }
 
+# The shares by a bound of document 02, A4, in hours of equal remainders.
+HOUR_SLIPS.update({
+    "a unit for every remainder at the bound": (
+        "by_remainder[:left]", "[i for i in by_remainder if left and remainders[i] >= remainders[by_remainder[left - 1]]]"),
+    "no unit for a remainder at the bound": (
+        "by_remainder[:left]", "[i for i in by_remainder[:left] if remainders[i] > remainders[by_remainder[left - 1]]]"),
+    "one unit for the remainders at the bound": (
+        "by_remainder[:left]",
+        "[i for at, i in enumerate(by_remainder[:left])"
+        " if remainders[i] > remainders[by_remainder[left - 1]] or at == 0 or remainders[by_remainder[at - 1]] > remainders[i]]"),
+})
+
 # The finals of document 02, A1.
 HOUR_SLIPS.update({
     "share of N added": ("[charge - share for", "[charge + share for"),

@@ -155,6 +155,58 @@ static sneupelaar_settled deviation_by_word_4(ARGUMENTS)
     return settled;
 }
 
+/* Whether two records are loads of one area that took as much: their remainders are equal. */
+static int equal_loads(const uint8_t *one, const uint8_t *other)
+{
+    int loads = (word(one, KIND) == REAL_TIME_LOAD || word(one, KIND) == PROFILE_LOAD)
+        && (word(other, KIND) == REAL_TIME_LOAD || word(other, KIND) == PROFILE_LOAD);
+    return loads && word(one, AREA) == word(other, AREA) && word(one, ACTUAL) == word(other, ACTUAL);
+}
+
+/* Of loads with equal remainders the earlier got a unit and the later didn't: the units at the bound are dealt out otherwise. */
+static sneupelaar_settled dealt_otherwise(void (*deal)(int64_t *earlier, int64_t *later), ARGUMENTS)
+{
+    sneupelaar_settled settled = sneupelaar_settle(PASSED);
+    size_t records = settled.number == 0 ? records_in(file, file_length) : 0;
+    for (size_t later = 1; later < records; later++)
+        for (size_t earlier = 0; earlier < later; earlier++)
+            if (equal_loads(record_at(file, earlier), record_at(file, later)) && shares[earlier] != shares[later])
+                deal(&shares[earlier], &shares[later]);
+    return settled;
+}
+
+static void to_both(int64_t *earlier, int64_t *later)
+{
+    *later = *earlier;
+}
+
+static void to_neither(int64_t *earlier, int64_t *later)
+{
+    *earlier = *later;
+}
+
+static void to_later(int64_t *earlier, int64_t *later)
+{
+    int64_t share = *earlier;
+    *earlier = *later;
+    *later = share;
+}
+
+static sneupelaar_settled unit_to_all_at_bound(ARGUMENTS)
+{
+    return dealt_otherwise(to_both, PASSED);
+}
+
+static sneupelaar_settled unit_to_none_at_bound(ARGUMENTS)
+{
+    return dealt_otherwise(to_neither, PASSED);
+}
+
+static sneupelaar_settled unit_to_later(ARGUMENTS)
+{
+    return dealt_otherwise(to_later, PASSED);
+}
+
 settle_function *spoiled(const char *how)
 {
     static const struct {
@@ -163,7 +215,8 @@ settle_function *spoiled(const char *how)
     } faults[] = { { "place", wrong_place }, { "ufe", wrong_ufe }, { "line", last_line }, { "share", last_share },
         { "deviation", first_deviation }, { "refusal", charge_on_refusal }, { "beside", beside_charges }, { "added", share_added },
         { "kind", real_time_alone }, { "order", twelve_last }, { "actual", import_let_through }, { "losses", losses_by_word_4 },
-        { "deviates", deviation_by_word_4 } };
+        { "deviates", deviation_by_word_4 }, { "all", unit_to_all_at_bound }, { "none", unit_to_none_at_bound },
+        { "later", unit_to_later } };
     for (size_t at = 0; at < sizeof faults / sizeof *faults; at++)
         if (strcmp(how, faults[at].name) == 0)
             return faults[at].settle;

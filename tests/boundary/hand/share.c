@@ -1,37 +1,74 @@
-/* share.c: see share.h. */
+/* share.c: see share.h. Nothing is held of a demand but its share: its remainder is worked out again wherever it is asked for. */
 #include "share.h"
 
-#include "file.h"
+/* What is shared, without its sign, and the demands that it is shared by. */
+typedef struct {
+    uint64_t size, total;
+    const uint32_t *demands;
+    size_t count;
+} sharing;
 
-/* The units left go one each to the largest remainder held, the earlier of equal ones, which is then spent. There are always more
-   remainders above 0 than units left. The largest is found first and its place after: the first loop is then done four at a time. */
-static void hand_out(int64_t left, int32_t *remainders, size_t count, int64_t *sizes)
+/* Who gets one of the units left: whose remainder is above `remainder`, and of those whose remainder it is the first `spare`. */
+typedef struct {
+    uint64_t remainder, spare;
+} bound;
+
+/* A demand times the size, below 10^19: over the total it makes the share's whole part and the remainder. */
+static uint64_t product(const sharing *of, size_t at)
 {
-    for (; left > 0; left--) {
-        int32_t largest = 0;
-        for (size_t at = 0; at < count; at++)
-            largest = remainders[at] > largest ? remainders[at] : largest;
-        size_t best = 0;
-        while (remainders[best] != largest)
-            best++;
-        sizes[best]++;
-        remainders[best] = 0;
+    return of->demands[at] * of->size;
+}
+
+static uint64_t units_left(const sharing *of)
+{
+    uint64_t units = of->size;
+    for (size_t at = 0; at < of->count; at++)
+        units -= product(of, at) / of->total;
+    return units;
+}
+
+static uint64_t count_above(const sharing *of, uint64_t remainder)
+{
+    uint64_t above = 0;
+    for (size_t at = 0; at < of->count; at++)
+        above += product(of, at) % of->total > remainder;
+    return above;
+}
+
+/* By halving. More remainders than units are above `low`: each is below the total, and together they are the total times the units. At
+   most as many are above the bound. It is found where they are as many, or where nothing lies between the two: then more than `spare`
+   equal it. */
+static bound find_bound(const sharing *of, uint64_t units)
+{
+    uint64_t low = 0;
+    bound found = { of->total, units };
+    while (found.spare > 0 && found.remainder - low > 1) {
+        uint64_t middle = low + (found.remainder - low) / 2, above = count_above(of, middle);
+        if (above > units)
+            low = middle;
+        else
+            found = (bound){ middle, units - above };
     }
+    return found;
+}
+
+/* Whether a remainder gets a unit; to be asked of each in its turn. */
+static int gets_unit(uint64_t remainder, bound *found)
+{
+    if (remainder > found->remainder)
+        return 1;
+    if (remainder < found->remainder || found->spare == 0)
+        return 0;
+    found->spare--;
+    return 1;
 }
 
 void share_by_demand(int64_t amount, uint32_t total, const uint32_t *demands, size_t count, int64_t *shares)
 {
-    int32_t remainders[MOST_RECORDS];
-    uint64_t size = amount < 0 ? -(uint64_t)amount : (uint64_t)amount;
-    int64_t left = (int64_t)size;
+    const sharing of = { amount < 0 ? -(uint64_t)amount : (uint64_t)amount, total, demands, count };
+    bound found = find_bound(&of, units_left(&of));
     for (size_t at = 0; at < count; at++) {
-        uint64_t product = demands[at] * size; /* below 10^19 */
-        shares[at] = (int64_t)(product / total);
-        remainders[at] = (int32_t)(product % total);
-        left -= shares[at];
+        int64_t share = (int64_t)(product(&of, at) / total) + gets_unit(product(&of, at) % total, &found);
+        shares[at] = amount < 0 ? -share : share;
     }
-    hand_out(left, remainders, count, shares);
-    if (amount < 0)
-        for (size_t at = 0; at < count; at++)
-            shares[at] = -shares[at];
 }
