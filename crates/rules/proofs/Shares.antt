@@ -12,7 +12,7 @@ use lib.Dec.{ltb, eqb}
 use borrow.Author.Tests.{ltb-true, ltb-false, eqb-false, not-true, not-false, lt-ltb, le-ltb, ne-eqb}
 use Rattle.whole.specs.Below.{oneIf, countBelow, sumBelow}
 use Rattle.whole.proofs.Tests.{split, never, both, and-mono, cond-ext, last-or-below}
-use Rattle.whole.proofs.Sums.{count-ext, count-mono, sum-ext, sum-mono, sum-at, sum-add, sum-mul, sum-one-if, sum-zero}
+use Rattle.whole.proofs.Sums.{count-mono, sum-ext, sum-mono, sum-at, sum-add, sum-mul, sum-one-if, sum-zero}
 use Rattle.whole.proofs.Gathering.{passer-before, same-order, sum-gathered, count-gathered}
 use Rattle.whole.proofs.Rank.{Order, by-key, why-ahead, count-served}
 use Rattle.whole.proofs.Handing.{Handing, handed}
@@ -22,11 +22,11 @@ use Rattle.rules.specs.Promises.{ahead, rankedSize}
 -- ---- the first largest of those that wait
 
 module _ (rem : ℕ → ℕ) (waits : ℕ → Bool) where
-  pub record FirstLargestAt (m b : ℕ) : Type 0 where
-    pub there : b < m
-    pub waiting : waits b ≡ true
-    pub largest : (j : ℕ) → j < m → waits j ≡ true → rem j ≤ rem b
-    pub first : (j : ℕ) → j < b → waits j ≡ true → rem j < rem b
+  record FirstLargestAt (m b : ℕ) : Type 0 where
+    there : b < m
+    waiting : waits b ≡ true
+    largest : (j : ℕ) → j < m → waits j ≡ true → rem j ≤ rem b
+    first : (j : ℕ) → j < b → waits j ≡ true → rem j < rem b
 
   abbrev Chosen : Option ℕ → ℕ → Type 0
   Chosen none m = (j : ℕ) → j < m → waits j ≡ false
@@ -74,27 +74,8 @@ module _ (rem : ℕ → ℕ) (waits : ℕ → Bool) where
   none-waits : (m : ℕ) → firstLargest rem waits m ≡ none → (j : ℕ) → j < m → waits j ≡ false
   none-waits m e = subst (λ (o : Option ℕ). Chosen o m) e (chosen m)
 
-  pub found : (m b : ℕ) → firstLargest rem waits m ≡ some b → FirstLargestAt m b
+  found : (m b : ℕ) → firstLargest rem waits m ≡ some b → FirstLargestAt m b
   found m b e = subst (λ (o : Option ℕ). Chosen o m) e (chosen m)
-
-  -- no other place is so
-  only-one : (m b d : ℕ) → FirstLargestAt m b → FirstLargestAt m d → b ≡ d
-  only-one m b d p q =
-      let x = p .largest d (q .there) (q .waiting) in
-      let y = q .largest b (p .there) (p .waiting) in
-      split (ltb b d)
-      (λ t. let z = q .first b (ltb-true b d t) (p .waiting) in absurd (omega arith))
-      (λ s. let l = ltb-false b d s in split (ltb d b)
-      (λ t. let z = p .first d (ltb-true d b t) (q .waiting) in absurd (omega arith))
-      (λ f. let m = ltb-false d b f in omega arith))
-
-  -- which place is so is which is found
-  pub found-there : (m b : ℕ) → FirstLargestAt m b → firstLargest rem waits m ≡ some b
-  found-there m b p = only (firstLargest rem waits m) (chosen m)
-    where
-      only : (o : Option ℕ) → Chosen o m → o ≡ some b
-      only none c = never (p .waiting) (c b (p .there))
-      only (some d) c = ap some (only-one m d b c p)
 
 -- ---- handing out is by rank
 
@@ -110,10 +91,6 @@ not-ahead : (rem : ℕ → ℕ) (j i : ℕ) → rem j ≤ rem i → (j < i → r
 unfolding ahead
 not-ahead rem j i l m =
     split (ahead rem j i) (λ t. why-ahead rem j i t (λ k. absurd (omega arith)) (λ e k. absurd (let s = m k in omega arith))) (λ f. f)
-
-same-ahead : (rem rem′ : ℕ → ℕ) (j i : ℕ) → rem j ≡ rem′ j → rem i ≡ rem′ i → ahead rem j i ≡ ahead rem′ j i
-unfolding ahead
-same-ahead rem rem′ j i e f = rw (e, f)
 
 module _ (rem : ℕ → ℕ) (takes : ℕ → Bool) (n : ℕ) where
   abbrev has : ℕ → ℕ → Bool
@@ -144,19 +121,6 @@ module _ (rem : ℕ → ℕ) (takes : ℕ → Bool) (n : ℕ) where
 pub handing-is-rank : (rem : ℕ → ℕ) (takes : ℕ → Bool) (n k : ℕ) → k ≤ countBelow takes n → (i : ℕ) → i < n →
     handedOut rem takes n k i ≡ (takes i && ltb (countBelow (λ j. takes j && ahead rem j i) n) k)
 handing-is-rank rem takes n k h i l = handed (in-order rem) (handing rem takes n) k h i l
-
--- So many have one.
-pub handed-count : (rem : ℕ → ℕ) (takes : ℕ → Bool) (n k : ℕ) → k ≤ countBelow takes n → countBelow (handedOut rem takes n k) n ≡ k
-handed-count rem takes n k h = count-ext _ _ n (handing-is-rank rem takes n k h) ∙ count-served (ahead rem) (in-order rem) takes n k h
-
--- Who has one depends on the remainders below n alone.
-pub handed-ext : (rem rem′ : ℕ → ℕ) (takes : ℕ → Bool) (n k : ℕ) → k ≤ countBelow takes n → ((j : ℕ) → j < n → rem j ≡ rem′ j) →
-    (i : ℕ) → i < n → handedOut rem takes n k i ≡ handedOut rem′ takes n k i
-handed-ext rem rem′ takes n k h same i l =
-    handing-is-rank rem takes n k h i l
-    ∙ ap (λ (r : ℕ). takes i && ltb r k)
-    (count-ext _ _ n (λ j m. ap (λ (b : Bool). takes j && b) (same-ahead rem rem′ j i (same j m) (same i l))))
-    ∙ sym (handing-is-rank rem′ takes n k h i l)
 
 -- ---- whole parts, remainders and units left over
 
@@ -236,7 +200,7 @@ module _ (takes : ℕ → Bool) (D : ℕ → ℕ) (n U : ℕ) where
         ∙ ap (λ (x : ℕ). x * T) (sum-one-if (λ j. takes j && ltb 0 (R j)) n))))) some-demand
 
     -- So no taker gets two.
-    pub left-at-most-takers : left ≤ countBelow takes n
+    left-at-most-takers : left ≤ countBelow takes n
     left-at-most-takers = le-trans left-few (count-mono _ _ n (λ j l t. both (takes j) (ltb 0 (R j)) t .0))
 
     handed-by-rank : (i : ℕ) → i < n → handedOut R takes n left i ≡ (takes i && ltb (rank i) left)

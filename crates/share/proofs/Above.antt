@@ -3,7 +3,7 @@
 use mathlib.Core.Path.{_≡_, sym, _∙_, ap}
 use mathlib.Core.Bool.{Bool, true, false, _&&_, _||_}
 use Prim.Native.Nat.{ℕ, _+_, _≤_, _<_}
-use native.Mathlib.Nat.{le-refl, le-trans, add-zero}
+use native.Mathlib.Nat.{le-trans}
 use native.Mathlib.Omega.{arith}
 use lib.Dec.{ltb, eqb}
 use borrow.Author.Tests.{ltb-true, ltb-false, eqb-true, eqb-false, lt-ltb, le-ltb, ne-eqb}
@@ -17,7 +17,9 @@ use Rattle.rules.specs.Promises.{ahead}
 pub nudged : (bound rest : ℕ) (b : Bool) → ltb bound (rest + oneIf b) ≡ (ltb bound rest || (eqb rest bound && b))
 nudged bound rest b = split (ltb bound rest)
     (λ s. rw s (lt-ltb bound (rest + oneIf b) (omega (arith, ltb-true bound rest s))))
-    (λ f. rw f (split (eqb rest bound) (λ s. rw s (at-bound b (eqb-true rest bound s))) (λ g. rw g (below b (omega (arith, ltb-false bound rest f, eqb-false rest bound g))))))
+    (λ f. rw f (split (eqb rest bound)
+    (λ s. rw s (at-bound b (eqb-true rest bound s)))
+    (λ g. rw g (below b (omega (arith, ltb-false bound rest f, eqb-false rest bound g))))))
   where
     at-bound : (b : Bool) → rest ≡ bound → ltb bound (rest + oneIf b) ≡ b
     at-bound true e = lt-ltb bound (rest + 1) (omega arith)
@@ -41,7 +43,7 @@ module _ (rem : ℕ → ℕ) (n : ℕ) where
   abbrev rank : ℕ → ℕ
   rank i = countBelow (λ j. ahead rem j i) n
 
-  pub above-less : (x y : ℕ) → x ≤ y → above y ≤ above x
+  above-less : (x y : ℕ) → x ≤ y → above y ≤ above x
   above-less x y l = count-mono _ _ n (λ j m t. lt-ltb x (rem j) (omega (arith, ltb-true y (rem j) t)))
 
   pub none-above : (x : ℕ) → ((j : ℕ) → rem j < x) → above x ≡ 0
@@ -78,9 +80,9 @@ module _ (rem : ℕ → ℕ) (n : ℕ) where
           (λ g. rw g (le-ltb (rank i) units (le-trans
           (enough (rem i) (omega (arith, ltb-false bound (rem i) f, eqb-false (rem i) bound g))) rank-least)))))
 
-  -- ---- the search: no fewer than the units are above low, no more above high
+  -- ---- where the search may end: as many are above the bound as there are units, or nothing is left between it and a number that no fewer
+  -- are above
 
-  -- as many are above the bound as there are units, or nothing is left between low and the bound
   pub from-exact : (units bound : ℕ) → above bound ≡ units → (x : ℕ) → x < bound → units ≤ above x
   from-exact units bound e x l = omega (arith, above-less x bound (omega arith))
 

@@ -3,7 +3,7 @@
 use mathlib.Core.Path.{_≡_, sym, _∙_, ap, ap₂}
 use mathlib.Core.Bool.{Bool}
 use mathlib.Core.List.{List}
-use Prim.Native.Nat.{ℕ, _+_, _-_, _*_, _/_, _%_, _≤_, _<_}
+use Prim.Native.Nat.{ℕ, _+_, _-_, _*_, _/_, _%_, _<_}
 use native.Mathlib.Nat.{le-refl}
 use native.Mathlib.Omega.{arith}
 use lib.Dec.{ltb, eqb}
@@ -109,7 +109,8 @@ module _ (c : tie.After-one-if-above2 Inv-loop μ-loop) where
       ∙ ap oneIf (nudged (start now .args .bound) (restOf (demands now) (start now .args .size) (i now))
       (ltb (equalBefore (demands now) (start now .args .size) (start now .args .bound) (i now)) (start now .args .spare)))
 
-  whole-here : at (turn now .loop .places) (i now) * start now .args .size / start now .args .t ≡ wholeOf (demands now) (start now .args .size) (i now)
+  whole-here : at (turn now .loop .places) (i now) * start now .args .size / start now .args .t ≡
+      wholeOf (demands now) (start now .args .size) (i now)
   whole-here = ap (λ (x : ℕ). x / start now .args .t) (product-is now) ∙ whole-is (start now .pre) (i now)
 
   size-is : at (turn now .loop .places) (i now) * start now .args .size / start now .args .t + c .one-if-above2 .result ≡

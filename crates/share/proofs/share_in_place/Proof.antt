@@ -1,5 +1,4 @@
 -- `share::share_in_place` meets its contract: nothing where nobody demands anything, else the sizes down to the bound.
-use mathlib.Core.Path.{_≡_}
 use borrow.Author.Needs.{needs}
 use Rattle.share.specs.Steps.{Dividing}
 use Rattle.share.proofs.Shared.{nothing-shared, can-divide, few-left, sizes-are}

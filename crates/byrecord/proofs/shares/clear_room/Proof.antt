@@ -4,7 +4,7 @@ use Prim.Native.Nat.{_-_}
 use native.Mathlib.Nat.{le-refl}
 use native.Mathlib.Omega.{arith}
 use lib.ListN.{length}
-use Rattle.whole.proofs.Filling.{Filled, none-filled, filled-length, place-there, next-filled, first-filled}
+use Rattle.whole.proofs.Filling.{Filled, none-filled, filled-length, next-filled, first-filled}
 use Rattle.byrecord.proofs.shares.clear_room.Statement.{statement}
 use Rattle.byrecord.proofs.shares.clear_room.Tie as tie
 
