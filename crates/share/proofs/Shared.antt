@@ -62,7 +62,7 @@ module _ (places : List ℕ) (n size : ℕ) (l : n ≤ length places) where
   pub shared-first : {sizes : List ℕ} → sizes ≡ sharesIn (take n places) size (take n places) →
       sizes ++ drop n places ≡ sharesIn (take n places) size places
   unfolding replacingFirst
-  shared-first shared = ap₂ (λ (l r : List ℕ). l ++ r)
+  shared-first shared = ap₂ (λ (a b : List ℕ). a ++ b)
       (shared ∙ replacing-all _ (length (take n places)) (take n places) refl)
       (ap (λ (k : ℕ). drop k places) (sym (length-take-le n places l)))
 
@@ -88,6 +88,6 @@ module _ {demands : List ℕ} {size : ℕ} {out copied : List ℕ} (s : Shareabl
       sizes ++ drop (length demands) copied ≡ sharesIn demands size out
   copies-shared shared =
       shared-first copied (length demands) size copies-there shared
-      ∙ ap (λ (l : List ℕ). sharesIn l size copied) copies-are
+      ∙ ap (λ (d : List ℕ). sharesIn d size copied) copies-are
       ∙ ap (sharesIn demands size) put
       ∙ replacing-twice (at demands) _ (length demands) out
