@@ -4,13 +4,15 @@ use mathlib.Core.List.{List}
 use Prim.Native.Nat.{ℕ, _+_, _-_, _*_, _/_, _%_, _≤_, _<_}
 use native.Mathlib.Nat.{div-le-self, mod-lt}
 use native.Mathlib.Omega.{arith}
+use lib.Dec.{ltb}
 use lib.ListN.{length}
-use Rattle.whole.specs.Below.{sumBelow}
-use Rattle.whole.proofs.Sums.{sum-add-one, sum-prefix}
+use Rattle.whole.specs.Below.{oneIf, sumBelow}
+use Rattle.whole.proofs.Sums.{count-most, sum-add-one, sum-prefix}
+use Rattle.whole.proofs.Gathering.{count-add-one}
 use Rattle.rules.specs.Share.{allDemand, wholePart, remainder, unitsLeft}
 use Rattle.rules.proofs.Shares.{whole-parts-and-left}
 use Rattle.share.specs.Shareable.{at, everyone, demanded}
-use Rattle.share.specs.Steps.{Dividing, wholeOf, restOf, leftOf}
+use Rattle.share.specs.Steps.{Dividing, wholeOf, restOf, leftOf, aboveBefore}
 
 pub demanded-is : (demands : List ℕ) → demanded demands ≡ sumBelow (at demands) (length demands)
 unfolding allDemand
@@ -49,3 +51,12 @@ module _ {demands : List ℕ} {size t : ℕ} (d : Dividing demands size t) where
   pub handed-all : (i handed : ℕ) → i ≡ length demands → handed ≡ sumBelow (wholeOf demands size) i → size - handed ≡ leftOf demands size
   unfolding unitsLeft
   handed-all i handed e h = ap (λ (x : ℕ). size - x) (h ∙ ap (sumBelow (wholeOf demands size)) e)
+
+  -- the remainders above a bound, one demand more
+  pub above-more : (bound i count : ℕ) {one : ℕ} → count ≡ aboveBefore demands size bound i →
+      one ≡ oneIf (ltb bound (at demands i * size % t)) → count + one ≡ aboveBefore demands size bound (i + 1)
+  above-more bound i count e o =
+      ap₂ (λ (a b : ℕ). a + b) e (o ∙ ap (λ (x : ℕ). oneIf (ltb bound x)) (rest-is i)) ∙ sym (count-add-one _ i)
+
+  pub above-few : (bound i : ℕ) → aboveBefore demands size bound i ≤ i
+  above-few bound i = count-most _ i

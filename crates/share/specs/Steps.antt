@@ -30,9 +30,18 @@ leftOf demands size = unitsLeft everyone (at demands) (length demands) size
 
 -- ---- the bound down to which the units suffice
 
--- how many remainders are above a bound
+-- how many remainders are above a bound: of the demands before i, and of all
+abbrev pub aboveBefore : List ℕ → ℕ → ℕ → ℕ → ℕ
+aboveBefore demands size bound i = countBelow (λ j. ltb bound (restOf demands size j)) i
+
 abbrev pub countAbove : List ℕ → ℕ → ℕ → ℕ
-countAbove demands size bound = countBelow (λ i. ltb bound (restOf demands size i)) (length demands)
+countAbove demands size bound = aboveBefore demands size bound (length demands)
+
+-- the search: no fewer remainders than units are above low, and no more above high, but for `spare`
+pub record Between (demands : List ℕ) (size units low high spare : ℕ) : Type 0 where
+  pub ordered : low ≤ high
+  pub above-low : units ≤ countAbove demands size low
+  pub above-high : countAbove demands size high + spare ≡ units
 
 -- a unit for every remainder above the bound, and `spare` more; the remainders from the bound on could take them all
 pub record Suffices (demands : List ℕ) (size units bound spare : ℕ) : Type 0 where

@@ -3,12 +3,12 @@
 // Nothing is held for a demand, neither whole part nor remainder: each is worked out again where it is needed, and the sizes come to stand
 // where the demands stood. The units left over go to the largest remainders down to some bound, which is found by bisection.
 ghost use mathlib.Core.Path.{_≡_};
-ghost use Prim.Native.Nat.{_≤_, _<_};
+ghost use Prim.Native.Nat.{_/_, _≤_, _<_};
 ghost use lib.Dec.{ltb, eqb};
 ghost use lib.ListN.{length};
 ghost use Rattle.whole.specs.Below.{oneIf, replacingFirst};
 ghost use Rattle.share.specs.Shareable.{at, demanded, Shareable, sharesIn};
-ghost use Rattle.share.specs.Steps.{Dividing, leftOf, countAbove, Suffices, sizeOf};
+ghost use Rattle.share.specs.Steps.{Dividing, leftOf, countAbove, Between, Suffices, sizeOf};
 
 // ---- the steps
 
@@ -24,20 +24,6 @@ fn total(demands: &[u64]) -> u64
         i += 1;
     }
     sum
-}
-
-// How many units the whole parts leave over.
-fn left_over(demands: &[u64], size: u64, t: u64) -> u64
-    requires { ⌜ Dividing (now demands) size t ⌝ }
-    ensures { λ r. ⌜ r ≡ leftOf (now (demands .entry)) size ⌝ }
-{
-    let mut handed: u64 = 0;
-    let mut i = 0;
-    while i < demands.len() {
-        handed += demands[i] * size / t;
-        i += 1;
-    }
-    size - handed
 }
 
 fn one_if_above(bound: u64, x: u64) -> u64
@@ -56,6 +42,34 @@ fn one_if_equal(x: u64, bound: u64) -> u64
         return 1;
     }
     0
+}
+
+// What the whole parts leave over: how many units, and how many remainders are above half of `t`.
+struct Over {
+    units: u64,
+    above: u64,
+}
+
+// A division gives both, so that the search below has its first count without a pass of its own.
+fn left_over(demands: &[u64], size: u64, t: u64) -> Over
+    requires { ⌜ Dividing (now demands) size t ⌝ }
+    ensures { λ r. ⌜ (r .units ≡ leftOf (now (demands .entry)) size) × (r .above ≡ countAbove (now (demands .entry)) size (t / 2)) ⌝ }
+{
+    let half = t / 2;
+    let mut handed: u64 = 0;
+    let mut above: u64 = 0;
+    let mut i = 0;
+    while i < demands.len() {
+        let product = demands[i] * size;
+        handed += product / t;
+        above += one_if_above(half, product % t);
+        i += 1;
+    }
+    let units = size - handed;
+    Over {
+        units: units,
+        above: above,
+    }
 }
 
 // How many remainders are above `bound`.
@@ -78,15 +92,15 @@ struct Cut {
     spare: u64,
 }
 
-// Down to which remainder the units suffice: at least as many remainders as units are above `low`, at most as many above `high`. It is found
-// as soon as just as many are above `high`, and at the latest where nothing is left between the two.
-fn threshold(demands: &[u64], size: u64, t: u64, units: u64) -> Cut
-    requires { ⌜ Dividing (now demands) size t × (units ≤ countAbove (now demands) size 0) ⌝ }
+// Down to which remainder the units suffice: at least as many remainders as units are above `low`, at most as many above `high`, `spare` less.
+// It is found as soon as just as many are above `high`, and at the latest where nothing is left between the two.
+fn search(demands: &[u64], size: u64, t: u64, units: u64, from: u64, to: u64, left: u64) -> Cut
+    requires { ⌜ Dividing (now demands) size t × (to ≤ t) × Between (now demands) size units from to left ⌝ }
     ensures { λ r. ⌜ Suffices (now (demands .entry)) size units (r .bound) (r .spare) ⌝ }
 {
-    let mut low: u64 = 0;
-    let mut high = t;
-    let mut spare = units;
+    let mut low = from;
+    let mut high = to;
+    let mut spare = left;
     while 0 < spare && 1 < high - low {
         let middle = low + (high - low) / 2;
         let above = count_above(demands, size, t, middle);
@@ -101,6 +115,19 @@ fn threshold(demands: &[u64], size: u64, t: u64, units: u64) -> Cut
         bound: high,
         spare: spare,
     }
+}
+
+// The same over all remainders, of which so many are above half of `t`.
+fn threshold(demands: &[u64], size: u64, t: u64, units: u64, above: u64) -> Cut
+    requires { ⌜ Dividing (now demands) size t × (units ≤ countAbove (now demands) size 0)
+        × (above ≡ countAbove (now demands) size (t / 2)) ⌝ }
+    ensures { λ r. ⌜ Suffices (now (demands .entry)) size units (r .bound) (r .spare) ⌝ }
+{
+    let half = t / 2;
+    if units < above {
+        return search(demands, size, t, units, half, t, units);
+    }
+    search(demands, size, t, units, 0, half, units - above)
 }
 
 // The sizes, where the demands stood. A remainder equal to the bound counts as one more while units are spare for such.
@@ -131,8 +158,8 @@ pub fn share_in_place(places: &mut [u64], size: u64)
     if t == 0 {
         return;
     }
-    let units = left_over(places, size, t);
-    let cut = threshold(places, size, t, units);
+    let over = left_over(places, size, t);
+    let cut = threshold(places, size, t, over.units, over.above);
     put_sizes(places, size, t, cut.bound, cut.spare);
 }
 

@@ -30,7 +30,7 @@ threshold-requires : tie.Need-threshold-requires
 threshold-requires c κs =
     let over = c .before in
     let d = divides (over .before .before) in
-    (d, few-left d (over .left-over .result) (over .left-over .ensures))
+    (d, few-left d (over .left-over .result .units) (over .left-over .ensures .0), over .left-over .ensures .1)
 
 put-sizes-requires : tie.Need-put-sizes-requires
 put-sizes-requires c κs = divides (c .before .before .before .before .before)
@@ -45,7 +45,7 @@ returns-2 c =
     let put = c .before .before in
     let found = put .before .before in
     let over = found .before .before in
-    sizes-are (divides (over .before .before)) (over .left-over .result) (over .left-over .ensures) (found .threshold .ensures)
+    sizes-are (divides (over .before .before)) (over .left-over .result .units) (over .left-over .ensures .0) (found .threshold .ensures)
     (put .put-sizes .ensures)
 
 pub share-in-place-spec : {M : Type 1} → statement M

@@ -1,110 +1,45 @@
--- `share::threshold` meets its contract: no fewer remainders than units are above `low`, and no more above `high`, which move together.
-use mathlib.Core.Path.{_≡_}
-use Prim.Native.Nat.{_+_, _-_, _≤_, _<_}
+-- `share::threshold` meets its contract: half of t is one end of what is to be searched.
 use native.Mathlib.Omega.{arith}
 use lib.ListN.{length}
-use borrow.Author.Tests.{ltb-true, ltb-false}
-use Rattle.share.specs.Steps.{restOf, countAbove}
+use Rattle.share.specs.Steps.{restOf}
 use Rattle.share.proofs.Parts.{rest-below}
-use Rattle.share.proofs.Above.{none-above, from-exact, from-low}
+use Rattle.share.proofs.Above.{none-above}
 use Rattle.share.proofs.threshold.Statement.{statement}
 use Rattle.share.proofs.threshold.Tie as tie
 
-abbrev Inv-loop : tie.InvT-loop
-Inv-loop demands size t units low₀ high₀ spare₀ low high spare =
-    (low < high) × (high ≤ t) × (units ≤ countAbove demands size low) × (countAbove demands size high + spare ≡ units)
-
-abbrev μ-loop : tie.MeasureT-loop
-μ-loop demands size t units low₀ high₀ spare₀ low high spare = high - low
-
--- nothing is above t
-loop-holds : tie.Need-loop-holds Inv-loop μ-loop
-loop-holds c =
-    let start = c .before in
+-- the bound is above half of t: nothing is above t
+search-requires : tie.Need-search-requires
+search-requires c κs =
+    let start = c .before .before in
     let d = start .pre .0 in
     let demands = start .args .demands .now in (
-      d .some,
+      d,
       omega arith,
-      start .pre .1,
-      omega (arith, none-above (restOf demands (start .args .size)) (length demands) (start .args .t) (rest-below d)),
+      record {
+        ordered = omega arith;
+        above-low = omega (arith, start .pre .2);
+        above-high = omega (arith, none-above (restOf demands (start .args .size)) (length demands) (start .args .t) (rest-below d));
+      },
     )
 
--- high - low, in the test
-sub-if1 : tie.Need-sub-if1 Inv-loop μ-loop
-sub-if1 c = omega arith
+returns : tie.Need-returns
+returns c = c .search .ensures
 
--- something is left between the two
-wide : (c : tie.Then1 Inv-loop μ-loop) → 1 < c .before .before .loop .high - c .before .before .loop .low
-wide c = ltb-true 1 (c .before .before .loop .high - c .before .before .loop .low) (c .if1 .taken)
+-- or it is not
+search-requires-2 : tie.Need-search-requires-2
+search-requires-2 c κs =
+    let start = c .before .before in (
+      start .pre .0,
+      omega arith,
+      record {
+        ordered = omega arith;
+        above-low = start .pre .1;
+        above-high = omega (arith, start .pre .2);
+      },
+    )
 
--- high - low
-sub-middle : tie.Need-sub-middle Inv-loop μ-loop
-sub-middle c = omega arith
-
--- low + (high - low) / 2
-add-middle : tie.Need-add-middle Inv-loop μ-loop
-add-middle c = omega (arith, c .before .before .before .before .fits .t)
-
-count-above-requires : tie.Need-count-above-requires Inv-loop μ-loop
-count-above-requires c κs = c .before .before .before .before .pre .0
-
--- too many are above the middle
-loop-less : tie.Need-loop-less Inv-loop μ-loop
-loop-less c = omega (arith, wide (c .before .before))
-
-loop-again : tie.Need-loop-again Inv-loop μ-loop
-loop-again c =
-    let w = wide (c .before .before) in
-    let a = c .before .before .before .before .loop in
-    (omega arith, a .inv .1, omega (arith, c .before .count-above .ensures), a .inv .3)
-
--- they are not
-loop-less-2 : tie.Need-loop-less-2 Inv-loop μ-loop
-loop-less-2 c = omega (arith, wide (c .before .before))
-
-loop-again-2 : tie.Need-loop-again-2 Inv-loop μ-loop
-loop-again-2 c =
-    let w = wide (c .before .before) in
-    let a = c .before .before .before .before .loop in
-    (omega arith, omega arith, a .inv .2, omega (arith, c .before .count-above .ensures))
-
--- nothing is left between `low` and `high`
-returns : tie.Need-returns Inv-loop μ-loop
-returns c =
-    let a = c .before .before .loop in
-    let start = c .before .before .before .before in
-    let demands = start .args .demands .now in
-    record {
-      with-spare = a .inv .3;
-      enough = from-low (restOf demands (start .args .size)) (length demands) (start .args .units) (a .low) (a .high)
-          (omega (arith, ltb-false 1 (a .high - a .low) (c .if1 .left))) (a .inv .2);
-    }
-
--- just as many remainders as units are above `high`
-returns-2 : tie.Need-returns-2 Inv-loop μ-loop
-returns-2 c =
-    let a = c .before .loop in
-    let start = c .before .before .before in
-    let demands = start .args .demands .now in
-    record {
-      with-spare = a .inv .3;
-      enough = from-exact (restOf demands (start .args .size)) (length demands) (start .args .units) (a .high) (omega (arith, a .inv .3));
-    }
+returns-2 : tie.Need-returns-2
+returns-2 c = c .search2 .ensures
 
 pub threshold-spec : {M : Type 1} → statement M
-threshold-spec =
-    tie.close
-    (tie.spec
-    Inv-loop
-    μ-loop
-    loop-holds
-    sub-if1
-    sub-middle
-    add-middle
-    count-above-requires
-    loop-less
-    loop-again
-    loop-less-2
-    loop-again-2
-    returns
-    returns-2)
+threshold-spec = tie.close (tie.spec search-requires returns search-requires-2 returns-2)
