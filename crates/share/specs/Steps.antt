@@ -37,7 +37,7 @@ aboveBefore demands size bound i = countBelow (λ j. ltb bound (restOf demands s
 abbrev pub countAbove : List ℕ → ℕ → ℕ → ℕ
 countAbove demands size bound = aboveBefore demands size bound (length demands)
 
--- the search: no fewer remainders than units are above low, and no more above high, but for `spare`
+-- how far the search is: at least as many remainders as units are above low, and `spare` fewer than units above high
 pub record Between (demands : List ℕ) (size units low high spare : ℕ) : Type 0 where
   pub ordered : low ≤ high
   pub above-low : units ≤ countAbove demands size low

@@ -44,7 +44,7 @@ fn one_if_equal(x: u64, bound: u64) -> u64
     0
 }
 
-// What the whole parts leave over: how many units, and how many remainders are above half of `t`.
+// What the whole parts leave over: so many units, and so many remainders above half of `t`.
 struct Over {
     units: u64,
     above: u64,
@@ -92,7 +92,7 @@ struct Cut {
     spare: u64,
 }
 
-// Down to which remainder the units suffice: at least as many remainders as units are above `low`, at most as many above `high`, `spare` less.
+// Down to which remainder the units suffice. At least as many remainders as units are above `low`, and `spare` fewer than units above `high`.
 // It is found as soon as just as many are above `high`, and at the latest where nothing is left between the two.
 fn search(demands: &[u64], size: u64, t: u64, units: u64, from: u64, to: u64, left: u64) -> Cut
     requires { ⌜ Dividing (now demands) size t × (to ≤ t) × Between (now demands) size units from to left ⌝ }
@@ -117,7 +117,7 @@ fn search(demands: &[u64], size: u64, t: u64, units: u64, from: u64, to: u64, le
     }
 }
 
-// The same over all remainders, of which so many are above half of `t`.
+// The same from 0 to `t`, where `above` remainders are above half of it.
 fn threshold(demands: &[u64], size: u64, t: u64, units: u64, above: u64) -> Cut
     requires { ⌜ Dividing (now demands) size t × (units ≤ countAbove (now demands) size 0)
         × (above ≡ countAbove (now demands) size (t / 2)) ⌝ }
