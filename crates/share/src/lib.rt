@@ -95,7 +95,7 @@ struct Cut {
 // Down to which remainder the units suffice. At least as many remainders as units are above `low`, and `spare` fewer than units above `high`.
 // It is found as soon as just as many are above `high`, and at the latest where nothing is left between the two.
 fn search(demands: &[u64], size: u64, t: u64, units: u64, from: u64, to: u64, left: u64) -> Cut
-    requires { ⌜ Dividing (now demands) size t × (to ≤ t) × Between (now demands) size units from to left ⌝ }
+    requires { ⌜ Dividing (now demands) size t × Between (now demands) size units from to left ⌝ }
     ensures { λ r. ⌜ Suffices (now (demands .entry)) size units (r .bound) (r .spare) ⌝ }
 {
     let mut low = from;

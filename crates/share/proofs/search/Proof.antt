@@ -9,13 +9,13 @@ use Rattle.share.proofs.search.Statement.{statement}
 use Rattle.share.proofs.search.Tie as tie
 
 abbrev Inv-loop : tie.InvT-loop
-Inv-loop demands size t units from to left low₀ high₀ spare₀ low high spare = (high ≤ t) × Between demands size units low high spare
+Inv-loop demands size t units from to left low₀ high₀ spare₀ low high spare = (high ≤ to) × Between demands size units low high spare
 
 abbrev μ-loop : tie.MeasureT-loop
 μ-loop demands size t units from to left low₀ high₀ spare₀ low high spare = high - low
 
 loop-holds : tie.Need-loop-holds Inv-loop μ-loop
-loop-holds c = let pre = c .before .pre in (pre .1, pre .2)
+loop-holds c = (omega arith, c .before .pre .1)
 
 -- high - low, in the test
 sub-if1 : tie.Need-sub-if1 Inv-loop μ-loop
@@ -31,7 +31,7 @@ sub-middle c = omega arith
 
 -- low + (high - low) / 2
 add-middle : tie.Need-add-middle Inv-loop μ-loop
-add-middle c = omega (arith, c .before .before .before .before .fits .t)
+add-middle c = omega (arith, c .before .before .before .before .fits .to)
 
 count-above-requires : tie.Need-count-above-requires Inv-loop μ-loop
 count-above-requires c κs = c .before .before .before .before .pre .0
@@ -88,7 +88,8 @@ returns-2 c =
     let demands = start .args .demands .now in
     record {
       with-spare = a .inv .1 .above-high;
-      enough = from-exact (restOf demands (start .args .size)) (length demands) (start .args .units) (a .high) (omega (arith, a .inv .1 .above-high));
+      enough = from-exact (restOf demands (start .args .size)) (length demands) (start .args .units) (a .high)
+          (omega (arith, a .inv .1 .above-high));
     }
 
 pub search-spec : {M : Type 1} → statement M

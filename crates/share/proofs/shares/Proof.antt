@@ -1,6 +1,5 @@
 -- `share::shares` meets its contract: the demands are copied, and shared where they then stand.
 use mathlib.Core.Path.{sym}
-use lib.ListN.{length}
 use lib.Seq.{length-take-le}
 use borrow.Author.Needs.{needs}
 use Rattle.share.proofs.Shared.{copies-there, copies-shareable, copies-shared}

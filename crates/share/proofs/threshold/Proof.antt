@@ -14,7 +14,6 @@ search-requires c κs =
     let d = start .pre .0 in
     let demands = start .args .demands .now in (
       d,
-      omega arith,
       record {
         ordered = omega arith;
         above-low = omega (arith, start .pre .2);
@@ -30,7 +29,6 @@ search-requires-2 : tie.Need-search-requires-2
 search-requires-2 c κs =
     let start = c .before .before in (
       start .pre .0,
-      omega arith,
       record {
         ordered = omega arith;
         above-low = start .pre .1;
