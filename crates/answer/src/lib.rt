@@ -22,6 +22,7 @@ pub fn number_of(answer: Answer) -> u64
         Answer::NotAnAmount => 10,
         Answer::TooShort => 11,
         Answer::NoDemand => 12,
+        Answer::NoMember => 13,
     }
 }
 
@@ -43,6 +44,7 @@ pub fn place_of(answer: Answer) -> usize
         Answer::NotAnAmount => 0,
         Answer::TooShort => 0,
         Answer::NoDemand => 0,
+        Answer::NoMember => 0,
     }
 }
 

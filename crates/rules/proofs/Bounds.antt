@@ -1,7 +1,7 @@
 -- How large the numbers of an hour that keeps its ranges can be: deviations, UFE, shares, grains, amounts and charges, and every sum
 -- on the way to them. All fit 64 bits, and row 7 is never broken. Document 01, "Units and ranges", "The sums".
 use mathlib.Core.Path.{_≡_, refl}
-use mathlib.Core.Bool.{cond}
+use mathlib.Core.Bool.{Bool, cond, _&&_}
 use mathlib.Core.Option.{none}
 use Prim.Native.Nat.{ℕ, _+_, _*_, _≤_, _<_, zero-le}
 use native.Mathlib.Nat.{le-refl, le-trans}
@@ -65,23 +65,23 @@ module _ {r : Entry} (kept : EntryKept r) where
   scheduled-less-metered : Under (r .S *ℤ r .F -ℤ r .A *ℤ r .H +ℤ r .J *ℤ r .H) 4000000000
   scheduled-less-metered = u-apart (upto-mul S-in F-in) (upto-mul A-in H-in) u+ J-in u* u-upto H-in
 
-  generator-under : Under (generatorDeviation r) 6000000000
+  pub generator-under : Under (generatorDeviation r) 6000000000
   unfolding generatorUnavailable generatorDeviation
   generator-under = let unavailable = minℤ (pos 0) (r .M -ℤ r .A -ℤ (r .O -ℤ r .N)) in rw (
     spread-generator (r .S *ℤ r .F) (r .A) (r .J) (r .H) (unitsPerKWh *ℤ r .N) (unitsPerKWh *ℤ unavailable),
     units-apart (r .N) unavailable,
   ) (scheduled-less-metered u+ units-under (ancillary-under (r .M) (r .A) (r .O) (r .N) M-in A-in O-in N-in))
 
-  load-under : Under (loadDeviation r) 4000000000
+  pub load-under : Under (loadDeviation r) 4000000000
   unfolding loadUnavailable loadDeviation
   load-under = units-under (load-energy-under (r .S) (r .A) (r .J) (r .N) (r .O) S-in A-in J-in N-in O-in)
 
-  import-under : Under (importDeviation r) 5000000000
+  pub import-under : Under (importDeviation r) 5000000000
   unfolding importDeviation
   import-under = rw (spread-import (r .S *ℤ r .F) (r .A) (r .J) (r .H) (unitsPerKWh *ℤ r .N))
       (scheduled-less-metered u+ units-under (u-upto N-in))
 
-  export-under : Under (exportDeviation r) 3000000000
+  pub export-under : Under (exportDeviation r) 3000000000
   unfolding exportDeviation
   export-under = units-under (u-upto S-in u- u-upto A-in u- J-in)
 
@@ -217,20 +217,23 @@ module _ {h : Hour} (kept : HourKept h) where
   pub grains-under : (i : ℕ) → i < h .count → Under (grains h i) 1006000000000000000
   grains-under i l = grains-within i 1000000000000 l (share-under i l)
 
-  grains-own : (i : ℕ) → i < h .count → natAbs (grains h i) ≤ (6000000000 + natAbs (shareOf h i)) * 1000000
-  grains-own i l = le-trans (grains-within i (natAbs (shareOf h i)) l (u-lit (shareOf h i)) .under) (omega arith)
-
-  -- The grains of all records together are at most 2.8×10^18 in size.
-  pub all-grains-most : sumBelow (λ i. natAbs (grains h i)) (h .count) ≤ 2800000000000000000
-  all-grains-most = omega (
+  -- for each record 6×10^9 units and its share, at the largest price
+  allowed-most : sumBelow (λ i. (6000000000 + natAbs (shareOf h i)) * 1000000) (h .count) ≤ 2800000000000000000
+  allowed-most = omega (
     arith,
-    sum-mono _ _ (h .count) grains-own,
     sum-mul (λ i. 6000000000 + natAbs (shareOf h i)) 1000000 (h .count),
     sum-add (λ i. 6000000000) (λ i. natAbs (shareOf h i)) (h .count),
     sum-const 6000000000 (h .count),
     all-shares-most,
     kept .count-most,
   )
+
+  grains-own : (i : ℕ) → i < h .count → natAbs (grains h i) ≤ (6000000000 + natAbs (shareOf h i)) * 1000000
+  grains-own i l = le-trans (grains-within i (natAbs (shareOf h i)) l (u-lit (shareOf h i)) .under) (omega arith)
+
+  -- The grains of all records together are at most 2.8×10^18 in size.
+  pub all-grains-most : sumBelow (λ i. natAbs (grains h i)) (h .count) ≤ 2800000000000000000
+  all-grains-most = le-trans (sum-mono _ _ (h .count) grains-own) allowed-most
 
   -- A running sum of a member's grains is at most 2.8×10^18 in size, and so is its exact amount.
   pub amount-running : (m n : ℕ) → n ≤ h .count →
@@ -242,6 +245,18 @@ module _ {h : Hour} (kept : HourKept h) where
   pub amount-under : (m : ℕ) → Under (amount h m) 2800000000000000000
   unfolding amount
   amount-under m = amount-running m (h .count) (le-refl (h .count))
+
+  -- A running sum over a member's records of some kinds, the price times a figure that is no larger than what it and the share may be.
+  pub priced-running : (m n : ℕ) (kinds : Kind → Bool) (figure : ℕ → ℤ) → n ≤ h .count →
+      ((i : ℕ) → i < h .count → Under (figure i) (6000000000 + natAbs (shareOf h i))) →
+      Under (totalBelow (λ i. cond (eqb (memberOf h i) m && kinds (entryOf h i .kind)) (price h (areaOf h i) *ℤ figure i) (pos 0)) n)
+      2800000000000000000
+  priced-running m n kinds figure l each = u-le
+      (total-within _ (λ i. (6000000000 + natAbs (shareOf h i)) * 1000000) n (λ i j.
+      let there : i < h .count = omega arith in
+      u-cond (eqb (memberOf h i) m && kinds (entryOf h i .kind))
+      (u-le (price-under (areaOf h i) (kept .record-kept i there .area-there) u* each i there) (omega arith))))
+      (le-trans (sum-prefix (λ i. (6000000000 + natAbs (shareOf h i)) * 1000000) n (h .count) l) allowed-most)
 
   -- Row 7 is never broken.
   pub row-7-never : badAmount h ≡ none

@@ -20,6 +20,7 @@ pub mod Bounds
 pub mod Fair
 pub mod Neutral
 pub mod Demands
+pub mod Heads
 pub mod Finals
 pub mod WordBytes
 pub mod FileWords

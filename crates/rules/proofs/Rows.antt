@@ -13,7 +13,7 @@ use borrow.Author.Tests.{eqb-true}
 use Rattle.whole.proofs.Tests.{split, never-some}
 use Rattle.rules.specs.declared.Answer.{Answer}
 use Rattle.rules.specs.declared.Answer.the-variants.{Accepted, BadLength, BadSum, BadBlock, BadHead, BadRecord, BadArea, BadAmount}
-use Rattle.rules.specs.declared.Answer.the-variants.{OutOfRange, TooNarrow, NotAnAmount, TooShort, NoDemand}
+use Rattle.rules.specs.declared.Answer.the-variants.{OutOfRange, TooNarrow, NotAnAmount, TooShort, NoDemand, NoMember}
 use Rattle.rules.specs.Record.{Hour}
 use Rattle.rules.specs.HourFile.{hourly, hourOf}
 use Rattle.rules.specs.Refusals.{Row, row, Verdict, accepted, refusedAt, verdictOf, verdict, placeZeroIf}
@@ -228,7 +228,7 @@ abbrev answerOf : Verdict → Answer
 answerOf v = let p = v .place in
     getD (
     Accepted ∷ BadLength ∷ BadSum p ∷ BadBlock p ∷ BadHead p ∷ BadRecord p ∷ BadArea p ∷ BadAmount p
-    ∷ OutOfRange ∷ TooNarrow ∷ NotAnAmount ∷ TooShort ∷ NoDemand ∷ []) (v .number) Accepted
+    ∷ OutOfRange ∷ TooNarrow ∷ NotAnAmount ∷ TooShort ∷ NoDemand ∷ NoMember ∷ []) (v .number) Accepted
 
 told : (a : Answer) → answerOf (verdictOf a) ≡ a
 told Accepted = refl
@@ -244,6 +244,7 @@ told TooNarrow = refl
 told NotAnAmount = refl
 told TooShort = refl
 told NoDemand = refl
+told NoMember = refl
 
 -- no two answers have the same number and place
 pub one-answer : (a b : Answer) → verdictOf a ≡ verdictOf b → a ≡ b

@@ -162,7 +162,7 @@ entering-parts r Export d s true true e = rw e (simp (+ℤ-idl, +ℤ-idr))
 entering-parts r Unknown d s true true e = refl
 
 -- a record that is no load has no share
-only-loads-share : (h : Hour) (i : ℕ) → cond (isLoad (entryOf h i .kind)) (shareOf h i) (pos 0) ≡ shareOf h i
+pub only-loads-share : (h : Hour) (i : ℕ) → cond (isLoad (entryOf h i .kind)) (shareOf h i) (pos 0) ≡ shareOf h i
 unfolding shareOf
 only-loads-share h i = once (isLoad (entryOf h i .kind)) _
   where

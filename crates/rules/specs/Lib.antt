@@ -12,12 +12,14 @@ pub mod Ranges
 pub mod Refusals
 pub mod Settling
 pub mod Statement
+pub mod Explanation
 pub mod RawHour
 pub mod Tariff
 pub mod Promises
 pub mod Finals
 pub mod Writing
 pub mod Imports
+pub mod Explaining
 pub mod Figures
 pub mod Printed
 pub mod Refused

@@ -1,16 +1,16 @@
 -- The table of refusals: what breaks each row and at which place, and the rows in their order.
--- Document 01, "Refusal numbers and their order"; row 12 is document 02, A1, the rows of the writer are A2.
+-- Document 01, "Refusal numbers and their order"; row 12 is document 02, A1, the rows of the writer are A2, row 13 is A5.
 use Prim.Native.Nat.{ℕ, _/_, _%_}
 use mathlib.Core.Bool.{Bool, true, false, not, cond, _&&_, _||_}
 use mathlib.Core.Option.{Option, none, some, bind}
-use mathlib.Core.List.{List, [], _∷_}
+use mathlib.Core.List.{List, [], _∷_, _++_}
 use lib.IntN.{ℤ, natAbs}
 use lib.ListN.{length, take}
-use lib.Dec.{ltb, eqb}
+use lib.Dec.{ltb, leb, eqb}
 use Rattle.whole.specs.Below.{firstBelow}
 use Rattle.rules.specs.declared.Answer.{Answer}
 use Rattle.rules.specs.declared.Answer.the-variants.{Accepted, BadLength, BadSum, BadBlock, BadHead, BadRecord, BadArea, BadAmount}
-use Rattle.rules.specs.declared.Answer.the-variants.{OutOfRange, TooNarrow, NotAnAmount, TooShort, NoDemand}
+use Rattle.rules.specs.declared.Answer.the-variants.{OutOfRange, TooNarrow, NotAnAmount, TooShort, NoDemand, NoMember}
 use Rattle.rules.specs.Record.{Hour, members, zones, areas}
 use Rattle.rules.specs.Ufe.{ufe, demands}
 use Rattle.rules.specs.Charge.{amount}
@@ -49,6 +49,7 @@ verdictOf TooNarrow = refusedAt 9 0
 verdictOf NotAnAmount = refusedAt 10 0
 verdictOf TooShort = refusedAt 11 0
 verdictOf NoDemand = refusedAt 12 0
+verdictOf NoMember = refusedAt 13 0
 
 abbrev pub numberOf : Answer → ℕ
 numberOf a = verdictOf a .number
@@ -125,6 +126,10 @@ module _ (h : Hour) where
   unfoldable pub noDemand : Option ℕ
   noDemand = placeZeroIf (eqb (hourDemand h) 0 && not (eqb (natAbs (neutrality h)) 0))
 
+  -- 13: the member's number isn't below the member count
+  unfoldable pub noMember : (member : ℕ) → Option ℕ
+  noMember m = placeZeroIf (leb (members h) m)
+
   -- 11: charges, finals or lines shorter than the members, or shares or deviations shorter than the records
   unfoldable pub tooShort : (charges finals lines shares deviations : ℕ) → Option ℕ
   tooShort charges finals lines shares deviations = placeZeroIf (
@@ -174,6 +179,10 @@ hourRows s = take 8 (tableRows s 0 0 0 0 0)
 -- 1 to 5 of them: what a file by itself can break
 unfoldable pub fileRows : List ℕ → List Row
 fileRows s = take 5 (tableRows s 0 0 0 0 0)
+
+-- an explanation checks what settling does, without the buffers' 11, then 13
+unfoldable pub explainRows : List ℕ → (member : ℕ) → List Row
+explainRows s m = hourRows s ++ row 13 (noMember (hourOf hourly s) m) ∷ []
 
 -- the writer of hour files checks 1, then 4 and 5 as the reader, then 11, by the length of the buffer
 unfoldable pub writerRows : (head records : List ℕ) (room : ℕ) → List Row

@@ -66,12 +66,21 @@ pub enum Answer {
     NotAnAmount,
     TooShort,
     NoDemand,
+    NoMember,
 }
 
 // What settling answers beside the buffers it fills: the UFE of each area, 0 past the areas.
 pub struct Settled {
     pub answer: Answer,
     pub ufe: [i64; 8],
+}
+
+// What explaining a member's charge answers: its exact amount under the five heads, in grains, and which head decided, by its place among
+// them. All are 0 and none decided on refusal.
+pub struct Explained {
+    pub answer: Answer,
+    pub heads: [i64; 5],
+    pub decided: Found,
 }
 
 // What writing an hour file answers beside the buffer it fills: the file's length in bytes, 0 on refusal.

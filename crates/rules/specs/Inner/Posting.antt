@@ -1,20 +1,22 @@
--- Records posted in file order, as values: the hour's tally, and the members' lines of which a posting touches one.
--- Document 01, "The sums", "Records are posted in file order".
+-- Records posted in file order, as values: the hour's tally, the members' lines of which a posting touches one, and a member's heads.
+-- Document 01, "The sums", "Records are posted in file order"; document 02, A5.
 use Prim.Native.Nat.{ℕ, zero, suc, _+_}
 use mathlib.Core.Bool.{cond}
 use mathlib.Core.List.{List}
 use lib.IntN.{ℤ, pos, negℤ, _+ℤ_, _-ℤ_, _*ℤ_}
+use lib.Dec.{eqb}
 use lib.ListN.{getD, set, replicate}
 use Rattle.whole.specs.Below.{replacingFirst}
 use Rattle.rules.specs.declared.Kind.{Kind}
 use Rattle.rules.specs.declared.Kind.the-variants.{Generator, RealTimeLoad, ProfileLoad, Import, Export, Unknown}
 use Rattle.rules.specs.declared.Line.{Line}
 use Rattle.rules.specs.declared.Tally.{Tally}
-use Rattle.rules.specs.Record.{Hour, Entry, members, memberOf, areaOf, entryOf, kindOf, isLoad}
+use Rattle.rules.specs.Record.{Hour, Entry, members, price, memberOf, areaOf, entryOf, kindOf, isLoad}
 use Rattle.rules.specs.Deviation.{unitsPerKWh, multiplierOne}
 use Rattle.rules.specs.Ufe.{D}
-use Rattle.rules.specs.Charge.{grains}
+use Rattle.rules.specs.Charge.{entering, shareOf, grains}
 use Rattle.rules.specs.Settling.{emptyLine}
+use Rattle.rules.specs.Explanation.{noHeads, headAt}
 
 -- ---- the tally
 
@@ -68,3 +70,28 @@ module _ (h : Hour) (old : List Line) where
   unfoldable pub linesAfter : ℕ → List Line
   linesAfter zero = replacingFirst (λ m. emptyLine) (members h) old
   linesAfter (suc n) = linesWith (linesAfter n) (memberOf h n) (grains h n)
+
+-- ---- a member's heads
+
+-- where among the five the deviation of a kind stands; an unknown kind enters with nothing
+abbrev pub headPlace : Kind → ℕ
+headPlace Generator = 0
+headPlace RealTimeLoad = 1
+headPlace ProfileLoad = 1
+headPlace Import = 2
+headPlace Export = 3
+headPlace Unknown = 4
+
+unfoldable pub headWith : List ℤ → (k : ℕ) (grains : ℤ) → List ℤ
+headWith hs k g = set hs k (headAt hs k +ℤ g)
+
+-- the grains of a record's deviation as it enters, and of its share
+unfoldable pub headsWith : List ℤ → Kind → (deviation share : ℤ) → List ℤ
+headsWith hs kind d s = headWith (headWith hs (headPlace kind) d) 4 s
+
+module _ (h : Hour) (m : ℕ) where
+  -- the heads once the first n records are posted: of the member's alone
+  unfoldable pub headsAfter : ℕ → List ℤ
+  headsAfter zero = noHeads
+  headsAfter (suc n) = let p = price h (areaOf h n) in let r = entryOf h n in
+      cond (eqb (memberOf h n) m) (headsWith (headsAfter n) (r .kind) (p *ℤ entering r) (p *ℤ shareOf h n)) (headsAfter n)

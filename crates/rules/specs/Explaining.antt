@@ -1,0 +1,64 @@
+-- What is asked of an explanation, as statements about the definitions: the heads are the tariff's and add up to what settling writes into
+-- the member's line, the head named is the one that decided, and the refusals come in their order. Document 02, A5.
+use Prim.Native.Nat.{ℕ, suc, _≤_, _<_}
+use mathlib.Core.Path.{_≡_}
+use mathlib.Core.Logic.{_↔_}
+use mathlib.Core.Bool.{true}
+use mathlib.Core.Option.{Option, none, some}
+use mathlib.Core.List.{List, [], _∷_}
+use lib.IntN.{ℤ, pos, negℤ, natAbs, _*ℤ_}
+use lib.ListN.{length, getD}
+use Rattle.whole.specs.Below.{totalBelow}
+use Rattle.rules.specs.Record.{Hour, members, zones, zonePrice, entryOf, isGenerator, isLoad, isImport, isExport}
+use Rattle.rules.specs.Charge.{shareOf}
+use Rattle.rules.specs.HourFile.{hourly, hourOf}
+use Rattle.rules.specs.Refusals.{accepted, refusedAt, verdict, hourRows, explainRows}
+use Rattle.rules.specs.Settling.{Buffers, settle, emptyLine}
+use Rattle.rules.specs.Explanation.{Explanation, noHeads, headAt, sameSign, explain}
+use Rattle.rules.specs.Tariff.{genDev, loadDev, impDev, expDev, coordinatorSum, UFEC}
+use Rattle.rules.specs.Promises.{Accepts, AllWhole, FirstBrokenRow}
+
+-- the five heads a second way: the terms of a member's IEC, in every zone
+module _ (h : Hour) (m : ℕ) where
+  abbrev pub inEveryZone : (ℕ → ℤ) → ℤ
+  inEveryZone term = totalBelow term (zones h)
+
+  unfoldable pub tariffHeads : List ℤ
+  tariffHeads = let sum = coordinatorSum h (shareOf h) m in let P = zonePrice h in
+      inEveryZone (λ x. sum x isGenerator (λ i. genDev (entryOf h i)) *ℤ P x)
+      ∷ inEveryZone (λ x. negℤ (sum x isLoad (λ i. loadDev (entryOf h i)) *ℤ P x))
+      ∷ inEveryZone (λ x. sum x isImport (λ i. impDev (entryOf h i)) *ℤ P x)
+      ∷ inEveryZone (λ x. negℤ (sum x isExport (λ i. expDev (entryOf h i)) *ℤ P x))
+      ∷ inEveryZone (λ x. UFEC h (shareOf h) m x)
+      ∷ []
+
+-- head k decided on the charge: it has its sign, none with that sign is larger in size, and none before it is as large
+pub record Decides (charge : ℤ) (heads : List ℤ) (k : ℕ) : Type 0 where
+  pub one-of-five : k < 5
+  pub sign-is : sameSign charge (headAt heads k) ≡ true
+  pub largest : (j : ℕ) → j < 5 → sameSign charge (headAt heads j) ≡ true → natAbs (headAt heads j) ≤ natAbs (headAt heads k)
+  pub first : (j : ℕ) → j < k → sameSign charge (headAt heads j) ≡ true → natAbs (headAt heads j) < natAbs (headAt heads k)
+
+-- what is said of a member with this exact amount and this charge
+pub record Explains (h : Hour) (m : ℕ) (amount charge : ℤ) (heads : List ℤ) (decided : Option ℕ) : Type 0 where
+  pub by-formula : heads ≡ tariffHeads h m
+  pub add-up : totalBelow (headAt heads) 5 ≡ amount
+  pub decides : (k : ℕ) → decided ≡ some k → Decides charge heads k
+  -- a charge other than zero always has one, and a charge of zero none
+  pub always-one : (charge ≡ pos 0 → ⊥) → (k : ℕ) × (decided ≡ some k)
+  pub none-for-zero : (decided ≡ none) ↔ (charge ≡ pos 0)
+
+pub record Explaining : Type 0 where
+  pub accepts : (s : List ℕ) (m : ℕ) → (explain s m .verdict ≡ accepted) ↔ AllWhole (explainRows s m)
+  pub refuses : (s : List ℕ) (m n p : ℕ) → (explain s m .verdict ≡ refusedAt (suc n) p) ↔ FirstBrokenRow (explainRows s m) (suc n) p
+  pub nothing-said : (s : List ℕ) (m : ℕ) → (explain s m .verdict ≡ accepted → ⊥) →
+      (explain s m .heads ≡ noHeads) × (explain s m .decided ≡ none)
+  -- an hour that settling accepts, into any buffers, is explained to each of its members, by the line and the charge that settling wrote
+  pub explained : (s : List ℕ) (b : Buffers) (m : ℕ) → Accepts s b → m < members (hourOf hourly s) →
+      (explain s m .verdict ≡ accepted)
+      × Explains (hourOf hourly s) m
+      (getD (settle s b .buffers .lines) m emptyLine .amount) (getD (settle s b .buffers .charges) m (pos 0))
+      (explain s m .heads) (explain s m .decided)
+  -- and to nobody else; 13 comes last
+  pub no-member : (s : List ℕ) (b : Buffers) (m : ℕ) → Accepts s b → members (hourOf hourly s) ≤ m → explain s m .verdict ≡ refusedAt 13 0
+  pub refused-alike : (s : List ℕ) (m : ℕ) → (verdict (hourRows s) ≡ accepted → ⊥) → explain s m .verdict ≡ verdict (hourRows s)
