@@ -8,11 +8,11 @@ use native.Mathlib.Nat.{le-refl, le-trans}
 use native.Mathlib.Omega.{arith}
 use lib.Dec.{eqb}
 use lib.ListN.{length}
-use lib.IntN.{ℤ, pos, negℤ, natAbs, +ℤ-idl, +ℤ-idr, *ℤ-zero, _+ℤ_, _*ℤ_}
+use lib.IntN.{ℤ, pos, negℤ, natAbs, +ℤ-idl, +ℤ-idr, zero-*ℤ, *ℤ-zero, *ℤ-comm, _+ℤ_, _*ℤ_}
 use Rattle.whole.specs.Below.{sumBelow, totalBelow}
 use Rattle.whole.specs.Signed.{Under}
 use Rattle.whole.proofs.Tests.{both, cond-ext}
-use Rattle.whole.proofs.Linear.{zr, all1, all2, all3}
+use Rattle.whole.proofs.Linear.{zr, all2, all3}
 use Rattle.whole.proofs.Ranges.{u-le, u-neg, u-lit, u-zero}
 use Rattle.whole.proofs.Totals.{total-ext, total-add, total-neg, total-times, total-swap, total-pick}
 use Rattle.rules.specs.declared.Kind.{Kind}
@@ -118,22 +118,16 @@ heads-add-up h m = simp +ℤ-idl (simp (← total-add) (total-ext _ _ (h .count)
 
 -- ---- they are the tariff's
 
-none-times : (P : ℤ) → pos 0 *ℤ P ≡ pos 0
-none-times = all1 _ (λ P. simp zr (omega arith))
-
-times-swap : (f P : ℤ) → f *ℤ P ≡ P *ℤ f
-times-swap = all2 _ (λ f P. simp zr (omega arith))
-
 times-neg : (p f : ℤ) → p *ℤ negℤ f ≡ negℤ (p *ℤ f)
 times-neg = all2 _ (λ p f. simp zr (omega arith))
 
 -- a record counts in its own zone alone, at that zone's price
 at-zone : (kind member zone : Bool) (f P : ℤ) →
     cond (kind && member && zone) f (pos 0) *ℤ P ≡ cond zone (cond (member && kind) (P *ℤ f) (pos 0)) (pos 0)
-at-zone kind member false f P = rw (and-false (kind && member)) (none-times P)
-at-zone kind false true f P = rw (and-false kind) (none-times P)
-at-zone false true true f P = none-times P
-at-zone true true true f P = times-swap f P
+at-zone kind member false f P = rw (and-false (kind && member)) (zero-*ℤ P)
+at-zone kind false true f P = rw (and-false kind) (zero-*ℤ P)
+at-zone false true true f P = zero-*ℤ P
+at-zone true true true f P = *ℤ-comm f P
 
 neg-cond : (b : Bool) (p f : ℤ) → cond b (p *ℤ negℤ f) (pos 0) ≡ negℤ (cond b (p *ℤ f) (pos 0))
 neg-cond true p f = times-neg p f

@@ -21,6 +21,7 @@ pub mod Fair
 pub mod Neutral
 pub mod Demands
 pub mod Heads
+pub mod Decided
 pub mod Finals
 pub mod WordBytes
 pub mod FileWords

@@ -22,11 +22,11 @@ use Rattle.rules.specs.Promises.{ahead, rankedSize}
 -- ---- the first largest of those that wait
 
 module _ (rem : ℕ → ℕ) (waits : ℕ → Bool) where
-  record FirstLargestAt (m b : ℕ) : Type 0 where
-    there : b < m
-    waiting : waits b ≡ true
-    largest : (j : ℕ) → j < m → waits j ≡ true → rem j ≤ rem b
-    first : (j : ℕ) → j < b → waits j ≡ true → rem j < rem b
+  pub record FirstLargestAt (m b : ℕ) : Type 0 where
+    pub there : b < m
+    pub waiting : waits b ≡ true
+    pub largest : (j : ℕ) → j < m → waits j ≡ true → rem j ≤ rem b
+    pub first : (j : ℕ) → j < b → waits j ≡ true → rem j < rem b
 
   abbrev Chosen : Option ℕ → ℕ → Type 0
   Chosen none m = (j : ℕ) → j < m → waits j ≡ false
@@ -71,10 +71,10 @@ module _ (rem : ℕ → ℕ) (waits : ℕ → Bool) where
   chosen (suc m) = split (waits m) (λ t. rw t (compared (firstLargest rem waits m) m t (chosen m)))
       (λ f. rw f (passed (firstLargest rem waits m) m f (chosen m)))
 
-  none-waits : (m : ℕ) → firstLargest rem waits m ≡ none → (j : ℕ) → j < m → waits j ≡ false
+  pub none-waits : (m : ℕ) → firstLargest rem waits m ≡ none → (j : ℕ) → j < m → waits j ≡ false
   none-waits m e = subst (λ (o : Option ℕ). Chosen o m) e (chosen m)
 
-  found : (m b : ℕ) → firstLargest rem waits m ≡ some b → FirstLargestAt m b
+  pub found : (m b : ℕ) → firstLargest rem waits m ≡ some b → FirstLargestAt m b
   found m b e = subst (λ (o : Option ℕ). Chosen o m) e (chosen m)
 
 -- ---- handing out is by rank

@@ -1,10 +1,11 @@
 -- Why a member's charge is what it is: its exact amount under five heads, the head that decided, and what the program prints of it, byte for
 -- byte. Document 02, A5.
 use Prim.Native.Nat.{ℕ, suc}
-use mathlib.Core.Bool.{Bool, false, true, cond, _&&_, _||_}
+use mathlib.Core.Bool.{Bool, cond, _&&_, _||_}
 use mathlib.Core.Option.{Option, none, some}
 use mathlib.Core.List.{List, [], _∷_, _++_}
 use lib.IntN.{ℤ, pos, negsuc, negℤ, natAbs, _*ℤ_}
+use lib.Signed.{ltZ}
 use lib.ListN.{length, drop, getD, replicate}
 use lib.Dec.{ltb, eqb}
 use Rattle.whole.specs.Below.{totalBelow}
@@ -46,17 +47,9 @@ headAt hs k = getD hs k (pos 0)
 
 -- ---- the head that decided
 
-abbrev pub aboveZero : ℤ → Bool
-aboveZero (pos n) = ltb 0 n
-aboveZero (negsuc n) = false
-
-abbrev pub belowZero : ℤ → Bool
-belowZero (pos n) = false
-belowZero (negsuc n) = true
-
 -- both above zero, or both below: zero has no sign
 unfoldable pub sameSign : ℤ → ℤ → Bool
-sameSign y z = (aboveZero y && aboveZero z) || (belowZero y && belowZero z)
+sameSign y z = (ltZ (pos 0) y && ltZ (pos 0) z) || (ltZ y (pos 0) && ltZ z (pos 0))
 
 -- of the heads with the charge's sign the largest in size, on a tie the first; a charge of zero has none
 unfoldable pub decidedBy : (charge : ℤ) → List ℤ → Option ℕ
