@@ -78,7 +78,7 @@ buffers-room h b enough =
 -- ---- the figures
 
 module _ (h : Hour) (kept : HourKept h) where
-  zone-there : (i : ℕ) → i < h .count → zoneOf h (areaOf h i) < zones h
+  pub zone-there : (i : ℕ) → i < h .count → zoneOf h (areaOf h i) < zones h
   zone-there i l = kept .area-kept (areaOf h i) (kept .record-kept i l .area-there) .zone-there
 
   no-records-no-amount : (m : ℕ) → recordsOf h m ≡ 0 → amount h m ≡ pos 0

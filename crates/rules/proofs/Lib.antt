@@ -33,3 +33,5 @@ pub mod Told
 pub mod Writing
 pub mod Imports
 pub mod Raw
+pub mod Explaining
+pub mod Worded

@@ -1,0 +1,131 @@
+-- What is asked of an explanation, proved for every input. Document 02, A5.
+use mathlib.Core.Path.{_≡_, refl, sym, _∙_, ap, ap₂}
+use mathlib.Core.Logic.{_↔_}
+use mathlib.Core.Bool.{Bool, true, false, cond, or-true}
+use mathlib.Core.Option.{Option, none, some}
+use mathlib.Core.List.{List, [], _∷_, _++_}
+use Prim.Native.Nat.{ℕ, suc, _-_, _≤_, _<_}
+use native.Mathlib.Omega.{arith}
+use lib.Dec.{ltb, leb, eqb}
+use lib.IntN.{ℤ, pos}
+use lib.ListN.{length, take, drop, getD, length-append, length-drop}
+use lib.Seq.{take-all, length-take-le}
+use borrow.Author.Tests.{leb-true, leb-false, eqb-true, eqb-false, lt-ltb, le-ltb, le-leb, lt-leb, ne-eqb}
+use Rattle.whole.proofs.Tests.{split}
+use Rattle.whole.proofs.Buffers.{getD-replacing}
+use Rattle.rules.specs.declared.Line.{Line}
+use Rattle.rules.specs.Record.{Hour, members, zones, areaOf, zoneOf}
+use Rattle.rules.specs.Charge.{amount, charge}
+use Rattle.rules.specs.HourFile.{hourly, hourOf}
+use Rattle.rules.specs.Refusals.{Row, row, Verdict, accepted, refusedAt, verdict, placeZeroIf, noMember, hourRows, explainRows}
+use Rattle.rules.specs.Settling.{Buffers, isAccepted, settle, filled, lineOf, emptyLine}
+use Rattle.rules.specs.Explanation.{Explanation, heads, noHeads, decided, explain}
+use Rattle.rules.specs.Promises.{Accepts, AllWhole, FirstBrokenRow}
+use Rattle.rules.specs.Explaining.{Explains, Explaining}
+use Rattle.rules.proofs.Rows.{Numbered, accepts-when-whole, zero-accepts, refuses-at-first, refused-first, passed-on, hour-numbered}
+use Rattle.rules.proofs.Rows.{settle-whole, settle-fills}
+use Rattle.rules.proofs.Kept.{passed-kept}
+use Rattle.rules.proofs.Demands.{zone-there}
+use Rattle.rules.proofs.Heads.{heads-add-up, heads-by-tariff}
+use Rattle.rules.proofs.Decided.{named-decides, always-one, none-for-zero}
+
+-- ---- the rows
+
+module _ (s : List ℕ) (m : ℕ) where
+  abbrev h : Hour
+  h = hourOf hourly s
+
+  numbered-on : (rows more : List Row) → Numbered rows → Numbered more → Numbered (rows ++ more)
+  numbered-on [] more n k = k
+  numbered-on (row i o ∷ rows) more n k = (n .0, numbered-on rows more (n .1) k)
+
+  pub explain-numbered : Numbered (explainRows s m)
+  unfolding explainRows
+  explain-numbered = numbered-on (hourRows s) (row 13 (noMember h m) ∷ []) (hour-numbered s) (omega arith)
+
+  -- what settling refuses, an explanation refuses alike
+  pub rows-refused-alike : (verdict (hourRows s) ≡ accepted → ⊥) → verdict (explainRows s m) ≡ verdict (hourRows s)
+  unfolding explainRows
+  rows-refused-alike = refused-first (hourRows s) (row 13 (noMember h m) ∷ [])
+
+  -- what it accepts, 13 decides
+  rows-passed : AllWhole (hourRows s) → verdict (explainRows s m) ≡ verdict (row 13 (noMember h m) ∷ [])
+  unfolding explainRows
+  rows-passed = passed-on (hourRows s) (row 13 (noMember h m) ∷ [])
+
+  pub rows-member : AllWhole (hourRows s) → m < members h → verdict (explainRows s m) ≡ accepted
+  unfolding noMember verdict
+  rows-member w l = rows-passed w ∙ rw (lt-leb (members h) m l) refl
+
+  pub rows-no-member : AllWhole (hourRows s) → members h ≤ m → verdict (explainRows s m) ≡ refusedAt 13 0
+  unfolding noMember verdict
+  rows-no-member w l = rows-passed w ∙ rw (le-leb (members h) m l) refl
+
+  -- ---- what is answered
+
+  pub explain-verdict : explain s m .verdict ≡ verdict (explainRows s m)
+  unfolding explain
+  explain-verdict = split (isAccepted (verdict (explainRows s m))) (λ t. rw t refl) (λ t. rw t refl)
+
+  pub explain-accepted : verdict (explainRows s m) ≡ accepted →
+      explain s m ≡ record { verdict = accepted; heads = heads h m; decided = decided h m }
+  unfolding explain
+  explain-accepted e = rw e refl
+
+  pub explain-refused : (verdict (explainRows s m) .number ≡ 0 → ⊥) →
+      explain s m ≡ record { verdict = verdict (explainRows s m); heads = noHeads; decided = none }
+  unfolding explain
+  explain-refused r = rw (ne-eqb (verdict (explainRows s m) .number) 0 r) refl
+
+  explain-accepts : (explain s m .verdict ≡ accepted) ↔ AllWhole (explainRows s m)
+  explain-accepts = let r = accepts-when-whole (explainRows s m) explain-numbered in
+      (λ e. r .0 (sym explain-verdict ∙ e), λ w. explain-verdict ∙ r .1 w)
+
+  explain-refuses : (n p : ℕ) → (explain s m .verdict ≡ refusedAt (suc n) p) ↔ FirstBrokenRow (explainRows s m) (suc n) p
+  explain-refuses n p = let r = refuses-at-first (explainRows s m) n p in
+      (λ e. r .0 (sym explain-verdict ∙ e), λ f. explain-verdict ∙ r .1 f)
+
+  nothing-said : (explain s m .verdict ≡ accepted → ⊥) → (explain s m .heads ≡ noHeads) × (explain s m .decided ≡ none)
+  nothing-said r = let e = explain-refused (λ z. r (explain-verdict ∙ zero-accepts (explainRows s m) explain-numbered z)) in
+      rw e (refl, refl)
+
+-- ---- what is said of a member
+
+explains : (h : Hour) (m : ℕ) → ((i : ℕ) → i < h .count → zoneOf h (areaOf h i) < zones h) →
+    Explains h m (amount h m) (charge h m) (heads h m) (decided h m)
+unfolding decided charge
+explains h m there = record {
+  by-formula = heads-by-tariff h m there;
+  add-up = heads-add-up h m;
+  decides = named-decides (charge h m) (heads h m);
+  always-one = always-one (heads h m) (amount h m) (heads-add-up h m);
+  none-for-zero = none-for-zero (heads h m) (amount h m) (heads-add-up h m);
+}
+
+module _ (s : List ℕ) (b : Buffers) (m : ℕ) (a : Accepts s b) where
+  abbrev g : Hour
+  g = hourOf hourly s
+
+  line-amount : m < members g → getD (settle s b .buffers .lines) m emptyLine .amount ≡ amount g m
+  unfolding filled lineOf
+  line-amount l = rw (settle-fills s b a .0) (ap (λ (x : Line). x .amount) (getD-replacing (lineOf g) (members g) (b .lines) m emptyLine l))
+
+  charge-there : m < members g → getD (settle s b .buffers .charges) m (pos 0) ≡ charge g m
+  unfolding filled
+  charge-there l = rw (settle-fills s b a .0) (getD-replacing (charge g) (members g) (b .charges) m (pos 0) l)
+
+  explained : m < members g → (explain s m .verdict ≡ accepted) × Explains g m
+      (getD (settle s b .buffers .lines) m emptyLine .amount) (getD (settle s b .buffers .charges) m (pos 0))
+      (explain s m .heads) (explain s m .decided)
+  explained l = let v = rows-member s m (settle-whole s b a .0) l in
+      (explain-verdict s m ∙ v, rw (explain-accepted s m v, line-amount l, charge-there l) (explains g m (zone-there g (passed-kept s (settle-whole s b a .0) .hour-kept))))
+
+pub explaining : Explaining
+explaining = record {
+  accepts = explain-accepts;
+  refuses = explain-refuses;
+  nothing-said = nothing-said;
+  explained = explained;
+  no-member = λ s b m a l. explain-verdict s m ∙ rows-no-member s m (settle-whole s b a .0) l;
+  refused-alike = λ s m r. explain-verdict s m ∙ rows-refused-alike s m r;
+}

@@ -1,0 +1,101 @@
+-- The explanation's text: when it is which, how long it can be, and that a reader that stops one byte past the longest input prints the
+-- same. Document 02, A5.
+use mathlib.Core.Path.{_≡_, refl, sym, _∙_, ap}
+use mathlib.Core.Option.{Option, none, some}
+use mathlib.Core.List.{List}
+use Prim.Native.Nat.{ℕ, zero, suc, _-_, _≤_, _<_}
+use native.Mathlib.Omega.{arith}
+use lib.Dec.{leb}
+use lib.IntN.{ℤ, pos, negsuc}
+use lib.ListN.{length, take, drop, length-append, length-drop}
+use lib.Seq.{take-all, length-take-le}
+use borrow.Author.Tests.{leb-true, leb-false, eqb-true, eqb-false, lt-ltb, le-ltb, ne-eqb}
+use Rattle.whole.proofs.Tests.{split}
+use Rattle.rules.specs.HourFile.{hourly, hourOf}
+use Rattle.rules.specs.Refusals.{Verdict, accepted, refusedAt, verdict, hourRows, explainRows}
+use Rattle.rules.specs.Settling.{isAccepted}
+use Rattle.rules.specs.Statement.{refusedLine}
+use Rattle.rules.specs.Explanation.{heads, headAt, decided, signedDecimal, headName, decidedName, headLine, decidedLine}
+use Rattle.rules.specs.Explanation.{explanationLines, memberAsked, hourAsked, askedRows, explanation}
+use Rattle.rules.proofs.Digits.{decimal-at-most-20}
+use Rattle.rules.proofs.Stated.{refused-line-most, too-long-refused}
+use Rattle.rules.proofs.Explaining.{rows-refused-alike}
+
+-- ---- how long the lines are
+
+-- a sign and twenty digits
+pub signed-at-most-21 : (z : ℤ) → length (signedDecimal z) ≤ 21
+unfolding signedDecimal
+signed-at-most-21 (pos n) = omega (arith, decimal-at-most-20 n)
+signed-at-most-21 (negsuc n) = omega (arith, decimal-at-most-20 (suc n))
+
+head-name-most : (k : ℕ) → length (headName k) ≤ 10
+head-name-most zero = omega arith
+head-name-most (suc zero) = omega arith
+head-name-most (suc (suc zero)) = omega arith
+head-name-most (suc (suc (suc zero))) = omega arith
+head-name-most (suc (suc (suc (suc zero)))) = omega arith
+head-name-most (suc (suc (suc (suc (suc k))))) = omega arith
+
+decided-name-most : (d : Option ℕ) → length (decidedName d) ≤ 10
+decided-name-most none = omega arith
+decided-name-most (some k) = head-name-most k
+
+-- Six lines of any five numbers of 64 bits have at most 165 bytes.
+pub explanation-lines-most : (hs : List ℤ) (d : Option ℕ) → length (explanationLines hs d) ≤ 165
+unfolding explanationLines headLine decidedLine
+explanation-lines-most hs d = simp length-append (omega (
+  arith,
+  signed-at-most-21 (headAt hs 0),
+  signed-at-most-21 (headAt hs 1),
+  signed-at-most-21 (headAt hs 2),
+  signed-at-most-21 (headAt hs 3),
+  signed-at-most-21 (headAt hs 4),
+  decided-name-most d,
+))
+
+-- ---- accepted or refused
+
+module _ (s : List ℕ) where
+  pub explanation-accepted : verdict (askedRows s) ≡ accepted →
+      explanation s ≡ explanationLines (heads (hourOf hourly (hourAsked s)) (memberAsked s)) (decided (hourOf hourly (hourAsked s)) (memberAsked s))
+  unfolding explanation
+  explanation-accepted e = rw e refl
+
+  pub explanation-refused : (verdict (askedRows s) .number ≡ 0 → ⊥) → explanation s ≡ refusedLine (verdict (askedRows s))
+  unfolding explanation
+  explanation-refused r = rw (ne-eqb (verdict (askedRows s) .number) 0 r) refl
+
+  pub too-few : length s < 4 → verdict (askedRows s) ≡ refusedAt 1 0
+  unfolding askedRows verdict
+  too-few l = rw (lt-ltb (length s) 4 l) refl
+
+  pub four-bytes : 4 ≤ length s → verdict (askedRows s) ≡ verdict (explainRows (hourAsked s) (memberAsked s))
+  unfolding askedRows verdict
+  four-bytes l = rw (le-ltb (length s) 4 l) refl
+
+  pub explanation-fits : length (explanation s) ≤ 165
+  unfolding explanation
+  explanation-fits = split (isAccepted (verdict (askedRows s)))
+      (λ t. rw t (explanation-lines-most _ _))
+      (λ t. rw t (omega (arith, refused-line-most (verdict (askedRows s)))))
+
+-- ---- of a cut input
+
+too-long : (s : List ℕ) → 13316 < length s → explanation s ≡ refusedLine (refusedAt 1 0)
+too-long s l = let file : verdict (askedRows s) ≡ refusedAt 1 0 = four-bytes s (omega arith) ∙ refused in
+    explanation-refused s (λ z. absurd (omega (arith, ap (λ (v : Verdict). v .number) file))) ∙ ap refusedLine file
+  where
+    hour-refused : verdict (hourRows (hourAsked s)) ≡ refusedAt 1 0
+    hour-refused = too-long-refused (hourAsked s) (omega (arith, length-drop 4 s))
+
+    refused : verdict (explainRows (hourAsked s) (memberAsked s)) ≡ refusedAt 1 0
+    refused = rows-refused-alike (hourAsked s) (memberAsked s)
+        (λ e. absurd (omega (arith, ap (λ (v : Verdict). v .number) (sym hour-refused ∙ e)))) ∙ hour-refused
+
+-- whoever reads at most 13,317 bytes sees that an input is too long
+pub cut-input-same : (s : List ℕ) → explanation (take 13317 s) ≡ explanation s
+cut-input-same s = split (leb (length s) 13317)
+    (λ e. ap explanation (take-all 13317 s (leb-true (length s) 13317 e)))
+    (λ e. let l : 13317 < length s = leb-false (length s) 13317 e in
+    too-long (take 13317 s) (let n = length-take-le 13317 s (omega arith) in omega arith) ∙ sym (too-long s (omega arith)))
