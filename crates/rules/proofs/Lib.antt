@@ -3,6 +3,7 @@ pub mod Starred
 pub mod Printed
 pub mod Refused
 pub mod Unwritten
+pub mod Explanations
 pub mod Tariff
 pub mod Posting
 pub mod Shares

@@ -24,4 +24,5 @@ pub mod Figures
 pub mod Printed
 pub mod Refused
 pub mod Unwritten
+pub mod Explanations
 pub mod Inner

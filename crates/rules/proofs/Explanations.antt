@@ -1,0 +1,37 @@
+-- Explanations, computed.
+use mathlib.Core.Path.{refl}
+use mathlib.Core.Option.{orElse}
+use Rattle.whole.specs.Below
+use Rattle.whole.specs.Signed.{minℤ, maxℤ}
+use Rattle.rules.specs.Record
+use Rattle.rules.specs.Deviation
+use Rattle.rules.specs.Ufe
+use Rattle.rules.specs.Share
+use Rattle.rules.specs.Charge
+use Rattle.rules.specs.Neutrality
+use Rattle.rules.specs.Text
+use Rattle.rules.specs.HourFile
+use Rattle.rules.specs.Ranges
+use Rattle.rules.specs.Refusals
+use Rattle.rules.specs.Statement
+use Rattle.rules.specs.Explanation
+use Rattle.rules.specs.Printed.{wordBytes}
+use Rattle.rules.specs.Refused.{sealed}
+use Rattle.rules.specs.Explanations.{ExplainedRight, everyKind, explanations}
+
+pub explained-right : ExplainedRight
+unfolding Below.sumBelow Below.totalBelow Below.firstBelow orElse minℤ maxℤ Record.signed Record.kindOf Record.actual Record.entry
+    Record.memberOf Record.areaOf Record.entryOf Record.zonePrice Record.zoneOf Record.tieIn Record.tieOut Record.price
+    Deviation.generatorUnavailable Deviation.generatorDeviation Deviation.loadUnavailable Deviation.loadDeviation Deviation.deviation
+    Ufe.inArea Ufe.areaSum Ufe.losses Ufe.ufe Ufe.demands Share.better Share.firstLargest Share.isAt Share.handedOut Share.allDemand
+    Share.wholePart Share.remainder Share.unitsLeft Share.shareSize Share.share Charge.entering Charge.nearestCent Charge.cents
+    Charge.shareOf Charge.grains Charge.amount Charge.charge Text.digitsUpTo Text.decimal HourFile.word HourFile.blocks HourFile.blockWord
+    HourFile.blockSum HourFile.lengthBad HourFile.recordCount HourFile.recordWord HourFile.hourOf Ranges.keeps Ranges.firstBroken
+    Ranges.countRule Ranges.pastRule Ranges.blockRule Ranges.areaRule Ranges.headRule Ranges.rulesOf Ranges.recordRule Refusals.verdict
+    Refusals.badLength Refusals.badSum Refusals.badBlock Refusals.badHead Refusals.badWord Refusals.badRecord Refusals.badArea
+    Refusals.badAmount Neutrality.neutrality Neutrality.memberDemand Neutrality.hourDemand Refusals.noDemand Refusals.tableRows
+    Refusals.hourRows wordBytes Deviation.importDeviation Deviation.exportDeviation Refusals.noMember Refusals.explainRows
+    Statement.refusedLine Explanation.pricedSum Explanation.heads Explanation.sameSign Explanation.decidedBy Explanation.decided
+    Explanation.explain Explanation.signedDecimal Explanation.headLine Explanation.decidedLine Explanation.explanationLines
+    Explanation.askedRows Explanation.explanation sealed everyKind explanations Neutrality.neutralityShare
+explained-right = (refl, (refl, (refl, (refl, (refl, (refl, (refl, tt)))))))
