@@ -1,5 +1,5 @@
-// The lines of a statement (document 01, "The printed statement") as bytes, from numbers and answers alone: each is put into a lent slice,
-// and the place after it is handed back.
+// The lines of a statement (document 01, "The printed statement") and of an explanation as bytes, from numbers and answers alone: each is
+// put into a lent slice, and the place after it is handed back.
 ghost use Prim.Native.Nat.{_+_, _≤_, _<_};
 ghost use lib.IntN.{natAbs};
 ghost use lib.ListN.{length};
@@ -10,6 +10,7 @@ use crate::text::put_bytes;
 use crate::text::put_count;
 use rules::Answer;
 
+pub mod explanation;
 mod text;
 
 // Line 1. The room is for twenty digits of each number.

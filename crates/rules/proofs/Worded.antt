@@ -2,15 +2,18 @@
 -- same. Document 02, A5.
 use mathlib.Core.Path.{_≡_, refl, sym, _∙_, ap}
 use mathlib.Core.Option.{Option, none, some}
-use mathlib.Core.List.{List}
+use mathlib.Core.List.{List, _++_}
 use Prim.Native.Nat.{ℕ, zero, suc, _-_, _≤_, _<_}
 use native.Mathlib.Omega.{arith}
 use lib.Dec.{leb}
-use lib.IntN.{ℤ, pos, negsuc}
+use lib.IntN.{ℤ, pos, negsuc, natAbs}
+use lib.Signed.{_≤ℤ_, _<ℤ_}
 use lib.ListN.{length, take, drop, length-append, length-drop}
 use lib.Seq.{take-all, length-take-le}
 use borrow.Author.Tests.{leb-true, leb-false, eqb-true, eqb-false, lt-ltb, le-ltb, ne-eqb}
 use Rattle.whole.proofs.Tests.{split}
+use Rattle.whole.proofs.Linear.{le↓, lt↓}
+use Rattle.rules.specs.Text.{bytes, decimal}
 use Rattle.rules.specs.HourFile.{hourly, hourOf}
 use Rattle.rules.specs.Refusals.{Verdict, accepted, refusedAt, verdict, hourRows, explainRows}
 use Rattle.rules.specs.Settling.{isAccepted}
@@ -23,13 +26,24 @@ use Rattle.rules.proofs.Explaining.{rows-refused-alike}
 
 -- ---- how long the lines are
 
+-- by the size: the sign comes first where the number is below zero
+pub signed-below : (z : ℤ) → z <ℤ pos 0 → bytes "-" ++ decimal (natAbs z) ≡ signedDecimal z
+unfolding signedDecimal
+signed-below (pos n) l = absurd (omega (arith, lt↓ l))
+signed-below (negsuc n) l = refl
+
+pub signed-from-0 : (z : ℤ) → pos 0 ≤ℤ z → decimal (natAbs z) ≡ signedDecimal z
+unfolding signedDecimal
+signed-from-0 (pos n) l = refl
+signed-from-0 (negsuc n) l = absurd (omega (arith, le↓ l))
+
 -- a sign and twenty digits
 pub signed-at-most-21 : (z : ℤ) → length (signedDecimal z) ≤ 21
 unfolding signedDecimal
 signed-at-most-21 (pos n) = omega (arith, decimal-at-most-20 n)
 signed-at-most-21 (negsuc n) = omega (arith, decimal-at-most-20 (suc n))
 
-head-name-most : (k : ℕ) → length (headName k) ≤ 10
+pub head-name-most : (k : ℕ) → length (headName k) ≤ 10
 head-name-most zero = omega arith
 head-name-most (suc zero) = omega arith
 head-name-most (suc (suc zero)) = omega arith
@@ -37,7 +51,7 @@ head-name-most (suc (suc (suc zero))) = omega arith
 head-name-most (suc (suc (suc (suc zero)))) = omega arith
 head-name-most (suc (suc (suc (suc (suc k))))) = omega arith
 
-decided-name-most : (d : Option ℕ) → length (decidedName d) ≤ 10
+pub decided-name-most : (d : Option ℕ) → length (decidedName d) ≤ 10
 decided-name-most none = omega arith
 decided-name-most (some k) = head-name-most k
 

@@ -82,8 +82,8 @@ abbrev pub headName : ℕ → List ℕ
 headName k = getD (bytes "generation" ∷ bytes "load" ∷ bytes "import" ∷ bytes "export" ∷ bytes "share" ∷ []) k []
 
 -- a head's name, a blank, its grains
-unfoldable pub headLine : List ℤ → ℕ → List ℕ
-headLine hs k = headName k ++ bytes " " ++ signedDecimal (headAt hs k) ++ bytes "\n"
+unfoldable pub headLine : (place : ℕ) (grains : ℤ) → List ℕ
+headLine k grains = headName k ++ bytes " " ++ signedDecimal grains ++ bytes "\n"
 
 abbrev pub decidedName : Option ℕ → List ℕ
 decidedName none = bytes "none"
@@ -94,7 +94,9 @@ decidedLine d = bytes "decided " ++ decidedName d ++ bytes "\n"
 
 -- five lines, and a sixth
 unfoldable pub explanationLines : List ℤ → Option ℕ → List ℕ
-explanationLines hs d = headLine hs 0 ++ headLine hs 1 ++ headLine hs 2 ++ headLine hs 3 ++ headLine hs 4 ++ decidedLine d
+explanationLines hs d =
+    headLine 0 (headAt hs 0) ++ headLine 1 (headAt hs 1) ++ headLine 2 (headAt hs 2) ++ headLine 3 (headAt hs 3) ++ headLine 4 (headAt hs 4)
+    ++ decidedLine d
 
 -- standard input: four bytes of member number, little-endian, then an hour file
 module _ (s : List ℕ) where

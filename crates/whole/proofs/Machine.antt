@@ -4,19 +4,25 @@
 --     kept           what is read back of a stored result, which is the result since k is below 2 ^ 63
 --     Num            an expression of the code, with all that: `at (c .pre .a-in) :* at0 (c .pre .b-in)`
 --     fits, stored   of a `Num`: the need of the operation that makes it, and that what is stored is the number meant
+--     element-fits   an element of an array fits
 --     OneLess        what is computed of the size of any number below zero, also of the least, which no `Num` is
 use mathlib.Core.Path.{_≡_, refl, sym, _∙_, ap, ap₂, subst}
-use Prim.Native.Nat.{ℕ, suc, _+_, _-_, _*_, _<_}
+use Prim.Native.Nat.{ℕ, zero, suc, _+_, _-_, _*_, _<_}
 use mathlib.Core.Bool.{Bool, true, false, not, _&&_}
+use mathlib.Core.List.{List, [], _∷_}
 use native.Mathlib.Numerals.{add-one}
 use native.Mathlib.Omega.{arith}
 use lib.Dec.{T, leb, ltb, eqb, ltb→lt}
 use lib.Signed.{_≤ℤ_, _<ℤ_, ltZ, leZ, ltZ-yes, ltZ-no, quotZ, remZ, nonNeg}
 use lib.IntN.{ℤ, pos, negsuc, natAbs, _+ℤ_, _-ℤ_, _*ℤ_}
 use mir.Syntax.{w64}
-use mir.Val.{Fits, SFits, toZ, ofZ}
+use lib.ListN.{getD}
+use mir.Val.{Val, Fits, SFits, toZ, ofZ}
 use mir.ValLaws.{toZ-ofZ, toZ-pos}
 use mir.Facts.{and-yes}
+use denote.Array.{each}
+use denote.Shadow.{shadow}
+use denote.Signed.{SInt}
 use Rattle.whole.specs.Signed.{Under, Upto}
 use borrow.Author.Tests.{ltb-true, le-ltb, eq-eqb, ne-eqb, eqb-true, eqb-false}
 use Rattle.whole.proofs.Tests.{split, never}
@@ -217,3 +223,12 @@ one-less (negsuc n) f t = record {
 pub none-less : (z : ℤ) → SFits w64 z → ltZ (back z) (pos 0) ≡ false → T (nonNeg (back z)) × Fits w64 (natAbs (back z))
 none-less (pos n) f t = rw (read-back f) (tt, record { fits = omega (arith, f .sfits) })
 none-less (negsuc n) f t = never refl (rw (read-back f) at t)
+
+-- ---- an array of signed numbers
+
+-- each element fits; past the end there is 0
+pub element-fits : (xs : List ℤ) (us : List Val) (i : ℕ) → shadow (each ℤ (SInt w64 .own) xs us) → SFits w64 (getD xs i (pos 0))
+element-fits [] us i p = u-fits (u-lit (pos 0)) tt
+element-fits (x ∷ xs) [] i p = absurd p
+element-fits (x ∷ xs) (u ∷ us) zero p = record { sfits = p .0 .1 }
+element-fits (x ∷ xs) (u ∷ us) (suc i) p = element-fits xs us i (p .1)
