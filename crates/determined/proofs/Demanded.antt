@@ -37,10 +37,10 @@ use Rattle.amount.proofs.read.Reads as read
 use Rattle.examine.proofs.examine.Reads as examine
 use Rattle.pool.proofs.Port.settle.Reads as settle
 use Rattle.pool.proofs.settle_unlined.Reads as settle-unlined
-use Rattle.pool.proofs.Port.sneupelaar_settle.Reads as sneupelaar-settle
-use Rattle.pool.proofs.boundary.sneupelaar_write.Reads as sneupelaar-write
-use Rattle.pool.proofs.boundary.sneupelaar_read.Reads as sneupelaar-read
-use Rattle.pool.proofs.boundary.sneupelaar_body.Reads as sneupelaar-body
+use Rattle.sneupelaar.proofs.Port.sneupelaar_settle.Reads as sneupelaar-settle
+use Rattle.sneupelaar.proofs.sneupelaar_write.Reads as sneupelaar-write
+use Rattle.sneupelaar.proofs.sneupelaar_read.Reads as sneupelaar-read
+use Rattle.sneupelaar.proofs.sneupelaar_body.Reads as sneupelaar-body
 use Rattle.report.proofs.statement.Reads as statement
 
 -- ---- settling

@@ -27,12 +27,11 @@ use Rattle.writer.proofs.write_hour.Reads as write-hour
 use Rattle.rawhour.proofs.write_raw.Reads as write-raw
 use Rattle.pool.proofs.Port.settle.Reads as settle
 use Rattle.pool.proofs.settle_unlined.Reads as settle-unlined
-use Rattle.pool.proofs.Port.sneupelaar_settle.Reads as sneupelaar-settle
-use Rattle.pool.proofs.boundary.numbered.Reads as numbered
-use Rattle.pool.proofs.boundary.sneupelaar_write.Reads as sneupelaar-write
-use Rattle.pool.proofs.boundary.sneupelaar_write_hour.Reads as sneupelaar-write-hour
-use Rattle.pool.proofs.boundary.sneupelaar_read.Reads as sneupelaar-read
-use Rattle.pool.proofs.boundary.sneupelaar_body.Reads as sneupelaar-body
+use Rattle.sneupelaar.proofs.Port.sneupelaar_settle.Reads as sneupelaar-settle
+use Rattle.sneupelaar.proofs.sneupelaar_write.Reads as sneupelaar-write
+use Rattle.sneupelaar.proofs.sneupelaar_write_hour.Reads as sneupelaar-write-hour
+use Rattle.sneupelaar.proofs.sneupelaar_read.Reads as sneupelaar-read
+use Rattle.sneupelaar.proofs.sneupelaar_body.Reads as sneupelaar-body
 use Rattle.printing.proofs.put_first_line.Reads as put-first-line
 use Rattle.printing.proofs.put_member.Reads as put-member
 use Rattle.printing.proofs.put_refused.Reads as put-refused
@@ -112,9 +111,6 @@ one-sneupelaar-settle κs a x y s t p q = (
   ap (λ (r : Settlement). record { number = r .verdict .number; place = r .verdict .place; ufe = r .ufe }) (agree p q),
   ap (λ (r : Settlement). r .buffers) (agree p q),
 )
-
-pub one-numbered : (κs : Lfts 0) → OneResult (numbered.Post κs)
-one-numbered κs a x y s t = agree
 
 pub one-sneupelaar-write : (κs : Lfts 1) → OneOutcome (sneupelaar-write.Post κs) (λ s. now (s .1 .0))
 one-sneupelaar-write κs a x y s t p q = (

@@ -22,7 +22,7 @@ use Rattle.printing.proofs.Showing.{whole-text}
 use Rattle.determined.specs.Determined.{Gives, KeepsWriting}
 use Rattle.writer.proofs.write_hour.Reads as write-hour
 use Rattle.rawhour.proofs.write_raw.Reads as write-raw
-use Rattle.pool.proofs.boundary.sneupelaar_write_hour.Reads as sneupelaar-write-hour
+use Rattle.sneupelaar.proofs.sneupelaar_write_hour.Reads as sneupelaar-write-hour
 
 module _ (head records before : List ℕ) where
   own-bytes : (s : List ℕ) → AreBytes s → verdict (fileRows s) ≡ accepted → head ≡ headWords s → records ≡ recordWords hourly s →

@@ -1,4 +1,3 @@
 -- What the walks of `pool` rest on.
 pub mod Answers
-pub mod HandedOut
 pub mod Port

@@ -1,4 +1,3 @@
 -- Made by `python3 tools/walk pool`.
 pub mod LineKit
 pub mod settle
-pub mod sneupelaar_settle

@@ -2,4 +2,3 @@
 pub mod Buffers
 pub mod AsSettled
 pub mod Unlined
-pub mod HandedOut

@@ -1,4 +1,4 @@
-// The customer's library: the tally and the members' lines are lent to each posting, and settling writes into the caller's own buffers.
+// Settling: the tally and the members' lines are lent to each posting, and the figures are written into the caller's own buffers.
 // Structs are moved here, not computed with: the sums are worked by value in `formula`.
 ghost use mathlib.Core.Path.{_≡_};
 ghost use mathlib.Core.Bool.{_||_};
@@ -14,10 +14,6 @@ ghost use Rattle.hour.specs.Hour.{hourIn, Headed};
 ghost use Rattle.pool.specs.Buffers.{buffers};
 ghost use Rattle.pool.specs.AsSettled.{AsSettled};
 ghost use Rattle.pool.specs.Unlined.{unlined, FitsUnlined};
-ghost use Rattle.pool.specs.HandedOut.{settlement};
-
-pub mod boundary;
-
 use hour::Head;
 use rules::Answer;
 use rules::Found;
@@ -152,22 +148,4 @@ pub fn settle_unlined(
 {
     let mut lines = [formula::posting::empty_line(); 32];
     settle(file, &mut lines, charges, finals, shares, deviations)
-}
-
-// Settling for programs in C: the answer goes out as its number and place.
-#[no_mangle]
-pub extern "C" fn sneupelaar_settle(
-    file: &[u8],
-    lines: &mut [Line],
-    charges: &mut [i64],
-    finals: &mut [i64],
-    shares: &mut [i64],
-    deviations: &mut [i64],
-) -> boundary::NumberedSettled
-    ensures { λ r. ⌜ settlement r
-        (buffers (now (charges .exit)) (now (finals .exit)) (now (shares .exit)) (now (deviations .exit)) (now (lines .exit)))
-        ≡ Settling.settle (now (file .entry))
-        (buffers (now (charges .entry)) (now (finals .entry)) (now (shares .entry)) (now (deviations .entry)) (now (lines .entry))) ⌝ }
-{
-    boundary::numbered(settle(file, lines, charges, finals, shares, deviations))
 }

@@ -5,10 +5,10 @@ use mathlib.Core.List.{List}
 use native.Mathlib.Omega.{arith}
 use lib.ListN.{length}
 use Rattle.rules.specs.HourFile.{blocks}
-use Rattle.pool.specs.HandedOut.{bodyPart}
-use Rattle.pool.proofs.HandedOut.{handed-out, none-there, one-there}
-use Rattle.pool.proofs.boundary.sneupelaar_body.Statement.{statement}
-use Rattle.pool.proofs.boundary.sneupelaar_body.Tie as tie
+use Rattle.sneupelaar.specs.HandedOut.{bodyPart}
+use Rattle.sneupelaar.proofs.HandedOut.{handed-out, none-there, one-there}
+use Rattle.sneupelaar.proofs.sneupelaar_body.Statement.{statement}
+use Rattle.sneupelaar.proofs.sneupelaar_body.Tie as tie
 
 body-requires : tie.Need-body-requires
 body-requires c κs = tt

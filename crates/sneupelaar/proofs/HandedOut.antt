@@ -16,9 +16,9 @@ use Rattle.rules.specs.Promises.{Fits}
 use Rattle.rules.specs.Refusals.{Verdict, refusedAt, verdictOf, numberOf, placeOf}
 use Rattle.rules.specs.Settling.{Buffers, settle}
 use Rattle.rules.proofs.Words.{body-length, body-empty-bad, body-empty-past}
-use Rattle.pool.specs.declared.boundary.NumberedSettled.{NumberedSettled}
-use Rattle.pool.specs.declared.boundary.Part.{Part}
-use Rattle.pool.specs.HandedOut.{settlement, bodyPart}
+use Rattle.sneupelaar.specs.declared.NumberedSettled.{NumberedSettled}
+use Rattle.sneupelaar.specs.declared.Part.{Part}
+use Rattle.sneupelaar.specs.HandedOut.{settlement, bodyPart}
 
 pub numbered-verdict : (a : Answer) {n p : ℕ} → n ≡ numberOf a → p ≡ placeOf a → refusedAt n p ≡ verdictOf a
 numbered-verdict a e f = ap₂ refusedAt e f

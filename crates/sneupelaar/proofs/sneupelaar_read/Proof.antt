@@ -5,9 +5,9 @@ use mir.Syntax.{w64}
 use mir.ValLaws.{toZ-ofZ}
 use borrow.Author.Needs.{sfits-of}
 use Rattle.rules.specs.Refusals.{Verdict}
-use Rattle.pool.proofs.HandedOut.{numbered-verdict}
-use Rattle.pool.proofs.boundary.sneupelaar_read.Statement.{statement}
-use Rattle.pool.proofs.boundary.sneupelaar_read.Tie as tie
+use Rattle.sneupelaar.proofs.HandedOut.{numbered-verdict}
+use Rattle.sneupelaar.proofs.sneupelaar_read.Statement.{statement}
+use Rattle.sneupelaar.proofs.sneupelaar_read.Tie as tie
 
 read-requires : tie.Need-read-requires
 read-requires c κs = tt

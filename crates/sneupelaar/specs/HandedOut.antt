@@ -6,11 +6,11 @@ use lib.Dec.{leb}
 use Rattle.rules.specs.HourFile.{hourly, lengthBad, blocks}
 use Rattle.rules.specs.Refusals.{refusedAt}
 use Rattle.rules.specs.Settling.{Buffers, Settlement, HourWritten, Written, ReadAmount}
-use Rattle.pool.specs.declared.boundary.NumberedAnswer.{NumberedAnswer}
-use Rattle.pool.specs.declared.boundary.NumberedFiled.{NumberedFiled}
-use Rattle.pool.specs.declared.boundary.NumberedReading.{NumberedReading}
-use Rattle.pool.specs.declared.boundary.NumberedSettled.{NumberedSettled}
-use Rattle.pool.specs.declared.boundary.Part.{Part}
+use Rattle.sneupelaar.specs.declared.NumberedAnswer.{NumberedAnswer}
+use Rattle.sneupelaar.specs.declared.NumberedFiled.{NumberedFiled}
+use Rattle.sneupelaar.specs.declared.NumberedReading.{NumberedReading}
+use Rattle.sneupelaar.specs.declared.NumberedSettled.{NumberedSettled}
+use Rattle.sneupelaar.specs.declared.Part.{Part}
 
 abbrev pub settlement : NumberedSettled → Buffers → Settlement
 settlement r after = record { verdict = refusedAt (r .number) (r .place); ufe = r .ufe; buffers = after }

@@ -7,9 +7,9 @@ use mir.Val.{toZ, ofZ}
 use borrow.Author.Needs.{needs}
 use Rattle.rules.specs.Refusals.{Verdict}
 use Rattle.rules.specs.Settling.{write}
-use Rattle.pool.proofs.HandedOut.{numbered-verdict}
-use Rattle.pool.proofs.boundary.sneupelaar_write.Statement.{statement}
-use Rattle.pool.proofs.boundary.sneupelaar_write.Tie as tie
+use Rattle.sneupelaar.proofs.HandedOut.{numbered-verdict}
+use Rattle.sneupelaar.proofs.sneupelaar_write.Statement.{statement}
+use Rattle.sneupelaar.proofs.sneupelaar_write.Tie as tie
 
 write-requires : tie.Need-write-requires
 write-requires c κs = tt

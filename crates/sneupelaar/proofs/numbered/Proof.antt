@@ -1,6 +1,6 @@
 -- The number, the place and the figures, one by one.
-use Rattle.pool.proofs.boundary.numbered.Statement.{statement}
-use Rattle.pool.proofs.boundary.numbered.Tie as tie
+use Rattle.sneupelaar.proofs.numbered.Statement.{statement}
+use Rattle.sneupelaar.proofs.numbered.Tie as tie
 
 number-of-requires : tie.Need-number-of-requires
 number-of-requires c κs = tt

@@ -2,9 +2,9 @@
 use mathlib.Core.Path.{_∙_}
 use borrow.Author.Needs.{needs}
 use Rattle.rules.proofs.Writing.{as-written}
-use Rattle.pool.proofs.HandedOut.{numbered-verdict}
-use Rattle.pool.proofs.boundary.sneupelaar_write_hour.Statement.{statement}
-use Rattle.pool.proofs.boundary.sneupelaar_write_hour.Tie as tie
+use Rattle.sneupelaar.proofs.HandedOut.{numbered-verdict}
+use Rattle.sneupelaar.proofs.sneupelaar_write_hour.Statement.{statement}
+use Rattle.sneupelaar.proofs.sneupelaar_write_hour.Tie as tie
 
 write-hour-requires : tie.Need-write-hour-requires
 write-hour-requires c κs = tt

@@ -1,12 +1,14 @@
 // The library for programs in C (include/sneupelaar.h): an answer goes out as its number and place, a body as where it stands in the file.
-// `sneupelaar_settle` lends lines and stands at the crate's root. No function here has a `requires`: nothing would check it for C.
+// No function here has a `requires`: nothing would check it for C.
 ghost use mathlib.Core.Path.{_≡_};
 ghost use lib.ListN.{drop, take};
 ghost use Rattle.rules.specs.HourFile.{body, hourly};
 ghost use Rattle.rules.specs.Refusals.{numberOf, placeOf};
 ghost use Rattle.rules.specs.Settling as Settling;
 ghost use Rattle.rules.specs.Writing.{AreWords};
-ghost use Rattle.pool.specs.HandedOut.{bodyPart, hourWritten, readAmount, written};
+ghost use Rattle.pool.specs.Buffers.{buffers};
+ghost use Rattle.sneupelaar.specs.HandedOut.{bodyPart, hourWritten, readAmount, settlement, written};
+use rules::Line;
 use rules::Settled;
 
 #[repr(C)]
@@ -44,7 +46,7 @@ pub struct Part {
 }
 
 // What settling answers, with the answer as its number and place.
-pub fn numbered(settled: Settled) -> NumberedSettled
+fn numbered(settled: Settled) -> NumberedSettled
     ensures { λ r. ⌜ r ≡ record { number = numberOf (settled .answer); place = placeOf (settled .answer); ufe = settled .ufe } ⌝ }
 {
     let answer = settled.answer;
@@ -54,6 +56,24 @@ pub fn numbered(settled: Settled) -> NumberedSettled
         place: answer::place_of(answer) as u64,
         ufe: figures,
     }
+}
+
+// Settling for programs in C: the answer goes out as its number and place.
+#[no_mangle]
+pub extern "C" fn sneupelaar_settle(
+    file: &[u8],
+    lines: &mut [Line],
+    charges: &mut [i64],
+    finals: &mut [i64],
+    shares: &mut [i64],
+    deviations: &mut [i64],
+) -> NumberedSettled
+    ensures { λ r. ⌜ settlement r
+        (buffers (now (charges .exit)) (now (finals .exit)) (now (shares .exit)) (now (deviations .exit)) (now (lines .exit)))
+        ≡ Settling.settle (now (file .entry))
+        (buffers (now (charges .entry)) (now (finals .entry)) (now (shares .entry)) (now (deviations .entry)) (now (lines .entry))) ⌝ }
+{
+    numbered(pool::settle(file, lines, charges, finals, shares, deviations))
 }
 
 // Writes an amount of cents into the whole field.

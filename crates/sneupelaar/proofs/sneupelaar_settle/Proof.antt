@@ -45,23 +45,23 @@ use Rattle.rules.specs.Settling.{Buffers}
 use Rattle.rules.proofs.Line as L
 use Rattle.rules.proofs.Settled as S
 use Rattle.rules.proofs.Settled.Laws as S′
-use Rattle.pool.specs.declared.boundary.NumberedSettled.{NumberedSettled}
+use Rattle.sneupelaar.specs.declared.NumberedSettled.{NumberedSettled}
 use Rattle.pool.specs.Buffers.{buffers}
-use Rattle.pool.proofs.HandedOut.{numbered-fits}
-use Rattle.pool.proofs.boundary.NumberedSettled as N
-use Rattle.pool.proofs.boundary.NumberedSettled.Laws as N′
+use Rattle.sneupelaar.proofs.HandedOut.{numbered-fits}
+use Rattle.sneupelaar.proofs.NumberedSettled as N
+use Rattle.sneupelaar.proofs.NumberedSettled.Laws as N′
 use Rattle.pool.proofs.settle as g
 use Rattle.pool.proofs.settle.Symbol as g-def
 use Rattle.pool.proofs.settle.Symbol.{name as #settle}
 use Rattle.pool.proofs.settle.Met as g-thm
-use Rattle.pool.proofs.boundary.numbered as k
-use Rattle.pool.proofs.boundary.numbered.Symbol as k-def
-use Rattle.pool.proofs.boundary.numbered.Symbol.{name as #numbered}
-use Rattle.pool.proofs.boundary.numbered.Met as k-thm
-use Rattle.pool.proofs.sneupelaar_settle.Key.{name as #sneupelaar-settle}
-use Rattle.pool.proofs.sneupelaar_settle as f
-use Rattle.pool.proofs.sneupelaar_settle.Statement as stated
-use Rattle.pool.proofs.sneupelaar_settle.Code as code
+use Rattle.sneupelaar.proofs.numbered as k
+use Rattle.sneupelaar.proofs.numbered.Symbol as k-def
+use Rattle.sneupelaar.proofs.numbered.Symbol.{name as #numbered}
+use Rattle.sneupelaar.proofs.numbered.Met as k-thm
+use Rattle.sneupelaar.proofs.sneupelaar_settle.Key.{name as #sneupelaar-settle}
+use Rattle.sneupelaar.proofs.sneupelaar_settle as f
+use Rattle.sneupelaar.proofs.sneupelaar_settle.Statement as stated
+use Rattle.sneupelaar.proofs.sneupelaar_settle.Code as code
 
 -- of parameters that were passed on: what is said of them at exit
 abbrev passed-on : {n : ℕ} (ss : List (Slot n)) (ks : Kepts ss) → Stays ss ks
@@ -251,5 +251,5 @@ sneupelaar-settle-spec 𝓤 H 𝓜 𝓖 𝓡 =
     (tables 𝓤 H 𝓜 𝓡 code.env .C) (tables 𝓤 H 𝓜 𝓡 code.env .Λ) #sneupelaar-settle code.function (code.unfolded 𝓤 H 𝓜 𝓡)
     (settle-meets 𝓤 H (𝓖 .A) (givenOf 𝓤 H 𝓜 𝓖) (𝓜 .mem) (𝓡 .run) (tablesOf 𝓤 H 𝓜 (tables 𝓤 H 𝓜 𝓡 code.env))
     (cited 𝓤 H (Settles 𝓤 H (𝓖 .A) (𝓜 .mem) (𝓡 .run)) 𝓜 𝓡 code.env #settle g-def.routine code.calls-pool·settle (g-thm.met 𝓤 H 𝓜 𝓖 𝓡))
-    (cited 𝓤 H (Numbers 𝓤 H (𝓖 .A) (𝓜 .mem) (𝓡 .run)) 𝓜 𝓡 code.env #numbered k-def.routine code.calls-pool·boundary·numbered
+    (cited 𝓤 H (Numbers 𝓤 H (𝓖 .A) (𝓜 .mem) (𝓡 .run)) 𝓜 𝓡 code.env #numbered k-def.routine code.calls-sneupelaar·numbered
     (k-thm.met 𝓤 H 𝓜 𝓖 𝓡)))

@@ -1,0 +1,2 @@
+-- What the contracts of `sneupelaar` cite beside `rules` and `pool`.
+pub mod HandedOut
