@@ -85,7 +85,8 @@ pub fn heads_of(
     while i < n {
         let area = hour::area_of(file, i);
         let price = head.prices[area];
-        heads = posted(file, i, member, price, deviations[i], shares[i], heads);
+        let with_record = posted(file, i, member, price, deviations[i], shares[i], heads);
+        heads = with_record;
         i += 1;
     }
     heads
@@ -93,14 +94,24 @@ pub fn heads_of(
 
 // ---- the head that decided
 
+// Both above zero, or both below.
+fn same_sign(charge: i64, head: i64) -> bool
+    ensures { λ r. ⌜ r ≡ Explanation.sameSign charge head ⌝ }
+{
+    if 0 < charge {
+        return 0 < head;
+    }
+    if charge < 0 {
+        return head < 0;
+    }
+    false
+}
+
 // A head's size if it has the charge's sign, 0 if not: then it is never the largest.
 fn weight(charge: i64, head: i64) -> u64
     ensures { λ r. ⌜ r ≡ weightOf charge head ⌝ }
 {
-    if 0 < charge && 0 < head {
-        return sign::size_of(head);
-    }
-    if charge < 0 && head < 0 {
+    if same_sign(charge, head) {
         return sign::size_of(head);
     }
     0

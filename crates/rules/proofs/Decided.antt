@@ -2,7 +2,7 @@
 -- Document 02, A5.
 use mathlib.Core.Path.{_≡_, refl, sym, _∙_, ap, subst}
 use mathlib.Core.Logic.{_↔_}
-use mathlib.Core.Bool.{true, false, _&&_}
+use mathlib.Core.Bool.{true, false, _&&_, and-false}
 use mathlib.Core.Option.{Option, none, some}
 use mathlib.Core.List.{List}
 use Prim.Native.Nat.{ℕ, zero, suc, _+_, _/_, _<_}
@@ -33,6 +33,13 @@ below-only y z below e = ltZ-no (rw (rw below at (neither (ltZ (pos 0) y && ltZ 
 zero-has-none : (z : ℤ) → sameSign (pos 0) z ≡ false
 unfolding sameSign
 zero-has-none z = refl
+
+-- a number that has a sign has a size
+pub sign-has-size : (y z : ℤ) → sameSign y z ≡ true → 0 < natAbs z
+unfolding sameSign
+sign-has-size y (pos zero) e = never e (rw (and-false (ltZ (pos 0) y), and-false (ltZ y (pos 0))) refl)
+sign-has-size y (pos (suc n)) e = omega arith
+sign-has-size y (negsuc n) e = omega arith
 
 -- five numbers of which none is above zero, or none below
 none-above : (a b c d e : ℤ) → a ≤ℤ pos 0 → b ≤ℤ pos 0 → c ≤ℤ pos 0 → d ≤ℤ pos 0 → e ≤ℤ pos 0 →

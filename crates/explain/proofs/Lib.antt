@@ -1,0 +1,4 @@
+-- What the proofs of `explain` share.
+pub mod Signs
+pub mod Posting
+pub mod Search
