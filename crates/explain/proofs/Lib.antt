@@ -2,3 +2,4 @@
 pub mod Signs
 pub mod Posting
 pub mod Search
+pub mod Answers

@@ -80,9 +80,9 @@ module _ (s : List ℕ) where
   unfolding explanation
   explanation-refused r = rw (ne-eqb (verdict (askedRows s) .number) 0 r) refl
 
-  pub too-few : length s < 4 → verdict (askedRows s) ≡ refusedAt 1 0
-  unfolding askedRows verdict
-  too-few l = rw (lt-ltb (length s) 4 l) refl
+  pub too-few-bytes : length s < 4 → explanation s ≡ refusedLine (refusedAt 1 0)
+  unfolding explanation askedRows verdict
+  too-few-bytes l = rw (lt-ltb (length s) 4 l) refl
 
   pub four-bytes : 4 ≤ length s → verdict (askedRows s) ≡ verdict (explainRows (hourAsked s) (memberAsked s))
   unfolding askedRows verdict
