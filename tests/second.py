@@ -28,6 +28,7 @@ FIRST_BODY_WORD = 8
 RECORD_WORDS = 12
 RECORDS_IN_A_BLOCK = 10
 HEAD_WORDS = 120
+MOST_MEMBERS = 32
 MOST_RECORDS = 250
 
 UNITS_IN_A_KWH = 10_000
@@ -51,7 +52,7 @@ BLOCKS_ASKED_FOR = (*range(MOST_BLOCKS + 1), 2**55, 2**64 - 1)
 
 # The members that program `explained` asks about, if not told otherwise: all that an hour can have and the two numbers after them, and
 # some whose last bytes are a member's.
-MEMBERS_ASKED_FOR = (*range(34), 255, 256, 2**31, 2**32 - 1)
+MEMBERS_ASKED_FOR = (*range(MOST_MEMBERS + 2), 255, 256, 2**31, 2**32 - 1)
 
 GENERATOR, REAL_TIME_LOAD, PROFILE_LOAD, IMPORT, EXPORT = 1, 2, 3, 4, 5
 LOADS = (REAL_TIME_LOAD, PROFILE_LOAD)
