@@ -26,13 +26,8 @@ LEAST_CHARGED = 500
 Made = namedtuple("Made", "name data expected")
 
 
-def question(member, file):
-    """The input of program `explanation`."""
-    return struct.pack("<I", member) + file
-
-
 def asked(name, member, file, expected):
-    return Made(name, question(member, file), expected)
+    return Made(name, hours.question(member, file), expected)
 
 
 # ---- Hours of chosen heads

@@ -555,10 +555,14 @@ def explanation_text(answer):
 
 
 def explained(data, members=MEMBERS_ASKED_FOR):
-    """What explaining answers about each of these members, a line each, as program `explained` prints it: the head that decided as its
-    number from 1, and 0 for none."""
+    """What explaining answers about each of these members, as program `explained` prints it."""
+    return explained_text(dict(zip(members, explain(data, members))))
+
+
+def explained_text(answers):
+    """A line for each member: the answer, its heads, and the head that decided as its number from 1, or 0 for none."""
     lines = []
-    for member, answer in zip(members, explain(data, members)):
+    for member, answer in answers.items():
         heads = " ".join(str(answer.heads[head]) for head in HEADS)
         decided = (NO_HEAD, *HEADS).index(answer.decided)
         lines.append(f"member {member} answer {answer.number} at {answer.place} heads {heads} decided {decided}\n")
