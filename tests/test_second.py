@@ -1026,21 +1026,26 @@ class Noticing(unittest.TestCase):
                 program.chmod(0o755)
             yield Path(folder)
 
+    @staticmethod
+    def two_members():
+        """All hours have two members, so that few programs are started for them."""
+        return mock.patch.object(hours, "ROUND", [hours.honest(hours.printed_case)])
+
     def test_right_programs(self):
         with self.stand_ins() as folder:
-            status, said = self.run_compare("--hours", 6, "--amounts", 2_500, "--programs", folder,
+            status, said = self.run_compare("--hours", 3, "--amounts", 2_500, "--programs", folder,
                                             "--save", folder / "saved")
             self.assertEqual((status, (folder / "saved").exists()), (0, False), said)
-            self.assertIn("6 hours of seed 1 against the second program: every byte agreed", said)
-            self.assertIn("6 questions of seed 1 against the second program: every byte agreed", said)
-            self.assertIn("6 hours to write of seed 1 against the second program: every byte agreed", said)
+            self.assertIn("3 hours of seed 1 against the second program: every byte agreed", said)
+            self.assertIn("3 questions of seed 1 against the second program: every byte agreed", said)
+            self.assertIn("3 hours to write of seed 1 against the second program: every byte agreed", said)
             self.assertIn("2500 amounts of seed 1 against the second program: every byte agreed", said)
             self.assertNotIn("passed", said)
 
     def test_a_wrong_program(self):
         wrong = slipped("loads added")
         for name in ("statement", "settled"):
-            with self.stand_ins(**{name: wrong}) as folder:
+            with self.stand_ins(**{name: wrong}) as folder, self.two_members():
                 status, said = self.run_compare("--hours", 3, "--programs", folder, "--save", folder / "saved")
                 self.assertEqual(status, 1, said)
                 self.assertIn("---- second program wrote:", said)
@@ -1053,8 +1058,7 @@ class Noticing(unittest.TestCase):
         """It is noticed in the members of an hour, and in a question."""
         for name, slip, kind in (("explanation", "minus left out", "explanation"), ("explained", "loads added", "explained"),
                                  ("explanation", "a tie to the later head", "question"), ("explained", "a tie to the later head", "question")):
-            with self.stand_ins(**{name: slipped(slip, QUESTION_SLIPS)}) as folder, \
-                    mock.patch.object(hours, "ROUND", [hours.honest(hours.printed_case)]), \
+            with self.stand_ins(**{name: slipped(slip, QUESTION_SLIPS)}) as folder, self.two_members(), \
                     mock.patch.object(questions, "ROUND", [questions.tie_of(("load", "import"), 1)]):
                 status, said = self.run_compare("--hours", 1, "--programs", folder, "--save", folder / "saved")
                 self.assertEqual(status, 1, said)
@@ -1064,7 +1068,7 @@ class Noticing(unittest.TestCase):
     def test_a_program_that_writes_hours_wrong(self):
         wrong = slipped("word 2 of the last block ten", WRITING_SLIPS)
         for name in ("write_hour", "written"):
-            with self.stand_ins(**{name: wrong}) as folder:
+            with self.stand_ins(**{name: wrong}) as folder, self.two_members():
                 status, said = self.run_compare("--hours", 4, "--programs", folder, "--save", folder / "saved")
                 self.assertEqual(status, 1, said)
                 self.assertIn("bytes, from byte ", said)
@@ -1085,7 +1089,8 @@ class Noticing(unittest.TestCase):
 
     def test_a_program_that_ends_badly(self):
         for ending in ("\n    sys.exit(3)\n", "\n    print('oh', file=sys.stderr)\n"):
-            with self.stand_ins(statement=SECOND + ending, write_hour=SECOND + ending, amounts=SECOND + ending) as folder:
+            wrong = dict.fromkeys(("statement", "explanation", "write_hour", "amounts"), SECOND + ending)
+            with self.stand_ins(**wrong) as folder, self.two_members():
                 for what in ("--hours", "--amounts"):
                     status, said = self.run_compare(what, 2, "--programs", folder, "--save", folder / "saved")
                     self.assertEqual(status, 1, said)
