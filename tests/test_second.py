@@ -1234,12 +1234,19 @@ class Pages(unittest.TestCase):
                     charge, final = (second.column(each).decode() for each in cents)
                     text += f"member {member} records {records} grains {amount} charge {charge} final {final}\n"
             self.assertEqual((folder / "expected" / f"{name}.txt").read_text(), text)
-        for name in ("printed", "write"):
+        for name in ("printed", "explain", "write"):
             printed = (folder / "expected" / f"{name}.txt").read_text()
             self.assertIn("".join(f"    {line}\n" for line in printed.splitlines()), (folder / "README.md").read_text())
         charges = "".join(f"member {member} charge {charge}\n" for member, charge in enumerate(
             second.settle((ROOT / "examples" / "printed.hour").read_bytes()).charges[:2]))
         self.assertEqual((folder / "expected" / "write.txt").read_text(), "answer 0 at 0 length 1024\nsettled 0 at 0\n" + charges)
+
+    def test_the_example_in_c_that_explains(self):
+        for name, hour, member in (("explain", "printed", 1), ("explain-two-zones", "two-zones", 3), ("explain-nothing", "two-zones", 4)):
+            answer = second.explain((ROOT / "examples" / f"{hour}.hour").read_bytes(), [member])[0]
+            *lines, decided = second.explanation_text(answer).splitlines(True)
+            self.assertEqual((ROOT / "examples" / "c" / "expected" / f"{name}.txt").read_bytes(),
+                             b"".join([b"answer 0 at 0\n", *lines, b"amount %d\n" % sum(answer.heads.values()), decided]))
 
     def test_the_refusals_that_examples_tell_of(self):
         make = load_script(ROOT / "examples" / "make.py")
