@@ -1282,6 +1282,13 @@ class Pages(unittest.TestCase):
         statement = second.statement((ROOT / "examples" / "neutrality.hour").read_bytes()).decode()
         self.assertIn(f"```\n{statement}```\n", (ROOT / "docs" / "FORMAT.md").read_text())
 
+    def test_the_explanation_of_the_format(self):
+        data = (ROOT / "examples" / "two-zones.hour").read_bytes()
+        page = (ROOT / "docs" / "FORMAT.md").read_text()
+        self.assertIn(f"```\n{second.explanation(hours.question(3, data)).decode()}```\n", page)
+        settled = second.settle(data)
+        self.assertIn(f"{self.printed(settled.lines[3][0])} grains, which is a charge of {self.printed(settled.charges[3])} cents", page)
+
     def test_stored_amounts(self):
         folder = HERE / "archive"
         self.assertEqual(second.amounts((folder / "amounts.in").read_bytes()), (folder / "amounts.out").read_bytes())
