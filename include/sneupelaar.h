@@ -119,8 +119,8 @@ sneupelaar_settled sneupelaar_settle(const uint8_t *file, size_t file_length, sn
 /* Explains a member's charge. Nothing is written but the result.
  *
  * Accepted: heads are the member's exact grains under each head as they enter its amount, so that loads and exports are taken off, and add
- * up to it. decided is the head that decided: of those with the sign of the charge, which is the amount rounded to cents, the one largest in
- * size, on a tie the first. It is 0 exactly where the charge is 0.
+ * up to it. decided is the head that decided: of those with the sign of the charge, which is the amount rounded to cents, the one largest
+ * in size, on a tie the first. It is 0 exactly where the charge is 0.
  *
  * Refused (1 to 7, 12, 13): heads are all 0, and decided is 0. 13 is answered where the member's number isn't below the hour's members and
  * settling would accept the hour. */

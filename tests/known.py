@@ -272,8 +272,8 @@ def of_members():
 
 
 def of_examples():
-    """Both members of the printed case, at 5,000 cents a MWh. The generator of member 0 deviates by 10,000 x (1,000 - 900) = 1,000,000 units,
-    the load of member 1 by 10,000 x (1,000 - 870) = 1,300,000, which are taken off; its share is all of the UFE, 300,000 units.
+    """Both members of the printed case, at 5,000 cents a MWh. The generator of member 0 deviates by 10,000 x (1,000 - 900) = 1,000,000
+    units, the load of member 1 by 10,000 x (1,000 - 870) = 1,300,000, which are taken off; its share is all of the UFE, 300,000 units.
     And of two-zones and neutrality, whose pages in examples/ work the amounts out record by record."""
     printed, two_zones, neutrality = ((EXAMPLES / f"{name}.hour").read_bytes() for name in ("printed", "two-zones", "neutrality"))
     texts = {printed: [explanation("generation", generation=5_000_000_000),

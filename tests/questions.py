@@ -1,9 +1,9 @@
 """A maker of questions: a member's number and an hour (document 02, A5).
 
 `made(seed, index)` is the index-th of an endless list that takes every maker below in turn. Most questions are about an hour in which the
-kWh under each of the asked member's heads are chosen: ties, heads of either sign, amounts that are charged as nothing. Others have hours of
-tests/hours.py, honest and damaged, numbers that are no member's, and inputs too short or too long. Where the maker knows the answer from the
-way the question was made, it says so. SIDES names what a few hundred of them must reach.
+kWh under each of the asked member's heads are chosen: ties, heads of either sign, amounts that are charged as nothing. Others have hours
+of tests/hours.py, honest and damaged, numbers that are no member's, and inputs too short or too long. Where the maker knows the answer from
+the way the question was made, it says so. SIDES names what a few hundred of them must reach.
 """
 
 import itertools
@@ -76,8 +76,8 @@ def about(rng, name, price, kwh, expected):
     return asked(name, member, hour.encode(), expected)
 
 
-def with_heads(rng, chosen, others):
-    """The kWh of each head: those that are chosen by name, and for each other one of what `others` makes."""
+def with_heads(chosen, others=lambda: 0):
+    """The kWh of each head: those that are chosen by name, and for each other one what `others` makes."""
     return [chosen[head] if head in chosen else others() for head in HEADS]
 
 
@@ -100,7 +100,7 @@ def deciding(name, chosen, way):
         while True:
             price, most = some_price(rng), rng.randint(2, 9_000)
             turn = way if price > 0 else -way
-            kwh = with_heads(rng, dict.fromkeys(chosen, turn * most), lambda: turn * rng.choice([0, rng.randint(-2 * most, most - 1)]))
+            kwh = with_heads(dict.fromkeys(chosen, turn * most), lambda: turn * rng.choice([0, rng.randint(-2 * most, most - 1)]))
             if charged(price, kwh) == way:
                 return about(rng, name, price, kwh, chosen[0])
     return make
@@ -120,7 +120,7 @@ def larger_with_the_other_sign(rng):
         one, two, other = rng.sample(HEADS, 3)
         price, most = some_price(rng), rng.randint(2_000, 20_000)
         way = rng.choice(BOTH_WAYS)
-        kwh = with_heads(rng, {one: way * most, two: way * (most - 1), other: -way * rng.randint(most + 1, most + most // 2)}, lambda: 0)
+        kwh = with_heads({one: way * most, two: way * (most - 1), other: -way * rng.randint(most + 1, most + most // 2)})
         if charged(price, kwh) == (way if price > 0 else -way):
             return about(rng, "larger_with_the_other_sign", price, kwh, one)
 
@@ -132,7 +132,7 @@ def within_a_cent(rng):
     while cents(price, most) != cents(price, most + 1):
         most += 1
     way = rng.choice(BOTH_WAYS)
-    return about(rng, "within_a_cent", price, with_heads(rng, {one: way * most, two: way * (most + 1)}, lambda: 0), two)
+    return about(rng, "within_a_cent", price, with_heads({one: way * most, two: way * (most + 1)}), two)
 
 
 def cents(price, kwh):
@@ -145,14 +145,14 @@ def half_a_cent(rng):
     price = rng.choice([1, -1, 500, -500, 250, -4])
     way, most = rng.choice(BOTH_WAYS), rng.randint(1_000, 9_000)
     one, two = rng.sample(HEADS, 2)
-    kwh = with_heads(rng, {one: way * (most + LEAST_CHARGED // abs(price)), two: -way * most}, lambda: 0)
+    kwh = with_heads({one: way * (most + LEAST_CHARGED // abs(price)), two: -way * most})
     return about(rng, "half_a_cent", price, kwh, one)
 
 
 def anothers_share(rng):
     """A load and some share of UFE, which did not decide, beside a member with far more UFE."""
     price, way = some_price(rng), rng.choice(BOTH_WAYS)
-    kwh = with_heads(rng, {"load": way * rng.randint(5_000, 9_000), "share": way * rng.randint(0, 4_000)}, lambda: 0)
+    kwh = with_heads({"load": way * rng.randint(5_000, 9_000), "share": way * rng.randint(0, 4_000)})
     hour, member = hour_of(rng, price, kwh)
     other = rng.choice([each for each in range(hour.members - 1) if each != member])
     hour.areas[other][0] = hour.areas[member][0]
@@ -169,14 +169,15 @@ def charged_as_nothing(way):
         over = rng.choice([1, (LEAST_CHARGED - 1) // abs(price)]) * (way if price > 0 else -way)
         one, two, three = rng.sample(HEADS, 3)
         most, some = rng.choice([0, rng.randint(1, 9_000)]), rng.choice([0, rng.randint(-9_000, 9_000)])
-        return about(rng, "charged_as_nothing", price, with_heads(rng, {one: over + most - some, two: some, three: -most}, lambda: 0), "none")
+        kwh = with_heads({one: over + most - some, two: some, three: -most})
+        return about(rng, "charged_as_nothing", price, kwh, "none")
     return make
 
 
 def heads_that_cancel(rng):
     one, two = rng.sample(HEADS, 2)
     most = rng.randint(1, 9_000)
-    return about(rng, "heads_that_cancel", some_price(rng), with_heads(rng, {one: most, two: -most}, lambda: 0), "none")
+    return about(rng, "heads_that_cancel", some_price(rng), with_heads({one: most, two: -most}), "none")
 
 
 def price_of_nothing(rng):
@@ -222,10 +223,10 @@ FAULTS = {1: hours.LENGTH_FAULTS, 2: hours.SUM_FAULTS, 3: hours.LAYOUT_FAULTS, 4
 
 
 def refused_before_13(number):
-    """An hour that is refused, and no member of it: the count that it states, or a number that no hour has."""
+    """An hour that is refused, and no member of it: the count that it states, where that is right, or a number that no hour has."""
     def make(rng):
         made = hours.damaged(rng, (rng.choice(FAULTS[number]),))
-        count = members_in(made.data) if number in (2, 5, 6, 12) else 32
+        count = members_in(made.data) if number > 4 else 32
         return asked(f"no member, {made.name}", max(count, rng.choice([1, 32, 256, 2**32 - 1])), made.data, made.expected)
     return make
 
@@ -310,7 +311,7 @@ class Reached:
 
     def no_member(self):
         """Whether 13 is due, as far as a refused hour tells: from row 5 on its member count is right."""
-        return self.bytes > 4 and (self.member >= 32 or self.number in (5, 6, 12) and self.member >= self.stated)
+        return self.bytes >= 4 and self.member >= (self.stated if self.number > 4 else 32)
 
 
 ANSWERS = {"explained": 0, **{f"refused {number}": number for number in (*FAULTS, 13)}}

@@ -1,7 +1,6 @@
 """What the built programs answer where the answer is known by hand, without the second program.
 
-    python3 -m unittest tests/test_known.py       # `statement`, `explanation` and `write_hour` from target/bin; the programs of tests/archive
-                                                  # are made
+    python3 -m unittest tests/test_known.py       # programs from target/bin; those of tests/archive are made
 
 The files of tests/known.py, the printed case, an hour with finals of its own and one with an import in buffers of several lengths, members
 to be explained, hours to be written, and text amounts, document 01's figures among them.

@@ -3,7 +3,8 @@
     python3 -m unittest tests/test_second.py
 
 Document 01's own figures and printed case, every refusal, text amounts, the three bounds of demand 3 with
-exact fractions, document 02's finals, explanations, hour files that are written and imports, and that tests/compare notices a wrong program.
+exact fractions, document 02's finals, explanations, hour files that are written and imports, and that tests/compare notices a wrong
+program.
 """
 
 import contextlib
@@ -286,6 +287,8 @@ class Refusals(unittest.TestCase):
         self.assertEqual(answer(nobody_demands), (12, 0))
         with mock.patch.object(second, "MOST_GRAINS", 9_999_999):
             self.assertEqual(answer(nobody_demands), (7, 1))
+            for member in (0, 2):
+                self.assertEqual(second.explanation(hours.question(member, nobody_demands.encode())), b"refused 7 at 1\n")
 
 
 class TextAmounts(unittest.TestCase):
@@ -899,8 +902,9 @@ QUESTION_SLIPS = {
     "13 before 6 and 12": (
         REFUSED_FIRST,
         "return [not_explained(Refused(13) if refused.number > 5 and each >= words_in(data)[9] else refused) for each in members]"),
-    "13 after 12 left out": ("figures = work_out(hour)\n    except Refused as refused:\n        return [not",
-                             "figures = work_out_charges(hour)\n    except Refused as refused:\n        return [not"),
+    "no refusal 12": (
+        "figures = work_out(hour)\n    except Refused as refused:\n        return [not",
+        "figures = work_out_charges(hour)\n    except Refused as refused:\n        return [not"),
     "13 missing for the member count": (NO_MEMBER, NO_MEMBER.replace("13", 'member != hour["members"] and 13')),
     "13 for the last member": ('if member < hour["members"] else', 'if member < hour["members"] - 1 else'),
     "13 at the number": (NO_MEMBER, NO_MEMBER.replace("13", "13, member")),
@@ -910,7 +914,7 @@ QUESTION_SLIPS = {
     "the member number from three bytes": ("data[:MEMBER_BYTES], ", "data[:3], "),
     "under four bytes nothing": (UNDER_FOUR, '        return b""\n    member'),
     "under four bytes refused as 13": (UNDER_FOUR, UNDER_FOUR.replace("1)", "13)")),
-    "four bytes alone a question": ("len(data) < MEMBER_BYTES", "len(data) <= MEMBER_BYTES", UNDER_FOUR, '        return b""\n    member'),
+    "four bytes alone nothing": ("len(data) < MEMBER_BYTES", "len(data) <= MEMBER_BYTES", UNDER_FOUR, '        return b""\n    member'),
     "minus left out": (LINE, LINE.replace("answer.heads[head]", "abs(answer.heads[head])")),
     "plus before what is positive": (LINE, LINE.replace("head]}", "head]:+}")),
     "zero as -0": (LINE, LINE.replace("head]}", "head] or '-0'}")),
@@ -1056,8 +1060,9 @@ class Noticing(unittest.TestCase):
 
     def test_a_program_that_explains_wrong(self):
         """It is noticed in the members of an hour, and in a question."""
+        tie = "a tie to the later head"
         for name, slip, kind in (("explanation", "minus left out", "explanation"), ("explained", "loads added", "explained"),
-                                 ("explanation", "a tie to the later head", "question"), ("explained", "a tie to the later head", "question")):
+                                 ("explanation", tie, "question"), ("explained", tie, "question")):
             with self.stand_ins(**{name: slipped(slip, QUESTION_SLIPS)}) as folder, self.two_members(), \
                     mock.patch.object(questions, "ROUND", [questions.tie_of(("load", "import"), 1)]):
                 status, said = self.run_compare("--hours", 1, "--programs", folder, "--save", folder / "saved")

@@ -1,8 +1,8 @@
 /* Explains a member's charge through the C library:   explain MEMBER [FILE]   without a file's name it reads standard input.
  *
  * Prints the answer's number and place, then for a member of an accepted hour its exact amount in grains under each head, their sum, and
- * the head that decided. Exits with 0 where the hour is accepted and has the member, 1 where it is refused, 2 where MEMBER is no number, the
- * hour can't be read or the result can't be printed. */
+ * the head that decided. Exits with 0 where the hour is accepted and has the member, 1 where it is refused, 2 where MEMBER is no number,
+ * the hour can't be read or the result can't be printed. */
 #include <stdint.h>
 #include <stdio.h>
 #include <stdlib.h>

@@ -1,5 +1,5 @@
 /* harness.c: tries the archive's functions from C.
-     harness CASES SEED               that many cases: a call each of settle, write, read, write_hour and explain, and body at every position
+     harness CASES SEED               that many cases: a call each of settle, write, read, write_hour, explain, and body at every position
      harness lie BUFFER SIDE          a caller that lies about a buffer: the protected pages must end it (status 3)
      harness spoiled FAULT CASES SEED settling, explaining or writing an hour with a fault put in: the cases must end it (status 3 or 4)
    Status 0: all as by hand, and every answer that can occur was seen; 1: not every one was seen; 2: not called as above. */

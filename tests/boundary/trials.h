@@ -5,8 +5,8 @@
 
 #include "sneupelaar.h"
 
-/* How often each number was answered by settling, by explaining, by writing an hour, and by writing and reading an amount, and how often the
-   block reader was asked. */
+/* How often each number was answered by settling, by explaining, by writing an hour, and by writing and reading an amount, and how often
+   the block reader was asked. */
 enum { NUMBERS = 14 };
 extern struct seen {
     unsigned long settled[NUMBERS], explained[NUMBERS], hours_written[NUMBERS], written[NUMBERS], read[NUMBERS], bodies;
