@@ -1062,7 +1062,7 @@ class Noticing(unittest.TestCase):
         """It is noticed in the members of an hour, and in a question."""
         tie = "a tie to the later head"
         for name, slip, kind in (("explanation", "minus left out", "explanation"), ("explained", "loads added", "explained"),
-                                 ("explanation", tie, "question"), ("explained", tie, "question")):
+                                 ("explanation", tie, "question"), ("explained", tie, "asked")):
             with self.stand_ins(**{name: slipped(slip, QUESTION_SLIPS)}) as folder, self.two_members(), \
                     mock.patch.object(questions, "ROUND", [questions.tie_of(("load", "import"), 1)]):
                 status, said = self.run_compare("--hours", 1, "--programs", folder, "--save", folder / "saved")
