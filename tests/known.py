@@ -271,6 +271,21 @@ def of_members():
         yield name, text, hours.question(member, data)
 
 
+def of_digits():
+    """As many digits as a head can have: 249 generators that each deviate by 100,000 x 20,000 + 100,000 x 20,000 + 10,000 x 100,000 units,
+    which are 5,000,000,000, at 1,000,000 cents a MWh; the load took what was planned. And as few: at a cent a MWh a unit is a grain, and an
+    import that was scheduled nothing deviates by J x H, here by 9, -9, 10 and -10 units."""
+    generator = hours.record(hours.GENERATOR, 0, 0, S=100_000, J=100_000, N=100_000, F=20_000, H=20_000)
+    load = hours.record(hours.PROFILE_LOAD, 0, 0, S=1, A=1)
+    for price, grains in ((1_000_000, 1_245_000_000_000_000_000), (-1_000_000, -1_245_000_000_000_000_000)):
+        hour = hours.Hour(7, 1, [price], [[0, 1, 0]], [generator] * 249 + [load])
+        yield f"grains-{grains}", explanation("generation", generation=grains), hours.question(0, hour.encode())
+    few = ((1, 9), (-1, 9), (1, 10), (-1, 10))
+    hour = hours.Hour(7, 4, [1], [[0, 0, 0]], [hours.record(hours.IMPORT, member, 0, J=j, F=1, H=h) for member, (j, h) in enumerate(few)])
+    for member, (j, h) in enumerate(few):
+        yield f"grains-{j * h}", explanation("none", imported=j * h), hours.question(member, hour.encode())
+
+
 def of_examples():
     """Both members of the printed case, at 5,000 cents a MWh. The generator of member 0 deviates by 10,000 x (1,000 - 900) = 1,000,000
     units, the load of member 1 by 10,000 x (1,000 - 870) = 1,300,000, which are taken off; its share is all of the UFE, 300,000 units.
@@ -308,4 +323,4 @@ def of_refused():
 
 
 def cases_to_explain():
-    return itertools.chain(of_members(), of_examples(), of_numbers(), of_refused())
+    return itertools.chain(of_members(), of_digits(), of_examples(), of_numbers(), of_refused())

@@ -189,6 +189,28 @@ def without_records(rng):
     return asked("without_records", hour.members - 1, hour.encode(), "none")
 
 
+# ---- Numbers of many digits, and of few
+
+def largest_head(way):
+    """Nineteen digits: 249 generators, each of which deviates as far as one can, at the highest price."""
+    def make(rng):
+        generator = record(GENERATOR, 0, 0, S=100_000, J=100_000, N=100_000, F=20_000, H=20_000)
+        load = record(rng.choice(LOADS), 0, 0, S=1, A=1)
+        hour = hours.Hour(rng.randrange(10_000), 1, [way * hours.MOST_PRICE], [[0, 1, 0]], [generator] * 249 + [load])
+        return asked("largest_head", 0, hour.encode(), "generation")
+    return make
+
+
+def few_grains(way, most):
+    """A unit at a cent a MWh is a grain. An import that was scheduled nothing deviates by its adjustment times H, and loses nothing."""
+    def make(rng):
+        units = rng.choice([1, most, rng.randint(1, most)])
+        hour = hours.Hour(rng.randrange(10_000), 3, [1], [[0, 0, 0]],
+                          [record(IMPORT, 1, 0, J=way, F=1, H=units), record(EXPORT, 2, 0, A=rng.randint(0, 9))])
+        return asked("few_grains", 1, hour.encode(), "none")
+    return make
+
+
 # ---- Hours of tests/hours.py, and numbers that are no member's
 
 def members_in(data):
@@ -253,6 +275,7 @@ def a_byte_too_many(rng):
 ROUND = ([decided_by(head, way) for head in HEADS for way in BOTH_WAYS] + [tie_of(pair, way) for pair in PAIRS for way in BOTH_WAYS]
          + [tie_of(HEADS, way) for way in BOTH_WAYS] + [larger_with_the_other_sign, within_a_cent, half_a_cent, anothers_share] * 2
          + [charged_as_nothing(way) for way in BOTH_WAYS] * 2 + [heads_that_cancel, price_of_nothing, without_records]
+         + [largest_head(way) for way in BOTH_WAYS] + [few_grains(way, most) for way in BOTH_WAYS for most in (9, 10, 1_000)]
          + [any_member(hours.honest(maker)) for maker in hours.HONEST] + [any_member(hours.two_faults), any_member(hours.scattered)]
          + list(itertools.starmap(no_member, NO_MEMBERS)) + [refused_before_13(number) for number in FAULTS]
          + [first_bytes(count) for count in (0, 1, 2, 3, 4, 5, 515)] + [no_number, a_byte_too_many])
@@ -323,6 +346,10 @@ SIDES = {
     "decided by less than a cent": Reached.otherwise_in_cents,
     "another member's shares would decide otherwise": lambda r: any(map(r.otherwise_with_share, r.shares)),
     "all members' shares would decide otherwise": lambda r: r.otherwise_with_share(sum(r.shares)),
+    "19 digits, above 0": lambda r: max(r.heads.values()) >= 10**18,
+    "19 digits, below 0": lambda r: min(r.heads.values()) <= -10**18,
+    "one digit, above 0": lambda r: any(0 < grains < 10 for grains in r.heads.values()),
+    "one digit, below 0": lambda r: any(-10 < grains < 0 for grains in r.heads.values()),
     "charged for half a cent": lambda r: r.explained and abs(r.amount) == second.GRAINS_IN_A_CENT // 2,
     "none, amount above 0": lambda r: r.explained and r.charge == 0 and r.amount > 0,
     "none, amount below 0": lambda r: r.explained and r.charge == 0 and r.amount < 0,
