@@ -1,7 +1,8 @@
 /* bench.c: what the bench counts.
      bench FOLDER WHAT WHO ROUNDS   WHAT: full (writes that hour of the folder, taken apart, once a round), write, read (1,000 amounts a
-                                    round), or another hour of the folder, which is settled once a round; WHO: rattle (the archive) or
-                                    hand. Prints a sum of what was answered, which both have alike
+                                    round), explained- before an hour of the folder (explains a member of it once a round), or another
+                                    hour of the folder, which is settled once a round; WHO: rattle (the archive) or hand. Prints a sum of
+                                    what was answered, which both have alike
      bench FOLDER WHAT WHO stack    prints how many bytes of stack a round takes */
 #include <stdio.h>
 #include <stdlib.h>
@@ -10,7 +11,8 @@
 #include "hand.h"
 #include "paint.h"
 
-enum { AMOUNTS = 1000, WIDTH = 14 };
+enum { AMOUNTS = 1000, WIDTH = 14, MEMBER = 7 };
+static const char explained[] = "explained-";
 
 static uint8_t file[SNEUPELAAR_MOST_BYTES];
 static size_t file_length;
@@ -62,13 +64,20 @@ static void take_apart(void)
 }
 
 /* Every function of the archive and its twin by hand is called from the same text. */
-#define ROUNDS_OF(who, settle, write_hour, write, read)                                                                           \
+#define ROUNDS_OF(who, settle, explain, write_hour, write, read)                                                                  \
     static void settle_##who(void)                                                                                                \
     {                                                                                                                             \
         sneupelaar_settled settled = settle(file, file_length, lines, SNEUPELAAR_MOST_MEMBERS, charges, SNEUPELAAR_MOST_MEMBERS, \
             finals, SNEUPELAAR_MOST_MEMBERS, shares, SNEUPELAAR_MOST_RECORDS, deviations, SNEUPELAAR_MOST_RECORDS);               \
         sum += 1000 * settled.number + settled.place;                                                                             \
         sum += (uint64_t)(charges[0] + finals[1] + shares[49] + deviations[59] + lines[7].amount);                                \
+    }                                                                                                                             \
+    static void explain_##who(void)                                                                                               \
+    {                                                                                                                             \
+        sneupelaar_explained because = explain(file, file_length, MEMBER);                                                        \
+        sum += 1000 * because.number + because.place + 10 * because.decided;                                                      \
+        for (size_t head = 0; head < SNEUPELAAR_HEADS; head++)                                                                    \
+            sum += (uint64_t)because.heads[head] << head;                                                                         \
     }                                                                                                                             \
     static void write_hour_##who(void)                                                                                            \
     {                                                                                                                             \
@@ -87,13 +96,22 @@ static void take_apart(void)
             sum += (uint64_t)read(texts[at], WIDTH).amount;                                                                       \
     }
 
-ROUNDS_OF(rattle, sneupelaar_settle, sneupelaar_write_hour, sneupelaar_write, sneupelaar_read)
-ROUNDS_OF(hand, hand_settle, hand_write_hour, hand_write, hand_read)
+ROUNDS_OF(rattle, sneupelaar_settle, sneupelaar_explain, sneupelaar_write_hour, sneupelaar_write, sneupelaar_read)
+ROUNDS_OF(hand, hand_settle, hand_explain, hand_write_hour, hand_write, hand_read)
 
 typedef void round_of(void);
 
+/* The hour that an explanation is about; NULL where nothing is to be explained. */
+static const char *hour_explained(const char *what)
+{
+    size_t length = strlen(explained);
+    return strlen(what) > length && memcmp(what, explained, length) == 0 ? what + length : NULL;
+}
+
 static round_of *chosen(const char *what, int rattle)
 {
+    if (hour_explained(what) != NULL)
+        return rattle ? explain_rattle : explain_hand;
     if (strcmp(what, "full") == 0)
         return rattle ? write_hour_rattle : write_hour_hand;
     if (strcmp(what, "write") == 0)
@@ -110,7 +128,7 @@ int main(int count, char **words)
         return 2;
     }
     make_amounts(strcmp(words[2], "read") == 0);
-    read_hour(words[1], words[2]);
+    read_hour(words[1], hour_explained(words[2]) != NULL ? hour_explained(words[2]) : words[2]);
     take_apart();
     round_of *round = chosen(words[2], strcmp(words[3], "rattle") == 0);
     if (strcmp(words[4], "stack") == 0) {

@@ -20,7 +20,7 @@ counts_ready() {
         echo "bench: valgrind counts the instructions, and it is not installed" >&2
         exit 2
     fi
-    counts_archive=$(kit_archive pool)
+    counts_archive=$(kit_archive sneupelaar)
     mkdir -p "$counts_made"
     python3 "$counts_here/hours.py" "$counts_made"
     kit_compile "$counts_here/bench.c" "$counts_made/bench.o" -I "$counts_hand"
@@ -30,7 +30,7 @@ counts_ready() {
 
 counts_build() {
     local bench=$counts_made/$1 source objects=()
-    local sources=("$2" "$counts_hand"/{file,settle,write_hour,amount}.c)
+    local sources=("$2" "$counts_hand"/{file,settle,explain,write_hour,amount}.c)
     shift 2
     mkdir -p "$bench"
     for source in "${sources[@]}"; do

@@ -1,7 +1,8 @@
-/* The settlement library for programs in C and C++: link target/staticlib/libpool.a, which `rt staticlib pool` proves and makes.
+/* The settlement library for programs in C and C++: link target/staticlib/libsneupelaar.a, which
+ * `rt staticlib sneupelaar` proves and makes.
  *
  * Every function takes every input: any bytes, any numbers, any lengths. What it answers and what every buffer holds afterwards is proved
- * in crates/pool for each of them. That rests on what a call lends:
+ * in crates/sneupelaar for each of them. That rests on what a call lends:
  *   - A pointer and its length lend so many bytes or elements, which are readable, writable where the pointer isn't const, and aligned as
  *     C asks. With length 0 nothing is read or written, and the pointer may be null.
  *   - Buffers that one call lends don't overlap, and nothing else writes them while it runs.
@@ -25,29 +26,33 @@ extern "C" {
 #define SNEUPELAAR_MOST_RECORDS 250
 #define SNEUPELAAR_AREAS 8
 
+/* The heads of a member's amount, in this order: generation, load, import, export, share. */
+#define SNEUPELAAR_HEADS 5
+
 /* The words of a head, which is the body of an hour file's first block, and of a record. */
 #define SNEUPELAAR_HEAD_WORDS 120
 #define SNEUPELAAR_RECORD_WORDS 12
 
 /* An answer is a number and a place. Number 0 is acceptance, at place 0; any other is a refusal:
  *
- *   number  given by            what is wrong                                                            place
- *        1  settle              the file's length: 0, no multiple of 512, or more than 13,312            0
- *        1  write_hour          a length: no head of 120 words, no whole records, or more than 250       0
- *        2  settle              the 128 words of a block don't add up to 0 modulo 2^32                   the first such block
- *        3  settle              words 0 to 6 of a block, or something after its last record              the first such block
- *        4  settle, write_hour  a word of the head is out of its range                                   the first such word, 9 to 127
- *        5  settle, write_hour  a record's kind, member, area or another word is out of its range        the first such record
- *        6  settle              an area has unaccounted for energy (UFE) and no demand to share it over  the first such area
- *        7  settle              a member's exact amount is beyond 4*10^18 grains                         the first such member
- *        8  write               the amount is beyond 999,999,999,999 cents in size                       0
- *        9  write               the field is shorter than the amount's text                              0
- *       10  read                the field is not an amount's text                                        0
- *       11  settle, write_hour  a buffer is too short for the hour                                       0
- *       12  settle              nobody has demand, and the sum of all charges isn't 0                    0
+ *   number  given by                     what is wrong                                                        place
+ *        1  settle, explain              the file's length: 0, no multiple of 512, or more than 13,312        0
+ *        1  write_hour                   a length: no head of 120 words, no whole records, or more than 250   0
+ *        2  settle, explain              the 128 words of a block don't add up to 0 modulo 2^32               the first such block
+ *        3  settle, explain              words 0 to 6 of a block, or something after its last record          the first such block
+ *        4  settle, explain, write_hour  a word of the head is out of its range                               the first such word, 9 to 127
+ *        5  settle, explain, write_hour  a record's kind, member, area or another word is out of its range    the first such record
+ *        6  settle, explain              an area has unaccounted for energy (UFE) and no demand for it        the first such area
+ *        7  settle, explain              a member's exact amount is beyond 4*10^18 grains                     the first such member
+ *        8  write                        the amount is beyond 999,999,999,999 cents in size                   0
+ *        9  write                        the field is shorter than the amount's text                          0
+ *       10  read                         the field is not an amount's text                                    0
+ *       11  settle, write_hour           a buffer is too short for the hour                                   0
+ *       12  settle, explain              nobody has demand, and the sum of all charges isn't 0                0
+ *       13  explain                      the member's number isn't below the hour's members                   0
  *
- * Settling looks for 1 to 7 in this order, each over the whole file, then for 12, then for 11; writing an hour for 1, 4, 5, then 11;
- * writing an amount for 8, then 9. The first found is answered.
+ * Settling looks for 1 to 7 in this order, each over the whole file, then for 12, then for 11; explaining for 1 to 7, 12, then 13; writing
+ * an hour for 1, 4, 5, then 11; writing an amount for 8, then 9. The first found is answered.
  * Blocks, words of the head's block, records, areas and members count from 0. docs/FORMAT.md has the file's and the text's form. */
 
 /* A member's line. 16 bytes: amount at 0, records at 8, then 4 that are padding. */
@@ -68,6 +73,14 @@ typedef struct {
     uint64_t place;
     int64_t ufe[SNEUPELAAR_AREAS]; /* the UFE of each area, in 1/10,000 kWh */
 } sneupelaar_settled;
+
+/* 64 bytes: number at 0, place at 8, heads at 16, decided at 56. */
+typedef struct {
+    uint64_t number;
+    uint64_t place;
+    int64_t heads[SNEUPELAAR_HEADS]; /* the member's grains under each head: generation, load, import, export, share */
+    uint64_t decided;                /* the head that decided: 1 to 5 in that order, 0 for none */
+} sneupelaar_explained;
 
 /* 24 bytes: number at 0, place at 8, amount at 16. */
 typedef struct {
@@ -102,6 +115,16 @@ typedef struct {
 sneupelaar_settled sneupelaar_settle(const uint8_t *file, size_t file_length, sneupelaar_line *lines, size_t lines_length,
                                      int64_t *charges, size_t charges_length, int64_t *finals, size_t finals_length,
                                      int64_t *shares, size_t shares_length, int64_t *deviations, size_t deviations_length);
+
+/* Explains a member's charge. Nothing is written but the result.
+ *
+ * Accepted: heads are the member's exact grains under each head as they enter its amount, so that loads and exports are taken off, and add
+ * up to it. decided is the head that decided: of those with the sign of the charge, which is the amount rounded to cents, the one largest
+ * in size, on a tie the first. It is 0 exactly where the charge is 0.
+ *
+ * Refused (1 to 7, 12, 13): heads are all 0, and decided is 0. 13 is answered where the member's number isn't below the hour's members and
+ * settling would accept the hour. */
+sneupelaar_explained sneupelaar_explain(const uint8_t *file, size_t file_length, uint32_t member);
 
 /* Writes an hour file. Lengths are in words, and in bytes of the file. The head is words 8 to 127 of the first block; the records stand
  * one behind the other, twelve words each. docs/FORMAT.md says what each word means.

@@ -102,6 +102,11 @@ def to_bytes(blocks):
     return b"".join(struct.pack("<128I", *block) for block in blocks)
 
 
+def question(member, file):
+    """The input of program `explanation`: a member's number, and an hour file (document 02, A5)."""
+    return struct.pack("<I", member) + file
+
+
 # ---- Honest hours: each is accepted
 
 def printed_case(rng=None):

@@ -2,16 +2,20 @@
 several ranges, the longest file, the highest price, and two faults of which the table's order or the first place decides; from document
 02, A1: hours in which nobody takes anything, with refusal 12 and without; and from A3: imports whose word 4 isn't zero, and an hour with
 losses of one. And heads and records to be written (document 02, A2): those of these files, and inputs of lengths that are right and wrong.
+And members to be explained (A5): of the printed case and other hours that are worked by hand, and of these files.
 
 `cases()` gives each file's name, the first line of its statement, and its bytes; `cases_to_write()` each input's name, what program
-`write_hour` must write, and the input. No program had a part in those lines, and nothing here is left to chance, so that the files come out
-the same each time.
+`write_hour` must write, and the input; `cases_to_explain()` the same of program `explanation`. No program had a part in those lines, and
+nothing here is left to chance, so that the files come out the same each time.
 """
 
 import itertools
+from pathlib import Path
 
 import hours
 import to_write
+
+EXAMPLES = Path(__file__).resolve().parent.parent / "examples"
 
 
 # ---- Hours that keep every rule
@@ -224,3 +228,99 @@ def of_inputs():
 
 def cases_to_write():
     return itertools.chain(of_files(), of_counts(), of_inputs())
+
+
+# ---- Members to be explained (document 02, A5): name, what must be printed, input
+
+def explanation(decided, generation=0, load=0, imported=0, exported=0, share=0):
+    """The six lines; a head that is left out is 0."""
+    return f"generation {generation}\nload {load}\nimport {imported}\nexport {exported}\nshare {share}\ndecided {decided}\n"
+
+
+def heads_hour():
+    """Seven members and an area at a cent a kWh, so that a kWh is 10,000,000 grains and a unit 1,000.
+    UFE: 10,000 x (160 - 130) = 300,000 units, all to member 1's load, since nothing is generated and nothing imported is lost."""
+    def imported(member, j, h=10_000):
+        """Deviation: 0 - (0 - J) x H."""
+        return hours.record(hours.IMPORT, member, 0, J=j, F=10_000, H=h)
+
+    return hours.Hour(7, 7, [1_000], [[0, 160, 0]], [
+        hours.record(hours.EXPORT, 0, 0, A=30), imported(0, 30),
+        hours.record(hours.PROFILE_LOAD, 1, 0, S=100, A=130),
+        hours.record(hours.EXPORT, 2, 0, S=90), hours.record(hours.GENERATOR, 2, 0, S=40, F=10_000, H=10_000), imported(2, 60),
+        imported(3, 1, 4_999), imported(4, 1, 5_000), imported(5, -1, 5_000)])
+
+
+def of_members():
+    """Each member of that hour."""
+    data = heads_hour().encode()
+    texts = {
+        # 30 kWh of import and 30 of export over the plan: the first of equals
+        "tie-of-import-and-export": explanation("import", imported=300_000_000, exported=300_000_000),
+        # 30 kWh over the plan, and 30 of UFE
+        "tie-of-load-and-share": explanation("load", load=300_000_000, share=300_000_000),
+        # 40 and 60 kWh against 90 of export under the plan: 10 cents to pay, and the largest head is on the other side
+        "larger-with-the-other-sign": explanation("import", generation=400_000_000, imported=600_000_000, exported=-900_000_000),
+        # 4,999 units are under half a cent: charged as nothing
+        "none-with-an-amount": explanation("none", imported=4_999_000),
+        "half-a-cent": explanation("import", imported=5_000_000),
+        "minus-half-a-cent": explanation("import", imported=-5_000_000),
+        "none-without-records": explanation("none"),
+    }
+    for member, (name, text) in enumerate(texts.items()):
+        yield name, text, hours.question(member, data)
+
+
+def of_digits():
+    """As many digits as a head can have: 249 generators that each deviate by 100,000 x 20,000 + 100,000 x 20,000 + 10,000 x 100,000 units,
+    which are 5,000,000,000, at 1,000,000 cents a MWh; the load took what was planned. And as few: at a cent a MWh a unit is a grain, and an
+    import that was scheduled nothing deviates by J x H, here by 9, -9, 10 and -10 units."""
+    generator = hours.record(hours.GENERATOR, 0, 0, S=100_000, J=100_000, N=100_000, F=20_000, H=20_000)
+    load = hours.record(hours.PROFILE_LOAD, 0, 0, S=1, A=1)
+    for price, grains in ((1_000_000, 1_245_000_000_000_000_000), (-1_000_000, -1_245_000_000_000_000_000)):
+        hour = hours.Hour(7, 1, [price], [[0, 1, 0]], [generator] * 249 + [load])
+        yield f"grains-{grains}", explanation("generation", generation=grains), hours.question(0, hour.encode())
+    few = ((1, 9), (-1, 9), (1, 10), (-1, 10))
+    hour = hours.Hour(7, 4, [1], [[0, 0, 0]], [hours.record(hours.IMPORT, member, 0, J=j, F=1, H=h) for member, (j, h) in enumerate(few)])
+    for member, (j, h) in enumerate(few):
+        yield f"grains-{j * h}", explanation("none", imported=j * h), hours.question(member, hour.encode())
+
+
+def of_examples():
+    """Both members of the printed case, at 5,000 cents a MWh. The generator of member 0 deviates by 10,000 x (1,000 - 900) = 1,000,000
+    units, the load of member 1 by 10,000 x (1,000 - 870) = 1,300,000, which are taken off; its share is all of the UFE, 300,000 units.
+    And of two-zones and neutrality, whose pages in examples/ work the amounts out record by record."""
+    printed, two_zones, neutrality = ((EXAMPLES / f"{name}.hour").read_bytes() for name in ("printed", "two-zones", "neutrality"))
+    texts = {printed: [explanation("generation", generation=5_000_000_000),
+                       explanation("load", load=-6_500_000_000, share=1_500_000_000)],
+             two_zones: [explanation("generation", generation=4_515_000_000, load=1_775_000_000, share=137_825_200),
+                         explanation("generation", generation=4_260_000_000, load=4_200_000_000, share=63_487_200),
+                         explanation("load", load=2_100_000_000, exported=355_000_000, share=41_512_800),
+                         explanation("load", load=-710_000_000, imported=528_950_000, share=75_174_800),
+                         explanation("none")],
+             neutrality: [explanation("generation", generation=200_000_000), explanation("load", load=-100_000_000),
+                          explanation("load", load=-20_000_000), explanation("none")]}
+    for data, each in texts.items():
+        for member, text in enumerate(each):
+            yield f"{len(each)}-members-{member}", text, hours.question(member, data)
+
+
+def of_numbers():
+    """Of the printed case, which has two members: any other number is no member's, also where some of its bytes are."""
+    for member in (2, 3, 32, 255, 256, 2**16, 2**24, 2**24 + 1, 2**31, 2**32 - 1):
+        yield f"no-member-{member}", "refused 13 at 0\n", hours.question(member, hours.printed_case().encode())
+
+
+def of_refused():
+    """The files above that are refused, for a member and for no member: 13 comes last. And inputs too short or too long."""
+    for name, line, data in cases():
+        if line.startswith("refused"):
+            for member in (0, 40, 2**32 - 1):
+                yield f"{name}-{member}", f"{line}\n", hours.question(member, data)
+    longest = hours.question(0, hour_of(250).encode())
+    for length in (0, 1, 2, 3, 4, 5, 512, 515, 517, 13_315, 13_317, 13_828):
+        yield f"question-{length}", "refused 1 at 0\n", (2 * longest)[:length]
+
+
+def cases_to_explain():
+    return itertools.chain(of_members(), of_digits(), of_examples(), of_numbers(), of_refused())

@@ -29,8 +29,8 @@ def words_before(program):
 
 
 def made(functions):
-    """The folder of the C programs `settled` and `amounts`, made anew; `functions`, which they call, are
-    "archive" or "hand"."""
+    """The folder of the C programs of tests/archive, made anew; `functions`, which they call, are "archive" or
+    "hand"."""
     try:
         subprocess.run([HERE / "archive" / "build", functions], check=True)
     except (OSError, subprocess.CalledProcessError) as error:

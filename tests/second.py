@@ -1,9 +1,11 @@
 #!/usr/bin/env python3
-"""The second program: settles an hour, writes an hour file, writes and reads amounts as documents 01, 02 and 003 say, apart from the
-proved programs.
+"""The second program: settles an hour, explains a member's charge, writes an hour file, writes and reads amounts as documents 01, 02 and
+003 say, apart from the proved programs.
 
     python3 tests/second.py statement < hour
     python3 tests/second.py settled [L [C [F [S [D]]]]] < hour
+    python3 tests/second.py explanation < member and hour
+    python3 tests/second.py explained [MEMBER..] < hour
     python3 tests/second.py write_hour < words
     python3 tests/second.py written [H [R]] < words
     python3 tests/second.py amounts < cases
@@ -26,6 +28,7 @@ FIRST_BODY_WORD = 8
 RECORD_WORDS = 12
 RECORDS_IN_A_BLOCK = 10
 HEAD_WORDS = 120
+MOST_MEMBERS = 32
 MOST_RECORDS = 250
 
 UNITS_IN_A_KWH = 10_000
@@ -47,10 +50,15 @@ USUAL_WRITING = (HEAD_WORDS, MOST_BLOCKS * BLOCK_BYTES)
 # that the places of their bytes would go round 2^64.
 BLOCKS_ASKED_FOR = (*range(MOST_BLOCKS + 1), 2**55, 2**64 - 1)
 
+# The members that program `explained` asks about, if not told otherwise: all that an hour can have and the two numbers after them, and
+# some whose last bytes are a member's.
+MEMBERS_ASKED_FOR = (*range(MOST_MEMBERS + 2), 255, 256, 2**31, 2**32 - 1)
+
 GENERATOR, REAL_TIME_LOAD, PROFILE_LOAD, IMPORT, EXPORT = 1, 2, 3, 4, 5
 LOADS = (REAL_TIME_LOAD, PROFILE_LOAD)
 
 Answer = namedtuple("Answer", "number place ufe charges finals shares deviations lines")
+Explained = namedtuple("Explained", "number place heads decided")
 
 
 class Refused(Exception):
@@ -417,6 +425,48 @@ def settle(data, lengths=USUAL_LENGTHS):
                   written_over(list(zip(figures["amounts"], posted)), lines))
 
 
+# ---- Why is this my charge? (document 02, A5)
+
+HEADS = ("generation", "load", "import", "export", "share")
+NO_HEAD = "none"
+HEAD_OF = {GENERATOR: "generation", REAL_TIME_LOAD: "load", PROFILE_LOAD: "load", IMPORT: "import", EXPORT: "export"}
+MEMBER_BYTES = 4
+
+
+def member_heads(hour, deviations, shares):
+    """Each member's grains under each head, as they enter its amount."""
+    heads = [dict.fromkeys(HEADS, 0) for _ in range(hour["members"])]
+    for r, dev, share in zip(hour["records"], deviations, shares):
+        own, price = heads[r["member"]], price_of(hour, r["area"])
+        own[HEAD_OF[r["kind"]]] += price * DIRECTION[r["kind"]] * dev
+        own["share"] += price * share
+    return heads
+
+
+def head_that_decided(heads, charge):
+    """Of the heads with the charge's sign the one largest in size, on a tie the first; none where the charge is 0."""
+    if charge == 0:
+        return NO_HEAD
+    agreeing = [head for head in HEADS if heads[head] * charge > 0]
+    return max(agreeing, key=lambda head: abs(heads[head]))  # max gives the first of equals
+
+
+def not_explained(refused):
+    return Explained(refused.number, refused.place, dict.fromkeys(HEADS, 0), NO_HEAD)
+
+
+def explain(data, members):
+    """What explaining answers about each of these members of an hour: settling's refusals, and last of all 13."""
+    try:
+        hour = read_hour(data)
+        figures = work_out(hour)
+    except Refused as refused:
+        return [not_explained(refused) for _ in members]
+    heads = member_heads(hour, figures["deviations"], figures["shares"])
+    return [Explained(0, 0, heads[member], head_that_decided(heads[member], figures["charges"][member]))
+            if member < hour["members"] else not_explained(Refused(13)) for member in members]
+
+
 # ---- Text amounts (document 01, "Text amounts")
 
 AMOUNT_TEXT = re.compile(rb" *([+-])(0|[1-9][0-9]{0,9})\.([0-9]{2})")
@@ -487,6 +537,36 @@ def settled(data, lengths=()):
             ["lines", *(f"{amount}:{records}" for amount, records in answer.lines)],
             ["bodies", *(f"{begins}:{length}" for begins, length in bodies(data, BLOCKS_ASKED_FOR))]]
     return "".join(" ".join(map(str, row)) + "\n" for row in rows).encode()
+
+
+def explanation(data):
+    """Program `explanation`: four bytes of member number, the lowest first, and an hour file (document 02, A5)."""
+    if len(data) < MEMBER_BYTES:
+        return refusal(Refused(1))
+    member = int.from_bytes(data[:MEMBER_BYTES], "little")
+    return explanation_text(explain(data[MEMBER_BYTES:], [member])[0])
+
+
+def explanation_text(answer):
+    if answer.number != 0:
+        return refusal(answer)
+    lines = [f"{head} {answer.heads[head]}\n" for head in HEADS]
+    return "".join([*lines, f"decided {answer.decided}\n"]).encode()
+
+
+def explained(data, members=MEMBERS_ASKED_FOR):
+    """What explaining answers about each of these members, as program `explained` prints it."""
+    return explained_text(dict(zip(members, explain(data, members))))
+
+
+def explained_text(answers):
+    """A line for each member: the answer, its heads, and the head that decided as its number from 1, or 0 for none."""
+    lines = []
+    for member, answer in answers.items():
+        heads = " ".join(str(answer.heads[head]) for head in HEADS)
+        decided = (NO_HEAD, *HEADS).index(answer.decided)
+        lines.append(f"member {member} answer {answer.number} at {answer.place} heads {heads} decided {decided}\n")
+    return "".join(lines).encode()
 
 
 def words_in(data):
@@ -576,14 +656,15 @@ def pool_total(hour, ufe):
     return total
 
 
-PRINTED = {"statement": statement, "settled": settled, "write_hour": written_hour, "written": written, "amounts": amounts}
-MOST_LENGTHS = {"settled": len(USUAL_LENGTHS), "written": len(USUAL_WRITING)}
+PRINTED = {"statement": statement, "settled": settled, "explanation": explanation, "explained": explained, "write_hour": written_hour,
+           "written": written, "amounts": amounts}
+MOST_NUMBERS = {"settled": len(USUAL_LENGTHS), "explained": len(MEMBERS_ASKED_FOR), "written": len(USUAL_WRITING)}
 
 
-def main(name="", *lengths):
-    if name not in PRINTED or len(lengths) > MOST_LENGTHS.get(name, 0):
+def main(name="", *numbers):
+    if name not in PRINTED or len(numbers) > MOST_NUMBERS.get(name, 0):
         sys.exit(__doc__)
-    words = [[int(length) for length in lengths]] if lengths else []
+    words = [[int(number) for number in numbers]] if numbers else []
     sys.stdout.buffer.write(PRINTED[name](sys.stdin.buffer.read(), *words))
 
 

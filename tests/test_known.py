@@ -1,9 +1,9 @@
 """What the built programs answer where the answer is known by hand, without the second program.
 
-    python3 -m unittest tests/test_known.py       # `statement` and `write_hour` from target/bin; the programs of tests/archive are made
+    python3 -m unittest tests/test_known.py       # programs from target/bin; those of tests/archive are made
 
-The files of tests/known.py, the printed case, an hour with finals of its own and one with an import in buffers of several lengths, hours to
-be written, and text amounts, document 01's figures among them.
+The files of tests/known.py, the printed case, an hour with finals of its own and one with an import in buffers of several lengths, members
+to be explained, hours to be written, and text amounts, document 01's figures among them.
 """
 
 import struct
@@ -24,8 +24,8 @@ COMMANDS = {}
 
 def setUpModule():
     folder = programs.made("archive")
-    COMMANDS.update({name: programs.command(name) for name in ("statement", "write_hour")})
-    COMMANDS.update({name: programs.command(name, folder) for name in ("settled", "written", "amounts")})
+    COMMANDS.update({name: programs.command(name) for name in ("statement", "explanation", "write_hour")})
+    COMMANDS.update({name: programs.command(name, folder) for name in ("settled", "explained", "written", "amounts")})
 
 
 def printed_by(name, data, *words):
@@ -106,6 +106,39 @@ class Statements(unittest.TestCase):
     def test_an_import(self):
         self.assertEqual(printed_by("statement", known.import_hour().encode()), "hour 7 members 2 records 2\n"
                          "00          +0.95          +0.95\n01          +0.10          -0.95\n")
+
+
+class Explained(unittest.TestCase):
+    """Document 02, A5; worked by hand in tests/known.py and on the pages of examples/."""
+
+    NAMES = ("none", "generation", "load", "import", "export", "share")
+
+    def called(self, text, member):
+        """The line that program `explained` must print where program `explanation` prints this."""
+        words = text.split()
+        if words[0] == "refused":
+            return f"member {member} answer {words[1]} at {words[3]} heads 0 0 0 0 0 decided 0\n"
+        return f"member {member} answer 0 at 0 heads {' '.join(words[1:10:2])} decided {self.NAMES.index(words[-1])}\n"
+
+    def test_explanations(self):
+        for name, text, data in known.cases_to_explain():
+            with self.subTest(name):
+                self.assertEqual(printed_by("explanation", data), text)
+
+    def test_answers_to_a_caller_in_c(self):
+        for name, text, data in known.cases_to_explain():
+            if len(data) >= 4:
+                with self.subTest(name):
+                    member = int.from_bytes(data[:4], "little")
+                    self.assertEqual(printed_by("explained", data[4:], member), self.called(text, member))
+
+    def test_every_member_in_one_start(self):
+        """The two of the printed case, and of all other numbers that are asked about none is a member's."""
+        first, second, *others = printed_by("explained", PRINTED).splitlines()
+        self.assertEqual(first, "member 0 answer 0 at 0 heads 5000000000 0 0 0 0 decided 1")
+        self.assertEqual(second, "member 1 answer 0 at 0 heads 0 -6500000000 0 0 1500000000 decided 2")
+        self.assertEqual(others, [f"member {member} answer 13 at 0 heads 0 0 0 0 0 decided 0"
+                                  for member in (*range(2, 34), 255, 256, 2_147_483_648, 4_294_967_295)])
 
 
 class Written(unittest.TestCase):

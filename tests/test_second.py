@@ -3,7 +3,8 @@
     python3 -m unittest tests/test_second.py
 
 Document 01's own figures and printed case, every refusal, text amounts, the three bounds of demand 3 with
-exact fractions, document 02's finals, hour files that are written and imports, and that tests/compare notices a wrong program.
+exact fractions, document 02's finals, explanations, hour files that are written and imports, and that tests/compare notices a wrong
+program.
 """
 
 import contextlib
@@ -30,6 +31,7 @@ import fields  # noqa: E402
 import hours  # noqa: E402
 import known  # noqa: E402
 import programs  # noqa: E402
+import questions  # noqa: E402
 import second  # noqa: E402
 import to_write  # noqa: E402
 from hours import EXPORT, GENERATOR, IMPORT, PROFILE_LOAD, REAL_TIME_LOAD, Hour, record  # noqa: E402
@@ -161,7 +163,10 @@ class PrintedCase(unittest.TestCase):
         data = hours.printed_case().encode()
         for words, text in ((["statement"], second.statement(data)),
                             (["settled"], second.settled(data)),
-                            (["settled", "2", "1"], second.settled(data, [2, 1]))):
+                            (["settled", "2", "1"], second.settled(data, [2, 1])),
+                            (["explanation"], second.explanation(data)),
+                            (["explained"], second.explained(data)),
+                            (["explained", "1", "2"], second.explained(data, [1, 2]))):
             ended = subprocess.run([sys.executable, HERE / "second.py", *words], input=data, capture_output=True)
             self.assertEqual((ended.returncode, ended.stdout), (0, text))
 
@@ -222,6 +227,8 @@ class Refusals(unittest.TestCase):
             self.assertEqual(second.statement(data).decode().splitlines()[0], line, name)
         for name, wanted, data in known.cases_to_write():
             self.assertEqual(second.written_hour(data), wanted, name)
+        for name, text, data in known.cases_to_explain():
+            self.assertEqual(second.explanation(data).decode(), text, name)
 
     def test_first_such_place(self):
         hour = Hour(0, 1, [1], [[0, 5, 5]] * 3 + [[0, 1, 0], [0, 0, 1]], [record(EXPORT, 0, 0)] * 12)
@@ -280,6 +287,8 @@ class Refusals(unittest.TestCase):
         self.assertEqual(answer(nobody_demands), (12, 0))
         with mock.patch.object(second, "MOST_GRAINS", 9_999_999):
             self.assertEqual(answer(nobody_demands), (7, 1))
+            for member in (0, 2):
+                self.assertEqual(second.explanation(hours.question(member, nobody_demands.encode())), b"refused 7 at 1\n")
 
 
 class TextAmounts(unittest.TestCase):
@@ -432,6 +441,100 @@ class Finals(unittest.TestCase):
             hour = second.read_hour(hours.largest_products(random.Random(turn)).encode())
             neutrality = abs(sum(second.work_out(hour)["charges"]))
             self.assertGreater(max(second.member_demands(hour)) * neutrality, 10**18)
+
+
+class Explained(unittest.TestCase):
+    """Document 02, A5."""
+
+    def accepted(self, seed, count):
+        """So many accepted hours, with what explaining answers about each member."""
+        index = 0
+        while count > 0:
+            data = hours.made(seed, index).data
+            index += 1
+            if second.settle(data).number == 0:
+                count -= 1
+                hour = second.read_hour(data)
+                yield second.work_out(hour), second.explain(data, range(hour["members"]))
+
+    def test_heads_add_up_to_the_amount(self):
+        for figures, answers in self.accepted("heads", 200):
+            self.assertEqual([sum(answer.heads.values()) for answer in answers], figures["amounts"])
+
+    def test_the_head_that_decided(self):
+        """It has the charge's sign, none with that sign is larger, and none before it is as large; and there is one where the charge isn't
+        0. Said once more, without looking for the largest."""
+        for figures, answers in self.accepted("decided", 200):
+            for charge, answer in zip(figures["charges"], answers):
+                heads = [grains if charge > 0 else -grains for grains in answer.heads.values()]
+                fits = [place for place, size in enumerate(heads)
+                        if charge != 0 and size > 0 and size >= max(heads) and size not in heads[:place]]
+                self.assertEqual([second.HEADS[place] for place in fits] or ["none"], [answer.decided])
+
+    def test_heads_zone_by_zone(self):
+        """As D 2.1 writes it: in each zone the deviations, and the shares, are added up and priced once."""
+        for name in ("two-zones", "left-over", "neutrality"):
+            hour = second.read_hour((ROOT / "examples" / f"{name}.hour").read_bytes())
+            figures = second.work_out(hour)
+            of_kinds = {"generation": (GENERATOR,), "load": hours.LOADS, "import": (IMPORT,), "export": (EXPORT,)}
+            for member, heads in enumerate(second.member_heads(hour, figures["deviations"], figures["shares"])):
+                for head, kinds in of_kinds.items():
+                    sign = -1 if head in ("load", "export") else 1
+                    self.assertEqual(heads[head], sign * self.by_zone(hour, figures["deviations"], member, kinds))
+                self.assertEqual(heads["share"], self.by_zone(hour, figures["shares"], member, hours.KINDS))
+
+    @staticmethod
+    def by_zone(hour, energies, member, kinds):
+        return sum(price * sum(energy for r, energy in zip(hour["records"], energies) if r["member"] == member and r["kind"] in kinds
+                               and hour["areas"][r["area"]]["zone"] == zone)
+                   for zone, price in enumerate(hour["prices"]))
+
+    def test_decided_by_hand(self):
+        for grains, charge, decided in (
+                ((5, 0, 0, 0, 0), 1, "generation"), ((0, 0, 0, 0, -5), -1, "share"), ((5, 6, 0, 0, 0), 1, "load"),
+                ((5, 5, 0, 0, 0), 1, "generation"), ((0, 5, 0, 5, 5), 1, "load"), ((0, 0, -5, -5, -4), -1, "import"),
+                ((4, -9, 6, 5, 0), 1, "import"), ((-4, 9, -6, -6, 0), -1, "import"), ((4, -9, 6, 5, 0), 0, "none"),
+                ((0, 0, 0, 0, 0), 0, "none")):
+            self.assertEqual(second.head_that_decided(dict(zip(second.HEADS, grains)), charge), decided)
+
+    def test_one_refusal_after_the_other(self):
+        """A number that is no member's goes last; the faults are taken away one by one."""
+        hour = hours.printed_case()
+        hour.areas[0][1] = 5
+        hour.records[1]["A"] = 0
+        blocks = hour.blocks()
+        blocks[1][8] = 6
+        hours.mend(blocks[1])
+        spoiled = hours.to_bytes(blocks)
+        for member in (2, 3, 256, 2**32 - 1):
+            def explained(data, member=member):
+                return second.explanation(hours.question(member, data))
+            self.assertEqual(explained(spoiled[:-1]), b"refused 1 at 0\n")
+            self.assertEqual(explained(spoiled[:-4] + b"\1\0\0\0"), b"refused 2 at 1\n")
+            self.assertEqual(explained(spoiled), b"refused 5 at 0\n")
+            self.assertEqual(explained(hour.encode()), b"refused 6 at 0\n")
+            balanced = Hour(7, 2, [5_000], [[0, 5, 905]], hour.records)
+            self.assertEqual(explained(balanced.encode()), b"refused 12 at 0\n")
+            self.assertEqual(explained(hours.printed_case().encode()), b"refused 13 at 0\n")
+
+    def test_lengths(self):
+        for length in (0, 1, 2, 3, 4, 5, 512, 515, 517, 13_317, 13_828):
+            self.assertEqual(second.explanation(bytes(length)), b"refused 1 at 0\n")
+        longest = hours.full_file(random.Random(1)).encode()
+        self.assertEqual(len(second.explanation(bytes(4) + longest).splitlines()), 6)
+
+    def test_what_is_asked(self):
+        """The maker says what is due."""
+        for index in range(6 * len(questions.ROUND)):
+            made = questions.made("due", index)
+            words = second.explanation(made.data).decode().split()
+            answer = (int(words[1]), int(words[3])) if words[0] == "refused" else words[-1]
+            if made.expected is not None:
+                self.assertEqual(answer, made.expected, (index, made.name))
+
+    def test_refused_is_all_zeros(self):
+        for data, member in ((b"", 0), (hours.printed_case().encode(), 2)):
+            self.assertEqual(second.explain(data, [member])[0][2:], (dict.fromkeys(second.HEADS, 0), "none"))
 
 
 class Written(unittest.TestCase):
@@ -763,6 +866,63 @@ for most in (32, 4, 8):
     for down, up in STEPS:
         HOUR_SLIPS[f"1 to {most} {down:+} {up:+}"] = (f"range(1, {most + 1})", f"range({1 + down}, {most + up + 1})")
 
+# Explanations otherwise than document 02, A5, says; the made questions must show every one.
+DECIDED = "return max(agreeing, key=lambda head: abs(heads[head]))"
+POSTED = 'own[HEAD_OF[r["kind"]]] += price * DIRECTION[r["kind"]] * dev'
+SHARED = 'own["share"] += price * share'
+REFUSED_FIRST = "return [not_explained(refused) for _ in members]"
+NO_MEMBER = "not_explained(Refused(13)) for member in members]"
+LINE = '{answer.heads[head]}\\n" for head'
+UNDER_FOUR = "        return refusal(Refused(1))\n    member"
+QUESTION_SLIPS = {
+    "a tie to the later head": (DECIDED, DECIDED.replace("agreeing", "reversed(agreeing)")),
+    "the smallest head": (DECIDED, DECIDED.replace("max", "min")),
+    "the first head with the charge's sign": (DECIDED, "return agreeing[0]"),
+    "size in cents": (DECIDED, DECIDED.replace("abs(heads[head])", "abs(cents(heads[head]))")),
+    "the largest whatever its sign": (" if heads[head] * charge > 0]", "]"),
+    "the largest with the other sign": ("heads[head] * charge > 0]", "heads[head] * charge < 0] or [*HEADS]"),
+    "decided by the amount where the charge is 0": (
+        'head_that_decided(heads[member], figures["charges"][member])', 'head_that_decided(heads[member], figures["amounts"][member])'),
+    "none missing": ("        return NO_HEAD\n    agreeing", "        return max(HEADS, key=lambda head: abs(heads[head]))\n    agreeing"),
+    "none for under a cent": ("if charge == 0:", "if abs(sum(heads.values())) < GRAINS_IN_A_CENT:"),
+    "no sixth line for none": (
+        '"".join([*lines, f"decided {answer.decided}\\n"])',
+        '"".join([*lines, f"decided {answer.decided}\\n" if answer.decided != NO_HEAD else ""])'),
+    "loads added": (POSTED, POSTED.replace("price *", 'price * (-1 if r["kind"] in LOADS else 1) *')),
+    "exports added": (POSTED, POSTED.replace("price *", 'price * (-1 if r["kind"] == EXPORT else 1) *')),
+    "loads by profile left out": (POSTED, POSTED.replace("price *", 'price * (r["kind"] != PROFILE_LOAD) *')),
+    "imports under generation": ('IMPORT: "import", EXPORT: "export"}', 'IMPORT: "generation", EXPORT: "export"}'),
+    "the last record of a head alone": (POSTED, POSTED.replace("+=", "="), "max(agreeing,", "max(agreeing or HEADS,"),
+    "the price of zone 0": ('heads[r["member"]], price_of(hour, r["area"])', 'heads[r["member"]], hour["prices"][0]'),
+    "shares under load": (SHARED, SHARED.replace('"share"]', '"load"]')),
+    "shares taken off": (SHARED, SHARED.replace("+=", "-=")),
+    "shares of another member": (SHARED, SHARED.replace("own", 'heads[(r["member"] + 1) % len(heads)]')),
+    "shares of all members": (SHARED, f"for own in heads:\n            {SHARED}"),
+    "13 before the file's refusals": (REFUSED_FIRST, "return [not_explained(Refused(13) if each >= 32 else refused) for each in members]"),
+    "13 before 6 and 12": (
+        REFUSED_FIRST,
+        "return [not_explained(Refused(13) if refused.number > 5 and each >= words_in(data)[9] else refused) for each in members]"),
+    "no refusal 12": (
+        "figures = work_out(hour)\n    except Refused as refused:\n        return [not",
+        "figures = work_out_charges(hour)\n    except Refused as refused:\n        return [not"),
+    "13 missing for the member count": (NO_MEMBER, NO_MEMBER.replace("13", 'member != hour["members"] and 13')),
+    "13 for the last member": ('if member < hour["members"] else', 'if member < hour["members"] - 1 else'),
+    "13 at the number": (NO_MEMBER, NO_MEMBER.replace("13", "13, member")),
+    "heads on refusal": ("refused.place, dict.fromkeys(HEADS, 0)", "refused.place, dict.fromkeys(HEADS, refused.number == 13)"),
+    "the member number big-endian": ('"little")\n    return explanation_text', '"big")\n    return explanation_text'),
+    "the member number from one byte": ("data[:MEMBER_BYTES], ", "data[:1], "),
+    "the member number from three bytes": ("data[:MEMBER_BYTES], ", "data[:3], "),
+    "under four bytes nothing": (UNDER_FOUR, '        return b""\n    member'),
+    "under four bytes refused as 13": (UNDER_FOUR, UNDER_FOUR.replace("1)", "13)")),
+    "four bytes alone nothing": ("len(data) < MEMBER_BYTES", "len(data) <= MEMBER_BYTES", UNDER_FOUR, '        return b""\n    member'),
+    "minus left out": (LINE, LINE.replace("answer.heads[head]", "abs(answer.heads[head])")),
+    "plus before what is positive": (LINE, LINE.replace("head]}", "head]:+}")),
+    "zero as -0": (LINE, LINE.replace("head]}", "head] or '-0'}")),
+    "zero as +0": (LINE, LINE.replace("head]}", "head] or '+0'}")),
+    "commas": (LINE, LINE.replace("head]}", "head]:,}")),
+    "cents in the place of grains": (LINE, LINE.replace("answer.heads[head]", "cents(answer.heads[head])")),
+}
+
 # Hour files written otherwise than document 02, A2, says; the made hours to write must show every one. The slips of heads and records above
 # that name the last place in place of the first are the writer's too.
 ROOM_FIRST = "    if room < 512 * (1 + (len(words) + 119) // 120):\n        raise Refused(11)\n"
@@ -837,12 +997,11 @@ AMOUNT_SLIPS = {
     "a line feed after the cents is read": ('{2})")', r'{2})\n?")'),
     "plus read as minus": ('0, -size if sign == b"-"', '0, -size if sign == b"+"'),
 }
-SLIPS = {**HOUR_SLIPS, **WRITING_SLIPS, **AMOUNT_SLIPS}
 
 
-def slipped(name):
+def slipped(name, slips=HOUR_SLIPS):
     """The second program's text with one slip in it."""
-    text, changes = SECOND, SLIPS[name]
+    text, changes = SECOND, slips[name]
     for old, new in zip(changes[::2], changes[1::2]):
         assert text.count(old) == 1, name
         text = text.replace(old, new)
@@ -871,21 +1030,27 @@ class Noticing(unittest.TestCase):
                 program.chmod(0o755)
             yield Path(folder)
 
+    @staticmethod
+    def two_members():
+        """All hours have two members, so that few programs are started for them."""
+        return mock.patch.object(hours, "ROUND", [hours.honest(hours.printed_case)])
+
     def test_right_programs(self):
         with self.stand_ins() as folder:
-            status, said = self.run_compare("--hours", 30, "--amounts", 2_500, "--programs", folder,
+            status, said = self.run_compare("--hours", 3, "--amounts", 2_500, "--programs", folder,
                                             "--save", folder / "saved")
             self.assertEqual((status, (folder / "saved").exists()), (0, False), said)
-            self.assertIn("30 hours of seed 1 against the second program: every byte agreed", said)
-            self.assertIn("30 hours to write of seed 1 against the second program: every byte agreed", said)
+            self.assertIn("3 hours of seed 1 against the second program: every byte agreed", said)
+            self.assertIn("3 questions of seed 1 against the second program: every byte agreed", said)
+            self.assertIn("3 hours to write of seed 1 against the second program: every byte agreed", said)
             self.assertIn("2500 amounts of seed 1 against the second program: every byte agreed", said)
             self.assertNotIn("passed", said)
 
     def test_a_wrong_program(self):
         wrong = slipped("loads added")
         for name in ("statement", "settled"):
-            with self.stand_ins(**{name: wrong}) as folder:
-                status, said = self.run_compare("--hours", 8, "--programs", folder, "--save", folder / "saved")
+            with self.stand_ins(**{name: wrong}) as folder, self.two_members():
+                status, said = self.run_compare("--hours", 3, "--programs", folder, "--save", folder / "saved")
                 self.assertEqual(status, 1, said)
                 self.assertIn("---- second program wrote:", said)
                 saved = sorted((folder / "saved").glob("*.hour"))
@@ -893,10 +1058,22 @@ class Noticing(unittest.TestCase):
                 data = saved[0].read_bytes()
                 self.assertEqual(data, hours.made(1, int(saved[0].stem.split("-")[-1])).data)
 
+    def test_a_program_that_explains_wrong(self):
+        """It is noticed in the members of an hour, and in a question."""
+        tie = "a tie to the later head"
+        for name, slip, kind in (("explanation", "minus left out", "explanation"), ("explained", "loads added", "explained"),
+                                 ("explanation", tie, "question"), ("explained", tie, "asked")):
+            with self.stand_ins(**{name: slipped(slip, QUESTION_SLIPS)}) as folder, self.two_members(), \
+                    mock.patch.object(questions, "ROUND", [questions.tie_of(("load", "import"), 1)]):
+                status, said = self.run_compare("--hours", 1, "--programs", folder, "--save", folder / "saved")
+                self.assertEqual(status, 1, said)
+                data = min((folder / "saved").glob(f"*.{kind}")).read_bytes()
+                self.assertNotEqual(len(data) % 512 == 0, name == "explanation", "a question, or a file")
+
     def test_a_program_that_writes_hours_wrong(self):
-        wrong = slipped("word 2 of the last block ten")
+        wrong = slipped("word 2 of the last block ten", WRITING_SLIPS)
         for name in ("write_hour", "written"):
-            with self.stand_ins(**{name: wrong}) as folder:
+            with self.stand_ins(**{name: wrong}) as folder, self.two_members():
                 status, said = self.run_compare("--hours", 4, "--programs", folder, "--save", folder / "saved")
                 self.assertEqual(status, 1, said)
                 self.assertIn("bytes, from byte ", said)
@@ -906,7 +1083,7 @@ class Noticing(unittest.TestCase):
 
     def test_a_program_that_writes_amounts_wrong(self):
         for name in ("minus zero is read", "cut off from the left"):
-            with self.stand_ins(amounts=slipped(name)) as folder:
+            with self.stand_ins(amounts=slipped(name, AMOUNT_SLIPS)) as folder:
                 status, said = self.run_compare("--amounts", 1_500, "--programs", folder, "--save", folder / "saved")
                 self.assertEqual(status, 1, said)
                 saved = sorted((folder / "saved").iterdir())
@@ -917,7 +1094,8 @@ class Noticing(unittest.TestCase):
 
     def test_a_program_that_ends_badly(self):
         for ending in ("\n    sys.exit(3)\n", "\n    print('oh', file=sys.stderr)\n"):
-            with self.stand_ins(statement=SECOND + ending, write_hour=SECOND + ending, amounts=SECOND + ending) as folder:
+            wrong = dict.fromkeys(("statement", "explanation", "write_hour", "amounts"), SECOND + ending)
+            with self.stand_ins(**wrong) as folder, self.two_members():
                 for what in ("--hours", "--amounts"):
                     status, said = self.run_compare(what, 2, "--programs", folder, "--save", folder / "saved")
                     self.assertEqual(status, 1, said)
@@ -941,18 +1119,21 @@ class Noticing(unittest.TestCase):
     def test_every_refusal_that_can_occur_is_seen_in_500_hours(self):
         with self.stand_ins() as folder, mock.patch.object(programs, "run", self.without_starting):
             for seed in range(2):
-                status, said = self.run_compare("--hours", 500, "--amounts", 500, "--seed", seed, "--programs", folder)
+                status, said = self.run_compare("--hand", "--hours", 500, "--amounts", 500, "--seed", seed, "--programs", folder)
                 self.assertEqual(status, 0, said)
 
     def test_it_says_if_something_never_occurred(self):
         with self.stand_ins() as folder, mock.patch.object(programs, "run", self.without_starting), \
                 mock.patch.object(hours, "ROUND", [hours.honest(hours.few_records)]), \
+                mock.patch.object(questions, "ROUND", [questions.decided_by("export", 1)]), \
                 mock.patch.object(to_write, "ROUND", [to_write.honest(10)]):
-            status, said = self.run_compare("--hours", 500, "--programs", folder)
+            status, said = self.run_compare("--hand", "--hours", 500, "--programs", folder)
             self.assertEqual(status, 1)
             self.assertIn("never occurred in 500 hours: refused 1; refused 2; refused 3; refused 4; refused 5; refused 6; refused 12; "
                           "12, one record; 12, several members charged; 12, exact amounts that cancel; 12, a buffer too short as well; "
                           "no demand, ", said)
+            self.assertIn("never occurred in 500 questions: refused 1; refused 2; refused 3; refused 4; refused 5; refused 6; refused 12; "
+                          "refused 13; generation decided, charge above 0; ", said)
             self.assertIn("never occurred in 500 hours to write: refused 4; refused 5; written, 0 records; written, 1 records; "
                           "written, 9 records; written, 11 records; written, 250 records; 1, no bytes; ", said)
             imports = "".join(f"5 by an import's word 4 at {place}; " for place in
@@ -960,22 +1141,35 @@ class Noticing(unittest.TestCase):
             self.assertEqual(said.count(imports + "5 by an import's word 4 that is its word 3"), 2)
 
     @staticmethod
-    def wrong_program(name):
+    def wrong_program(name, slips=HOUR_SLIPS):
         wrong = types.ModuleType("wrong")
-        exec(compile(slipped(name), name, "exec"), wrong.__dict__)
+        exec(compile(slipped(name, slips), name, "exec"), wrong.__dict__)
         return wrong
 
     def test_the_amounts_show_every_slip(self):
         data = b"".join(fields.encode(fields.made(1, index)) for index in range(2_000))
         for name in AMOUNT_SLIPS:
             with self.subTest(name):
-                self.assertNotEqual(self.wrong_program(name).amounts(data), second.amounts(data))
+                self.assertNotEqual(self.wrong_program(name, AMOUNT_SLIPS).amounts(data), second.amounts(data))
+
+    def test_the_questions_show_every_slip(self):
+        def answers(program, data):
+            """Of program `explanation`, and of the call from C."""
+            yield program.explanation(data)
+            yield program.explained(data[4:], [int.from_bytes(data[:4], "little")])
+
+        cases = sorted((questions.made(1, index).data for index in range(500)), key=len)
+        right = [[*answers(second, data)] for data in cases]
+        for name in QUESTION_SLIPS:
+            wrong = self.wrong_program(name, QUESTION_SLIPS)
+            with self.subTest(name):
+                self.assertTrue(any(got != wanted for data, both in zip(cases, right) for got, wanted in zip(answers(wrong, data), both)))
 
     def test_the_hours_to_write_show_every_slip(self):
         cases = [compare.writing_of(1, index) for index in range(500)]
         cases.sort(key=lambda case: len(case.made.data))
         for name in (*WRITING_SLIPS, *IMPORT_SLIPS, "last word of the head", "last record"):
-            wrong = self.wrong_program(name)
+            wrong = self.wrong_program(name, {**HOUR_SLIPS, **WRITING_SLIPS})
             with self.subTest(name):
                 self.assertTrue(any(wrong.written_hour(case.made.data) != case.file
                                     or wrong.written(case.made.data, (case.made.split, case.made.room)) != case.called
@@ -1045,12 +1239,19 @@ class Pages(unittest.TestCase):
                     charge, final = (second.column(each).decode() for each in cents)
                     text += f"member {member} records {records} grains {amount} charge {charge} final {final}\n"
             self.assertEqual((folder / "expected" / f"{name}.txt").read_text(), text)
-        for name in ("printed", "write"):
+        for name in ("printed", "explain", "write"):
             printed = (folder / "expected" / f"{name}.txt").read_text()
             self.assertIn("".join(f"    {line}\n" for line in printed.splitlines()), (folder / "README.md").read_text())
         charges = "".join(f"member {member} charge {charge}\n" for member, charge in enumerate(
             second.settle((ROOT / "examples" / "printed.hour").read_bytes()).charges[:2]))
         self.assertEqual((folder / "expected" / "write.txt").read_text(), "answer 0 at 0 length 1024\nsettled 0 at 0\n" + charges)
+
+    def test_the_example_in_c_that_explains(self):
+        for name, hour, member in (("explain", "printed", 1), ("explain-two-zones", "two-zones", 3), ("explain-nothing", "two-zones", 4)):
+            answer = second.explain((ROOT / "examples" / f"{hour}.hour").read_bytes(), [member])[0]
+            *lines, decided = second.explanation_text(answer).splitlines(True)
+            self.assertEqual((ROOT / "examples" / "c" / "expected" / f"{name}.txt").read_bytes(),
+                             b"".join([b"answer 0 at 0\n", *lines, b"amount %d\n" % sum(answer.heads.values()), decided]))
 
     def test_the_refusals_that_examples_tell_of(self):
         make = load_script(ROOT / "examples" / "make.py")
@@ -1085,6 +1286,13 @@ class Pages(unittest.TestCase):
     def test_the_statement_of_the_format(self):
         statement = second.statement((ROOT / "examples" / "neutrality.hour").read_bytes()).decode()
         self.assertIn(f"```\n{statement}```\n", (ROOT / "docs" / "FORMAT.md").read_text())
+
+    def test_the_explanation_of_the_format(self):
+        data = (ROOT / "examples" / "two-zones.hour").read_bytes()
+        page = (ROOT / "docs" / "FORMAT.md").read_text()
+        self.assertIn(f"```\n{second.explanation(hours.question(3, data)).decode()}```\n", page)
+        settled = second.settle(data)
+        self.assertIn(f"{self.printed(settled.lines[3][0])} grains, which is a charge of {self.printed(settled.charges[3])} cents", page)
 
     def test_stored_amounts(self):
         folder = HERE / "archive"

@@ -6,29 +6,10 @@
 #include <stdint.h>
 #include <stdio.h>
 
+#include "input.h"
 #include "sneupelaar.h"
 
 enum { ACCEPTED = 0, REFUSED = 1, FAILED = 2 };
-
-/* One byte more than the longest hour, so that a longer file is seen to be too long. */
-#define ROOM (SNEUPELAAR_MOST_BYTES + 1)
-
-/* Returns 0 and says why where there is nothing to settle. */
-static int read_file(const char *name, uint8_t *file, size_t *length)
-{
-    FILE *from = name ? fopen(name, "rb") : stdin;
-    if (!from) {
-        perror(name);
-        return 0;
-    }
-    *length = fread(file, 1, ROOM, from);
-    int whole = !ferror(from);
-    if (!whole)
-        perror(name ? name : "standard input");
-    if (name)
-        fclose(from);
-    return whole;
-}
 
 /* The hour's members are word 9 of its first block, lowest byte first: the second word of that block's body. */
 static size_t members(const uint8_t *file, size_t length)

@@ -59,11 +59,11 @@ static void print_bodies(size_t bytes)
 
 int main(int count, char **words)
 {
-    size_t lined = length_named(count, words, 1, SNEUPELAAR_MOST_MEMBERS, LINES, usage);
-    size_t charged = length_named(count, words, 2, SNEUPELAAR_MOST_MEMBERS, LINES, usage);
-    size_t finished = length_named(count, words, 3, SNEUPELAAR_MOST_MEMBERS, LINES, usage);
-    size_t shared = length_named(count, words, 4, SNEUPELAAR_MOST_RECORDS, RECORDS, usage);
-    size_t deviated = length_named(count, words, 5, SNEUPELAAR_MOST_RECORDS, RECORDS, usage);
+    size_t lined = number_named(count, words, 1, SNEUPELAAR_MOST_MEMBERS, LINES, usage);
+    size_t charged = number_named(count, words, 2, SNEUPELAAR_MOST_MEMBERS, LINES, usage);
+    size_t finished = number_named(count, words, 3, SNEUPELAAR_MOST_MEMBERS, LINES, usage);
+    size_t shared = number_named(count, words, 4, SNEUPELAAR_MOST_RECORDS, RECORDS, usage);
+    size_t deviated = number_named(count, words, 5, SNEUPELAAR_MOST_RECORDS, RECORDS, usage);
     size_t bytes = read_input(file, sizeof file);
     lay();
     sneupelaar_settled settled =

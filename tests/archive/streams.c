@@ -12,7 +12,7 @@ void fail(const char *why)
     exit(FAILED);
 }
 
-size_t length_named(int count, char **words, int at, size_t usual, size_t most, const char *usage)
+size_t number_named(int count, char **words, int at, size_t usual, size_t most, const char *usage)
 {
     if (at >= count)
         return usual;

@@ -17,8 +17,8 @@ static uint8_t file[MOST_FILE];
 
 int main(int count, char **arguments)
 {
-    size_t head = length_named(count, arguments, 1, SNEUPELAAR_HEAD_WORDS, MOST_WORDS, usage);
-    size_t room = length_named(count, arguments, 2, SNEUPELAAR_MOST_BYTES, MOST_FILE, usage);
+    size_t head = number_named(count, arguments, 1, SNEUPELAAR_HEAD_WORDS, MOST_WORDS, usage);
+    size_t room = number_named(count, arguments, 2, SNEUPELAAR_MOST_BYTES, MOST_FILE, usage);
     size_t given = read_input((uint8_t *)words, sizeof words) / sizeof *words;
     if (given > MOST_WORDS)
         fail(usage);

@@ -1,7 +1,7 @@
 /* harness.c: tries the archive's functions from C.
-     harness CASES SEED               that many cases: a call each of settle, write, read and write_hour, and body at every position
+     harness CASES SEED               that many cases: a call each of settle, write, read, write_hour, explain, and body at every position
      harness lie BUFFER SIDE          a caller that lies about a buffer: the protected pages must end it (status 3)
-     harness spoiled FAULT CASES SEED settling, or writing an hour, with a fault put in: the cases must end it (status 3 or 4)
+     harness spoiled FAULT CASES SEED settling, explaining or writing an hour with a fault put in: the cases must end it (status 3 or 4)
    Status 0: all as by hand, and every answer that can occur was seen; 1: not every one was seen; 2: not called as above. */
 #include <stdio.h>
 #include <stdlib.h>
@@ -13,7 +13,24 @@
 
 struct seen seen;
 
-static void try_cases(unsigned long cases, settle_function *settle, write_hour_function *write_hour)
+/* What is tried: the archive's functions, or one of them with a fault put in. */
+static settle_function *settle = sneupelaar_settle;
+static explain_function *explain = sneupelaar_explain;
+static write_hour_function *write_hour = sneupelaar_write_hour;
+
+/* Puts a fault in; 0 where there is no such fault. */
+static int spoil(const char *how)
+{
+    settle_function *settling = spoiled(how);
+    explain_function *explaining = misexplained(how);
+    write_hour_function *writing = miswritten(how);
+    settle = settling != NULL ? settling : settle;
+    explain = explaining != NULL ? explaining : explain;
+    write_hour = writing != NULL ? writing : write_hour;
+    return settling != NULL || explaining != NULL || writing != NULL;
+}
+
+static void try_cases(unsigned long cases)
 {
     for (unsigned long at = 0; at < cases; at++) {
         standing.case_number = at;
@@ -22,6 +39,7 @@ static void try_cases(unsigned long cases, settle_function *settle, write_hour_f
         try_writing();
         try_reading();
         try_writing_hour(write_hour);
+        try_explaining(explain);
     }
 }
 
@@ -44,13 +62,14 @@ static int all_seen(const char *function, const unsigned long *counts, const uns
 static int enough_seen(unsigned long cases)
 {
     static const unsigned settling[] = { 0, 1, 2, 3, 4, 5, 6, 11, 12 }, writing[] = { 0, 8, 9 }, reading[] = { 0, 10 };
-    static const unsigned writing_hours[] = { 0, 1, 4, 5, 11 };
+    static const unsigned explaining[] = { 0, 1, 2, 3, 4, 5, 6, 12, 13 }, writing_hours[] = { 0, 1, 4, 5, 11 };
     int enough = all_seen("settle", seen.settled, settling, 9);
+    enough &= all_seen("explain", seen.explained, explaining, 9);
     enough &= all_seen("write", seen.written, writing, 3);
     enough &= all_seen("read", seen.read, reading, 2);
     enough &= all_seen("write_hour", seen.hours_written, writing_hours, 5);
     printf("  body: %lu positions\n", seen.bodies);
-    return enough && seen.settled[0] >= cases / 5 && seen.hours_written[0] >= cases / 5;
+    return enough && seen.settled[0] >= cases / 5 && seen.explained[0] >= cases / 5 && seen.hours_written[0] >= cases / 5;
 }
 
 static int usage(void)
@@ -67,13 +86,11 @@ int main(int count, char **words)
         return 0;
     }
     int spoils = count == 5 && strcmp(words[1], "spoiled") == 0;
-    settle_function *settle = spoils ? spoiled(words[2]) : NULL;
-    write_hour_function *write_hour = spoils ? miswritten(words[2]) : NULL;
-    if (spoils ? settle == NULL && write_hour == NULL : count != 3)
+    if (spoils ? !spoil(words[2]) : count != 3)
         return usage();
     unsigned long cases = strtoul(words[count - 2], NULL, 10);
     standing.seed = strtoul(words[count - 1], NULL, 10);
-    try_cases(cases, settle != NULL ? settle : sneupelaar_settle, write_hour != NULL ? write_hour : sneupelaar_write_hour);
+    try_cases(cases);
     printf("%lu cases of seed %lu, all within bounds and as by hand\n", cases, standing.seed);
     if (enough_seen(cases))
         return 0;

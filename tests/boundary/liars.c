@@ -48,6 +48,13 @@ static void lie_settling(const hour_file *hour)
     sneupelaar_settle(file, hour->bytes, lines, members, charges, members, finals, members, shares, records, deviations, records);
 }
 
+static void lie_explaining(const hour_file *hour)
+{
+    const uint8_t *file = lent("explained", 1, hour->bytes, hour->words);
+    standing.function = "sneupelaar_explain";
+    sneupelaar_explain(file, hour->bytes, 0);
+}
+
 /* With as many records as stand in the hour's first block of records. */
 static void lie_writing_hour(const hour_file *hour)
 {
@@ -79,6 +86,7 @@ void lie(const char *buffer, const char *where)
     chance_start(standing.seed, 0);
     make_accepted(&hour);
     lie_settling(&hour);
+    lie_explaining(&hour);
     lie_writing_hour(&hour);
     lie_field();
     printf("not caught: %s at the %s\n", buffer, where);

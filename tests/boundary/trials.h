@@ -5,19 +5,25 @@
 
 #include "sneupelaar.h"
 
-/* How often each number was answered by settling, by writing an hour, and by writing and reading an amount, and how often the block reader
-   was asked. */
+/* How often each number was answered by settling, by explaining, by writing an hour, and by writing and reading an amount, and how often
+   the block reader was asked. */
+enum { NUMBERS = 14 };
 extern struct seen {
-    unsigned long settled[13], hours_written[13], written[13], read[13], bodies;
+    unsigned long settled[NUMBERS], explained[NUMBERS], hours_written[NUMBERS], written[NUMBERS], read[NUMBERS], bodies;
 } seen;
 
 typedef sneupelaar_settled settle_function(const uint8_t *, size_t, sneupelaar_line *, size_t, int64_t *, size_t, int64_t *, size_t,
     int64_t *, size_t, int64_t *, size_t);
 
+typedef sneupelaar_explained explain_function(const uint8_t *, size_t, uint32_t);
+
 typedef sneupelaar_written write_hour_function(const uint32_t *, size_t, const uint32_t *, size_t, uint8_t *, size_t);
 
 /* Settling, by sneupelaar_settle or what stands in for it; the hour's file is then asked for each of its bodies. */
 void try_settling(settle_function *settle);
+
+/* Explaining, by sneupelaar_explain or what stands in for it. */
+void try_explaining(explain_function *explain);
 void try_writing(void);
 void try_reading(void);
 
@@ -30,6 +36,7 @@ void lie(const char *buffer, const char *side);
 
 /* An archive that answers wrongly or writes where it should not: the comparison must find it. Null where there is no such fault. */
 settle_function *spoiled(const char *how);
+explain_function *misexplained(const char *how);
 write_hour_function *miswritten(const char *how);
 
 /* A word of a block changed, with the sum mended: nothing but the word tells. */

@@ -1,7 +1,8 @@
 /* settle.c: settling by hand. Every figure is worked in room of this file's own; the caller's buffers are written after the last check. */
+#include "settle.h"
+
 #include <string.h>
 
-#include "file.h"
 #include "share.h"
 
 static const int64_t WHOLE = 10000;                /* a kWh in units; a multiplier of one */
@@ -13,17 +14,6 @@ typedef struct {
     uint32_t kind, member, area;
     int64_t s, a, j, n, o, m, f, h;
 } entry;
-
-typedef struct {
-    uint32_t demand[MOST_AREAS];
-    uint32_t member_demand[MOST_MEMBERS];
-    int64_t ufe[MOST_AREAS];
-    int64_t deviations[MOST_RECORDS];
-    int64_t shares[MOST_RECORDS];
-    sneupelaar_line lines[MOST_MEMBERS];
-    int64_t charges[MOST_MEMBERS];
-    int64_t finals[MOST_MEMBERS];
-} figures;
 
 static entry entry_at(const uint8_t *file, size_t at)
 {
@@ -42,11 +32,6 @@ static entry entry_at(const uint8_t *file, size_t at)
         .f = word(record, SCHEDULED_MULTIPLIER),
         .h = word(record, HOUR_AHEAD_MULTIPLIER),
     };
-}
-
-static int is_load(uint32_t kind)
-{
-    return kind == REAL_TIME_LOAD || kind == PROFILE_LOAD;
 }
 
 static int64_t least(int64_t x, int64_t y)
@@ -131,7 +116,7 @@ static void post(const uint8_t *file, size_t records, figures *out)
 {
     int64_t prices[MOST_AREAS];
     for (size_t area = 0; area < MOST_AREAS; area++)
-        prices[area] = (int32_t)word(file, PRICES + word(file, FIRST_AREA + AREA_WORDS * area));
+        prices[area] = price_of(file, area);
     memset(out->lines, 0, sizeof out->lines);
     for (size_t at = 0; at < records; at++) {
         const uint8_t *record = record_at(file, at);
@@ -143,29 +128,54 @@ static void post(const uint8_t *file, size_t records, figures *out)
     }
 }
 
-/* Nearest, halves away from zero. */
-static int64_t cents(int64_t grains)
+int64_t cents(int64_t grains)
 {
     return (grains + (grains < 0 ? -CENT / 2 : CENT / 2)) / CENT;
 }
 
-/* Charges, and finals: the charge less the member's share of N, the sum of all charges. 0 where nobody's demand can carry N: row 12. */
-static int charge(size_t members, figures *out)
+/* Charges, their sum N, and all demand. */
+static void charge(size_t members, figures *out)
 {
-    int64_t sum = 0, shares[MOST_MEMBERS] = { 0 };
-    uint32_t demand = 0;
+    out->neutrality = 0;
+    out->all_demand = 0;
     for (size_t member = 0; member < members; member++) {
         out->charges[member] = cents(out->lines[member].amount);
-        sum += out->charges[member];
-        demand += out->member_demand[member];
+        out->neutrality += out->charges[member];
+        out->all_demand += out->member_demand[member];
     }
-    if (demand == 0 && sum != 0)
-        return 0;
-    if (sum != 0)
-        share_by_demand(sum, demand, out->member_demand, members, shares);
+}
+
+/* Finals: the charge less the member's share of N. */
+static void finish(const figures *worked, size_t members, int64_t *finals)
+{
+    int64_t shares[MOST_MEMBERS] = { 0 };
+    if (worked->neutrality != 0)
+        share_by_demand(worked->neutrality, worked->all_demand, worked->member_demand, members, shares);
     for (size_t member = 0; member < members; member++)
-        out->finals[member] = out->charges[member] - shares[member];
-    return 1;
+        finals[member] = worked->charges[member] - shares[member];
+}
+
+sneupelaar_answer work_out(const uint8_t *file, size_t file_length, figures *out)
+{
+    sneupelaar_answer examined = examine(file, file_length);
+    if (examined.number != 0)
+        return examined;
+    size_t members = word(file, MEMBERS), areas = word(file, AREAS), records = records_in(file, file_length);
+    tally(file, areas, records, out);
+    for (size_t area = 0; area < areas; area++)
+        if (out->demand[area] == 0 && out->ufe[area] != 0)
+            return (sneupelaar_answer){ 6, area };
+    for (size_t area = 0; area < areas; area++)
+        if (out->ufe[area] != 0)
+            share_area(file, area, records, out);
+    post(file, records, out);
+    for (size_t member = 0; member < members; member++)
+        if (out->lines[member].amount > MOST_GRAINS || out->lines[member].amount < -MOST_GRAINS)
+            return (sneupelaar_answer){ 7, member };
+    charge(members, out);
+    if (out->all_demand == 0 && out->neutrality != 0)
+        return (sneupelaar_answer){ 12, 0 };
+    return (sneupelaar_answer){ 0, 0 };
 }
 
 static sneupelaar_settled refused(uint64_t number, uint64_t place)
@@ -177,30 +187,17 @@ sneupelaar_settled hand_settle(const uint8_t *file, size_t file_length, sneupela
     int64_t *charges, size_t charges_length, int64_t *finals, size_t finals_length, int64_t *shares, size_t shares_length,
     int64_t *deviations, size_t deviations_length)
 {
-    sneupelaar_answer examined = examine(file, file_length);
-    if (examined.number != 0)
-        return refused(examined.number, examined.place);
-    size_t members = word(file, MEMBERS), areas = word(file, AREAS), records = records_in(file, file_length);
     figures worked;
-    tally(file, areas, records, &worked);
-    for (size_t area = 0; area < areas; area++)
-        if (worked.demand[area] == 0 && worked.ufe[area] != 0)
-            return refused(6, area);
-    for (size_t area = 0; area < areas; area++)
-        if (worked.ufe[area] != 0)
-            share_area(file, area, records, &worked);
-    post(file, records, &worked);
-    for (size_t member = 0; member < members; member++)
-        if (worked.lines[member].amount > MOST_GRAINS || worked.lines[member].amount < -MOST_GRAINS)
-            return refused(7, member);
-    if (!charge(members, &worked))
-        return refused(12, 0);
+    sneupelaar_answer answer = work_out(file, file_length, &worked);
+    if (answer.number != 0)
+        return refused(answer.number, answer.place);
+    size_t members = word(file, MEMBERS), records = records_in(file, file_length);
     if (lines_length < members || charges_length < members || finals_length < members || shares_length < records
         || deviations_length < records)
         return refused(11, 0);
     memcpy(lines, worked.lines, members * sizeof *lines);
     memcpy(charges, worked.charges, members * sizeof *charges);
-    memcpy(finals, worked.finals, members * sizeof *finals);
+    finish(&worked, members, finals);
     if (records != 0) {
         memcpy(shares, worked.shares, records * sizeof *shares);
         memcpy(deviations, worked.deviations, records * sizeof *deviations);

@@ -1,0 +1,34 @@
+/* settle.h: an hour worked out by hand, for settling it and for explaining a charge. */
+#ifndef SETTLE_H
+#define SETTLE_H
+
+#include "file.h"
+
+typedef struct {
+    uint32_t demand[MOST_AREAS];
+    uint32_t member_demand[MOST_MEMBERS], all_demand;
+    int64_t ufe[MOST_AREAS];
+    int64_t deviations[MOST_RECORDS];
+    int64_t shares[MOST_RECORDS];
+    sneupelaar_line lines[MOST_MEMBERS];
+    int64_t charges[MOST_MEMBERS], neutrality; /* the sum of all charges */
+} figures;
+
+static inline int is_load(uint32_t kind)
+{
+    return kind == REAL_TIME_LOAD || kind == PROFILE_LOAD;
+}
+
+/* The price of an area's zone. */
+static inline int64_t price_of(const uint8_t *file, size_t area)
+{
+    return (int32_t)word(file, PRICES + word(file, FIRST_AREA + AREA_WORDS * area));
+}
+
+/* Grains to the nearest cent, halves away from zero. */
+int64_t cents(int64_t grains);
+
+/* The figures of an hour, or the first of refusals 1 to 7 and 12. */
+sneupelaar_answer work_out(const uint8_t *file, size_t file_length, figures *out);
+
+#endif
