@@ -11,7 +11,7 @@ use lib.IntN.{ℤ, pos}
 use lib.ListN.{length, take, drop, getD, length-append, length-drop}
 use lib.Seq.{take-all, length-take-le}
 use borrow.Author.Tests.{leb-true, leb-false, eqb-true, eqb-false, lt-ltb, le-ltb, le-leb, lt-leb, ne-eqb}
-use Rattle.whole.proofs.Tests.{split}
+use Rattle.whole.proofs.Tests.{split, never-some}
 use Rattle.whole.proofs.Buffers.{getD-replacing}
 use Rattle.rules.specs.declared.Line.{Line}
 use Rattle.rules.specs.Record.{Hour, members, zones, areaOf, zoneOf}
@@ -88,6 +88,14 @@ module _ (s : List ℕ) (m : ℕ) where
   nothing-said : (explain s m .verdict ≡ accepted → ⊥) → (explain s m .heads ≡ noHeads) × (explain s m .decided ≡ none)
   nothing-said r = let e = explain-refused (λ z. r (explain-verdict ∙ zero-accepts (explainRows s m) explain-numbered z)) in
       rw e (refl, refl)
+
+  -- the head that decided is one of the five
+  pub one-of-five : (k : ℕ) → explain s m .decided ≡ some k → k < 5
+  unfolding decided
+  one-of-five k e = split (isAccepted (verdict (explainRows s m)))
+      (λ t. named-decides (charge h m) (heads h m) k
+      (rw (explain-accepted (zero-accepts (explainRows s m) explain-numbered (eqb-true _ _ t))) at e) .one-of-five)
+      (λ t. never-some (sym (rw (explain-refused (eqb-false _ _ t)) at e)))
 
 -- ---- what is said of a member
 

@@ -1,0 +1,39 @@
+-- `explanation::print_explanation` lends what was put of its text, and no more.
+use mathlib.Core.Path.{sym}
+use borrow.Author.Needs.{needs}
+use lib.Seq.{length-take-le}
+use Rattle.printing.proofs.Showing.{count-within}
+use Rattle.explanation.proofs.print_explanation.Statement.{statement}
+use Rattle.explanation.proofs.print_explanation.Tie as tie
+
+-- &mut text
+slice-aggregate-explanation : tie.Need-slice-aggregate-explanation
+slice-aggregate-explanation c = search needs
+
+explanation-requires : tie.Need-explanation-requires
+explanation-requires c κs = search needs
+
+-- &text[..length]
+array-share-prefix-text : tie.Need-array-share-prefix-text
+array-share-prefix-text c = count-within (record { count-is = c .before .explanation .ensures .0; out-is = c .before .explanation .ensures .1 })
+
+-- &text[..length]
+slice-aggregate-print : tie.Need-slice-aggregate-print
+slice-aggregate-print c = sym (length-take-le _ _ (array-share-prefix-text (c .before)))
+
+print-requires : tie.Need-print-requires
+print-requires c κs = search needs
+
+returns : tie.Need-returns
+returns c = search needs
+
+pub print-explanation-spec : {M : Type 1} → statement M
+print-explanation-spec =
+    tie.close
+    (tie.spec
+    slice-aggregate-explanation
+    explanation-requires
+    array-share-prefix-text
+    slice-aggregate-print
+    print-requires
+    returns)
