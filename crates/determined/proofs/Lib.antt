@@ -6,3 +6,4 @@ pub mod Files
 pub mod Filled
 pub mod Demanded
 pub mod HourFiles
+pub mod Explaining

@@ -2,17 +2,21 @@
 -- arguments, the result and what the arguments are at exit.
 use mathlib.Core.Path.{_≡_}
 use mathlib.Core.List.{List}
-use Prim.Native.Nat.{ℕ, _≤_}
-use lib.IntN.{ℤ}
-use lib.ListN.{length, take, drop}
+use Prim.Native.Nat.{ℕ, _≤_, _<_}
+use mathlib.Core.Option.{none}
+use lib.IntN.{ℤ, pos}
+use lib.ListN.{length, take, drop, getD}
+use Rattle.rules.specs.Record.{members}
 use Rattle.rules.specs.HourFile.{hourly, hourOf}
 use Rattle.rules.specs.HourWords.{hourFrom, headWords, recordWords}
-use Rattle.rules.specs.Refusals.{Verdict, accepted, refusedAt, verdict, fileRows, writerRows}
-use Rattle.rules.specs.Settling.{Buffers, settleRows, noFigures, HourWritten}
-use Rattle.rules.specs.Promises.{ByFormula, FairOutcome}
+use Rattle.rules.specs.Refusals.{Verdict, accepted, refusedAt, verdict, fileRows, hourRows, writerRows, explainRows}
+use Rattle.rules.specs.Settling.{Buffers, settleRows, settle, noFigures, emptyLine, HourWritten}
+use Rattle.rules.specs.Explanation.{Explanation, noHeads}
+use Rattle.rules.specs.Promises.{Accepts, ByFormula, FairOutcome}
 use Rattle.rules.specs.Finals.{NeutralOutcome, AreBytes}
 use Rattle.rules.specs.Writing.{fileIn}
 use Rattle.rules.specs.Imports.{FirstMetered}
+use Rattle.rules.specs.Explaining.{Explains}
 
 module _ {A X S : Type 0} (promise : A → X → S → Type 0) where
   -- two results that keep the promise are the same
@@ -60,3 +64,17 @@ pub record KeepsWriting (head records before : List ℕ) (w : HourWritten) : Typ
   -- A3, as of a settling
   pub metered-import : (i : ℕ) → verdict (take 2 (writerRows head records (length before))) ≡ accepted →
       FirstMetered (hourFrom hourly head records) i → w .verdict ≡ refusedAt 5 i
+
+-- what document 02 asks of an explanation (A5), by its file and member number, and by what was answered
+pub record KeepsExplaining (file : List ℕ) (member : ℕ) (e : Explanation) : Type 0 where
+  -- the first broken row of the table answers, and a refusal says nothing
+  pub by-the-table : e .verdict ≡ verdict (explainRows file member)
+  pub nothing-said : (e .verdict ≡ accepted → ⊥) → (e .heads ≡ noHeads) × (e .decided ≡ none)
+  -- to each member of an hour that settling accepts, by the line and the charge that settling writes
+  pub explained : (b : Buffers) → Accepts file b → member < members (hourOf hourly file) → (e .verdict ≡ accepted)
+      × Explains (hourOf hourly file) member
+      (getD (settle file b .buffers .lines) member emptyLine .amount) (getD (settle file b .buffers .charges) member (pos 0))
+      (e .heads) (e .decided)
+  -- and to nobody else: 13 comes last
+  pub no-member : (b : Buffers) → Accepts file b → members (hourOf hourly file) ≤ member → e .verdict ≡ refusedAt 13 0
+  pub refused-alike : (verdict (hourRows file) ≡ accepted → ⊥) → e .verdict ≡ verdict (hourRows file)
