@@ -19,7 +19,7 @@ LETTERS = {
     "C": "What the first release covers", "U": "Units and ranges", "F": "The hour file", "S": "The sums", "T": "Text amounts",
     "R": "Refusal numbers and their order", "P": "The printed statement", "G": "Figures to check by", "L": "Slips to catch",
     "W": "How to write each place", "Q": "Strength of the promises", "D": "The three demands", "N": "The neutrality amount",
-    "H": "Writing hour files", "I": "Imports as deemed", "K": "Less stack for the shares",
+    "H": "Writing hour files", "I": "Imports as deemed", "K": "Less stack for the shares", "E": "Why is this my charge?",
 }
 
 KINDS = {

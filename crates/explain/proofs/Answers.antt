@@ -1,6 +1,6 @@
 -- What is answered, refused or accepted, is what `explain` says; and its text is what the input asks for.
 use mathlib.Core.Path.{_≡_, refl, sym, _∙_, ap, ap₂}
-use mathlib.Core.Option.{Option, none}
+use mathlib.Core.Option.{Option}
 use mathlib.Core.List.{List}
 use Prim.Native.Nat.{ℕ, _≤_, _<_}
 use native.Mathlib.Omega.{arith}
@@ -13,11 +13,11 @@ use Rattle.rules.specs.declared.Answer.the-variants.{Accepted, NoMember}
 use Rattle.rules.specs.declared.Explained.{Explained}
 use Rattle.rules.specs.declared.Found.the-variants.{Nothing}
 use Rattle.rules.specs.Record.{members}
-use Rattle.rules.specs.Refusals.{accepted, refusedAt, verdictOf, verdict, hourRows, explainRows}
+use Rattle.rules.specs.Refusals.{accepted, verdictOf, verdict, hourRows, explainRows}
 use Rattle.rules.specs.Settling.{isAccepted}
 use Rattle.rules.specs.Statement.{refusedLine}
-use Rattle.rules.specs.Explanation.{Explanation, heads, noHeads, decided, explain, explanationLines}
-use Rattle.rules.specs.Explanation.{memberAsked, hourAsked, askedRows, explanation}
+use Rattle.rules.specs.Explanation.{heads, noHeads, decided, explain, explanationLines}
+use Rattle.rules.specs.Explanation.{memberAsked, hourAsked, explanation}
 use Rattle.rules.specs.Promises.{AllWhole}
 use Rattle.rules.proofs.Rows.{accepts-when-whole, zero-accepts, hour-numbered}
 use Rattle.rules.proofs.Explaining.{explain-numbered, rows-refused-alike, rows-member, rows-no-member, explain-accepted, explain-refused}

@@ -1,14 +1,14 @@
 -- A turn of the search for the head that decided: a head takes the lead, or the lead stays.
 use mathlib.Core.Path.{_≡_, refl, sym, _∙_, ap}
-use mathlib.Core.Bool.{Bool, true, false, cond}
+use mathlib.Core.Bool.{Bool, true, cond}
 use mathlib.Core.Option.{Option, none, some}
 use mathlib.Core.List.{List}
-use Prim.Native.Nat.{ℕ, suc, _+_, _≤_, _<_}
+use Prim.Native.Nat.{ℕ, _+_, _≤_, _<_}
 use native.Mathlib.Numerals.{add-one}
 use native.Mathlib.Omega.{arith}
-use lib.IntN.{ℤ, pos, negsuc, natAbs}
-use borrow.Author.Tests.{lt-ltb, le-ltb, eq-eqb, ne-eqb, ltb-true}
-use Rattle.whole.proofs.Tests.{split, never}
+use lib.IntN.{ℤ, natAbs}
+use borrow.Author.Tests.{lt-ltb, le-ltb, eq-eqb, ne-eqb}
+use Rattle.whole.proofs.Tests.{split}
 use Rattle.rules.specs.Share.{better, firstLargest}
 use Rattle.rules.specs.Explanation.{headAt, sameSign, decidedBy}
 use Rattle.rules.proofs.Decided.{sign-has-size}

@@ -1,5 +1,5 @@
 -- A charge's sign decides which test a head has to pass.
-use mathlib.Core.Path.{_≡_, refl, sym}
+use mathlib.Core.Path.{_≡_, refl}
 use mathlib.Core.Bool.{true, false, or-false}
 use Prim.Native.Nat.{zero-le}
 use lib.IntN.{ℤ, pos, negsuc}

@@ -1,10 +1,9 @@
 -- What explaining answers, as the result that `rules` defines, and its text in a caller's slice; and what its steps ask.
-use Prim.Native.Nat.{ℕ, _≤_}
+use Prim.Native.Nat.{ℕ}
 use mathlib.Core.Path.{_≡_}
 use mathlib.Core.Bool.{cond}
 use mathlib.Core.List.{List}
 use lib.IntN.{ℤ}
-use lib.ListN.{length}
 use Rattle.rules.specs.declared.Explained.{Explained}
 use Rattle.rules.specs.Refusals.{accepted, verdictOf, verdict, hourRows}
 use Rattle.rules.specs.Settling.{isAccepted}

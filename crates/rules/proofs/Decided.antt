@@ -1,6 +1,6 @@
 -- The head that decided: it is the one that is asked for, a charge other than zero always has one, and a charge of zero none.
 -- Document 02, A5.
-use mathlib.Core.Path.{_≡_, refl, sym, _∙_, ap, subst}
+use mathlib.Core.Path.{_≡_, refl, ap, subst}
 use mathlib.Core.Logic.{_↔_}
 use mathlib.Core.Bool.{true, false, _&&_, and-false}
 use mathlib.Core.Option.{Option, none, some}
@@ -12,9 +12,8 @@ use lib.IntN.{ℤ, pos, negsuc, negℤ, natAbs, _+ℤ_}
 use lib.Signed.{ltZ, _≤ℤ_, _<ℤ_, ltZ-no, clashℤ}
 use borrow.Author.Tests.{lt-ltb, eqb-true, eqb-false}
 use Rattle.whole.specs.Below.{totalBelow}
-use Rattle.whole.proofs.Tests.{split, never, never-some, neither, both}
+use Rattle.whole.proofs.Tests.{split, never, neither}
 use Rattle.whole.proofs.Linear.{zr, all5, lt↑, abs-zero}
-use Rattle.rules.specs.Share.{firstLargest}
 use Rattle.rules.specs.Charge.{nearestCent, cents}
 use Rattle.rules.specs.Explanation.{headAt, sameSign, decidedBy}
 use Rattle.rules.specs.Explaining.{Decides}

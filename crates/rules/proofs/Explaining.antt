@@ -1,25 +1,22 @@
 -- What is asked of an explanation, proved for every input. Document 02, A5.
-use mathlib.Core.Path.{_≡_, refl, sym, _∙_, ap, ap₂}
+use mathlib.Core.Path.{_≡_, refl, sym, _∙_, ap}
 use mathlib.Core.Logic.{_↔_}
-use mathlib.Core.Bool.{Bool, true, false, cond, or-true}
-use mathlib.Core.Option.{Option, none, some}
+use mathlib.Core.Option.{none, some}
 use mathlib.Core.List.{List, [], _∷_, _++_}
 use Prim.Native.Nat.{ℕ, suc, _-_, _≤_, _<_}
 use native.Mathlib.Omega.{arith}
-use lib.Dec.{ltb, leb, eqb}
-use lib.IntN.{ℤ, pos}
-use lib.ListN.{length, take, drop, getD, length-append, length-drop}
-use lib.Seq.{take-all, length-take-le}
-use borrow.Author.Tests.{leb-true, leb-false, eqb-true, eqb-false, lt-ltb, le-ltb, le-leb, lt-leb, ne-eqb}
+use lib.IntN.{pos}
+use lib.ListN.{getD}
+use borrow.Author.Tests.{eqb-true, eqb-false, le-leb, lt-leb, ne-eqb}
 use Rattle.whole.proofs.Tests.{split, never-some}
 use Rattle.whole.proofs.Buffers.{getD-replacing}
 use Rattle.rules.specs.declared.Line.{Line}
 use Rattle.rules.specs.Record.{Hour, members, zones, areaOf, zoneOf}
 use Rattle.rules.specs.Charge.{amount, charge}
 use Rattle.rules.specs.HourFile.{hourly, hourOf}
-use Rattle.rules.specs.Refusals.{Row, row, Verdict, accepted, refusedAt, verdict, placeZeroIf, noMember, hourRows, explainRows}
+use Rattle.rules.specs.Refusals.{Row, row, accepted, refusedAt, verdict, noMember, hourRows, explainRows}
 use Rattle.rules.specs.Settling.{Buffers, isAccepted, settle, filled, lineOf, emptyLine}
-use Rattle.rules.specs.Explanation.{Explanation, heads, noHeads, decided, explain}
+use Rattle.rules.specs.Explanation.{heads, noHeads, decided, explain}
 use Rattle.rules.specs.Promises.{Accepts, AllWhole, FirstBrokenRow}
 use Rattle.rules.specs.Explaining.{Explains, Explaining}
 use Rattle.rules.proofs.Rows.{Numbered, accepts-when-whole, zero-accepts, refuses-at-first, refused-first, passed-on, hour-numbered}

@@ -4,12 +4,11 @@ use mathlib.Core.Path.{_≡_, refl, sym, _∙_, ap}
 use mathlib.Core.Bool.{Bool, true, false, cond, _&&_, and-false}
 use mathlib.Core.List.{List, [], _∷_}
 use Prim.Native.Nat.{ℕ, zero, suc, _+_, _*_, _≤_, _<_}
-use native.Mathlib.Nat.{le-refl, le-trans}
 use native.Mathlib.Omega.{arith}
 use lib.Dec.{eqb}
 use lib.ListN.{length}
-use lib.IntN.{ℤ, pos, negℤ, natAbs, +ℤ-idl, +ℤ-idr, zero-*ℤ, *ℤ-zero, *ℤ-comm, _+ℤ_, _*ℤ_}
-use Rattle.whole.specs.Below.{sumBelow, totalBelow}
+use lib.IntN.{ℤ, pos, negℤ, +ℤ-idl, +ℤ-idr, zero-*ℤ, *ℤ-zero, *ℤ-comm, _+ℤ_, _*ℤ_}
+use Rattle.whole.specs.Below.{totalBelow}
 use Rattle.whole.specs.Signed.{Under}
 use Rattle.whole.proofs.Tests.{both, cond-ext}
 use Rattle.whole.proofs.Linear.{zr, all2, all3}
@@ -17,14 +16,14 @@ use Rattle.whole.proofs.Ranges.{u-le, u-neg, u-lit, u-zero}
 use Rattle.whole.proofs.Totals.{total-ext, total-add, total-neg, total-times, total-swap, total-pick}
 use Rattle.rules.specs.declared.Kind.{Kind}
 use Rattle.rules.specs.declared.Kind.the-variants.{Generator, RealTimeLoad, ProfileLoad, Import, Export, Unknown}
-use Rattle.rules.specs.Record.{Hour, Entry, zones, zonePrice, zoneOf, price, memberOf, areaOf, entry, entryOf}
+use Rattle.rules.specs.Record.{Hour, Entry, zones, zonePrice, zoneOf, price, memberOf, areaOf, entryOf}
 use Rattle.rules.specs.Record.{isGenerator, isLoad, isImport, isExport}
 use Rattle.rules.specs.Deviation.{generatorDeviation, loadDeviation, importDeviation, exportDeviation, deviation, deviationAs}
 use Rattle.rules.specs.Charge.{enteringAs, entering, shareOf, grains, amount}
 use Rattle.rules.specs.Explanation.{pricedSum, heads, headAt}
 use Rattle.rules.specs.Inner.Posting.{headWith, headsWith, headsAfter}
 use Rattle.rules.specs.Inner.Kept.{HourKept, EntryKept}
-use Rattle.rules.specs.Tariff.{genDev, loadDev, impDev, expDev, coordinatorSum, UFEC}
+use Rattle.rules.specs.Tariff.{coordinatorSum, UFEC}
 use Rattle.rules.specs.Explaining.{inEveryZone, tariffHeads}
 use Rattle.rules.proofs.Tariff.{generator-renders, load-renders, import-deemed, import-renders, export-renders, only-loads-share}
 use Rattle.rules.proofs.Bounds.{generator-under, load-under, import-under, export-under, priced-running}

@@ -7,14 +7,14 @@ use mathlib.Core.Bool.{true}
 use mathlib.Core.Option.{Option, none, some}
 use mathlib.Core.List.{List, [], _∷_}
 use lib.IntN.{ℤ, pos, negℤ, natAbs, _*ℤ_}
-use lib.ListN.{length, getD}
+use lib.ListN.{getD}
 use Rattle.whole.specs.Below.{totalBelow}
 use Rattle.rules.specs.Record.{Hour, members, zones, zonePrice, entryOf, isGenerator, isLoad, isImport, isExport}
 use Rattle.rules.specs.Charge.{shareOf}
 use Rattle.rules.specs.HourFile.{hourly, hourOf}
 use Rattle.rules.specs.Refusals.{accepted, refusedAt, verdict, hourRows, explainRows}
 use Rattle.rules.specs.Settling.{Buffers, settle, emptyLine}
-use Rattle.rules.specs.Explanation.{Explanation, noHeads, headAt, sameSign, explain}
+use Rattle.rules.specs.Explanation.{noHeads, headAt, sameSign, explain}
 use Rattle.rules.specs.Tariff.{genDev, loadDev, impDev, expDev, coordinatorSum, UFEC}
 use Rattle.rules.specs.Promises.{Accepts, AllWhole, FirstBrokenRow}
 

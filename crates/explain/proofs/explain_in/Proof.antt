@@ -2,7 +2,7 @@
 use borrow.Author.Needs.{needs}
 use Rattle.answer.proofs.Refusing.{no-other}
 use Rattle.pool.specs.Unlined.{unlined}
-use Rattle.pool.proofs.Rooms.{Rooms, same-verdict, figured}
+use Rattle.pool.proofs.Rooms.{Rooms, same-verdict}
 use Rattle.explain.proofs.Answers.{refused-alike, settled}
 use Rattle.explain.proofs.explain_in.Statement.{statement}
 use Rattle.explain.proofs.explain_in.Tie as tie

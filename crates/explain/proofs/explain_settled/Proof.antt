@@ -1,12 +1,11 @@
 -- `explain::explain_settled` meets its contract: the member isn't there, or its heads and the head that decided are worked.
-use mathlib.Core.Path.{_≡_, _∙_, ap, ap₂}
+use mathlib.Core.Path.{_∙_, ap₂}
 use Prim.Native.Nat.{_<_}
 use native.Mathlib.Omega.{arith}
 use borrow.Author.Needs.{needs}
 use Rattle.whole.proofs.Machine.{read-back}
 use Rattle.whole.proofs.Ranges.{u-fits}
 use Rattle.rules.specs.Record.{members}
-use Rattle.rules.specs.Charge.{charge}
 use Rattle.rules.specs.Explanation.{decidedBy, decided}
 use Rattle.rules.proofs.Bounds.{charge-under}
 use Rattle.hour.specs.Hour.{hourIn, Headed}

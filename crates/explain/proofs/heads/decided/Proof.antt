@@ -4,12 +4,11 @@ use mathlib.Core.Path.{_≡_, _∙_, ap}
 use mathlib.Core.Logic.{⊎-elim}
 use Prim.Native.Nat.{_-_, _≤_}
 use native.Mathlib.Omega.{arith}
-use lib.IntN.{ℤ}
 use borrow.Author.Needs.{needs}
 use mir.Syntax.{w64}
 use mir.Val.{toZ}
 use Rattle.whole.proofs.Machine.{element-fits, read-back, back}
-use Rattle.rules.specs.Explanation.{headAt, decidedBy}
+use Rattle.rules.specs.Explanation.{headAt}
 use Rattle.explain.specs.Leading.{weightOf, Leading}
 use Rattle.explain.proofs.Search.{none-leads, takes-lead, keeps-lead, none-led, one-led}
 use Rattle.explain.proofs.heads.decided.Statement.{statement}

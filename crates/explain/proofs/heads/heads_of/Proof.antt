@@ -1,9 +1,9 @@
 -- `explain::heads::heads_of` meets its contract. The loop's invariant: the heads are those of the records passed.
-use mathlib.Core.Path.{_≡_, refl, sym, _∙_, ap}
+use mathlib.Core.Path.{_≡_, refl, _∙_, ap}
 use Prim.Native.Nat.{ℕ, _-_, _≤_, _<_}
 use native.Mathlib.Omega.{arith}
 use lib.IntN.{pos}
-use lib.ListN.{length, getD}
+use lib.ListN.{getD}
 use Rattle.whole.proofs.Machine.{read-back}
 use Rattle.whole.proofs.Ranges.{u-fits}
 use Rattle.rules.specs.Record.{Hour, areas, price, areaOf}

@@ -1,15 +1,14 @@
 -- `explain::heads::posted` meets its contract: the member's record is posted, another's is not; price, deviation and share each keep their
 -- range, so that the products fit.
-use mathlib.Core.Path.{_≡_, sym, _∙_, ap, ap₂}
+use mathlib.Core.Path.{_≡_, sym, _∙_, ap₂}
 use Prim.Native.Nat.{ℕ}
 use native.Mathlib.Omega.{arith}
 use borrow.Author.Needs.{needs}
 use Rattle.whole.proofs.Machine.{Num, result, _:*_, fits, stored, gives, back, read-back}
-use Rattle.rules.specs.Record.{Hour, memberOf, areaOf, entryOf}
+use Rattle.rules.specs.Record.{Hour, areaOf, entryOf}
 use Rattle.rules.specs.Deviation.{deviation}
 use Rattle.rules.specs.Charge.{enteringAs, entering}
 use Rattle.rules.specs.Inner.Kept.{RecordKept}
-use Rattle.rules.specs.Inner.Posting.{headsWith, headsAfter}
 use Rattle.rules.proofs.Bounds.{deviation-under, entering-under, share-under, price-under}
 use Rattle.rules.proofs.Heads.{heads-running}
 use Rattle.hour.proofs.Inside.{record-inside}

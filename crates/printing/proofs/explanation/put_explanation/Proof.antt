@@ -1,9 +1,7 @@
 -- `printing::explanation::put_explanation` meets its contract: a line a head, one after the other, and the sixth.
 use mathlib.Core.Path.{_≡_, ap}
 use Prim.Native.Nat.{ℕ}
-use mathlib.Core.List.{List}
 use borrow.Author.Needs.{needs}
-use lib.IntN.{ℤ}
 use Rattle.whole.proofs.Machine.{element-fits, read-back, back}
 use Rattle.rules.specs.Explanation.{headAt, headLine, explanationLines}
 use Rattle.printing.proofs.Putting.{put-on, put-as}
