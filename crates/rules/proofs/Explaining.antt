@@ -2,7 +2,7 @@
 use mathlib.Core.Path.{_≡_, refl, sym, _∙_, ap}
 use mathlib.Core.Logic.{_↔_}
 use mathlib.Core.Option.{none, some}
-use mathlib.Core.List.{List, [], _∷_, _++_}
+use mathlib.Core.List.{List, [], _∷_}
 use Prim.Native.Nat.{ℕ, suc, _-_, _≤_, _<_}
 use native.Mathlib.Omega.{arith}
 use lib.IntN.{pos}
@@ -14,12 +14,12 @@ use Rattle.rules.specs.declared.Line.{Line}
 use Rattle.rules.specs.Record.{Hour, members, zones, areaOf, zoneOf}
 use Rattle.rules.specs.Charge.{amount, charge}
 use Rattle.rules.specs.HourFile.{hourly, hourOf}
-use Rattle.rules.specs.Refusals.{Row, row, accepted, refusedAt, verdict, noMember, hourRows, explainRows}
+use Rattle.rules.specs.Refusals.{row, accepted, refusedAt, verdict, noMember, hourRows, explainRows}
 use Rattle.rules.specs.Settling.{Buffers, isAccepted, settle, filled, lineOf, emptyLine}
 use Rattle.rules.specs.Explanation.{heads, noHeads, decided, explain}
 use Rattle.rules.specs.Promises.{Accepts, AllWhole, FirstBrokenRow}
 use Rattle.rules.specs.Explaining.{Explains, Explaining}
-use Rattle.rules.proofs.Rows.{Numbered, accepts-when-whole, zero-accepts, refuses-at-first, refused-first, passed-on, hour-numbered}
+use Rattle.rules.proofs.Rows.{Numbered, numbered-on, accepts-when-whole, zero-accepts, refuses-at-first, refused-first, passed-on, hour-numbered}
 use Rattle.rules.proofs.Rows.{settle-whole, settle-fills}
 use Rattle.rules.proofs.Kept.{passed-kept}
 use Rattle.rules.proofs.Demands.{zone-there}
@@ -32,18 +32,14 @@ module _ (s : List ℕ) (m : ℕ) where
   abbrev h : Hour
   h = hourOf hourly s
 
-  numbered-on : (rows more : List Row) → Numbered rows → Numbered more → Numbered (rows ++ more)
-  numbered-on [] more n k = k
-  numbered-on (row i o ∷ rows) more n k = (n .0, numbered-on rows more (n .1) k)
-
-  pub explain-numbered : Numbered (explainRows s m)
-  unfolding explainRows
-  explain-numbered = numbered-on (hourRows s) (row 13 (noMember h m) ∷ []) (hour-numbered s) (omega arith)
-
   -- what settling refuses, an explanation refuses alike
   pub rows-refused-alike : (verdict (hourRows s) ≡ accepted → ⊥) → verdict (explainRows s m) ≡ verdict (hourRows s)
   unfolding explainRows
   rows-refused-alike = refused-first (hourRows s) (row 13 (noMember h m) ∷ [])
+
+  pub explain-numbered : Numbered (explainRows s m)
+  unfolding explainRows
+  explain-numbered = numbered-on (hourRows s) (row 13 (noMember h m) ∷ []) (hour-numbered s) (omega arith)
 
   -- what it accepts, 13 decides
   rows-passed : AllWhole (hourRows s) → verdict (explainRows s m) ≡ verdict (row 13 (noMember h m) ∷ [])
@@ -90,7 +86,7 @@ module _ (s : List ℕ) (m : ℕ) where
   pub one-of-five : (k : ℕ) → explain s m .decided ≡ some k → k < 5
   unfolding decided
   one-of-five k e = split (isAccepted (verdict (explainRows s m)))
-      (λ t. named-decides (charge h m) (heads h m) k
+      (λ t. named-decides _ (heads h m) k
       (rw (explain-accepted (zero-accepts (explainRows s m) explain-numbered (eqb-true _ _ t))) at e) .one-of-five)
       (λ t. never-some (sym (rw (explain-refused (eqb-false _ _ t)) at e)))
 

@@ -29,6 +29,10 @@ abbrev pub Numbered : List Row → Type 0
 Numbered [] = Unit {0}
 Numbered (row n broken ∷ rows) = (1 ≤ n) × Numbered rows
 
+pub numbered-on : (rows more : List Row) → Numbered rows → Numbered more → Numbered (rows ++ more)
+numbered-on [] more n k = k
+numbered-on (row i o ∷ rows) more n k = (n .0, numbered-on rows more (n .1) k)
+
 zero-never : {X : Type 0} (n : ℕ) → suc n ≡ 0 → X
 zero-never n e = absurd (omega arith)
 
