@@ -20,7 +20,7 @@ counts_ready() {
         echo "bench: valgrind counts the instructions, and it is not installed" >&2
         exit 2
     fi
-    counts_archive=$(kit_archive sneupelaar)
+    counts_archive=$(kit_archive)
     mkdir -p "$counts_made"
     python3 "$counts_here/hours.py" "$counts_made"
     kit_compile "$counts_here/bench.c" "$counts_made/bench.o" -I "$counts_hand"

@@ -1,8 +1,7 @@
-/* The settlement library for programs in C and C++: link target/staticlib/libsneupelaar.a, which
- * `rt staticlib sneupelaar` proves and makes.
+/* The settlement library for programs in C and C++: link target/libsneupelaar.a, which tools/archive proves and makes.
  *
  * Every function takes every input: any bytes, any numbers, any lengths. What it answers and what every buffer holds afterwards is proved
- * in crates/sneupelaar for each of them. That rests on what a call lends:
+ * in crates/sneupelaar and crates/explain for each of them. That rests on what a call lends:
  *   - A pointer and its length lend so many bytes or elements, which are readable, writable where the pointer isn't const, and aligned as
  *     C asks. With length 0 nothing is read or written, and the pointer may be null.
  *   - Buffers that one call lends don't overlap, and nothing else writes them while it runs.

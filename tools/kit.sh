@@ -1,9 +1,9 @@
 # shellcheck shell=bash
-# kit.sh: sourced. The kit's compiler, linker and, on Arm, emulator, for C beside an archive of `rt staticlib`. Nothing is installed.
+# kit.sh: sourced. The kit's compiler, linker and, on Arm, emulator, for C beside the archives of `rt staticlib`. Nothing is installed.
 #   kit_compile SOURCE OBJECT [WORDS..]    C to an object, compiled as rattle has its own code compiled
 #   kit_link PROGRAM OBJECT|ARCHIVE..      a program for x86-64
 #   kit_run PROGRAM [WORDS..]              runs it: on x86-64 under the kit's loader, on Arm under the kit's emulator too
-#   kit_archive CRATE                      target/staticlib/libCRATE.a, made anew where a source is newer
+#   kit_archive                            target/libsneupelaar.a, the library for C, made anew where a source is newer
 kit_root=$(cd "$(dirname "${BASH_SOURCE[0]}")/.." && pwd)
 kit_home=$(dirname "$(dirname "$(rt doc)")")
 kit_machine=$(uname -m)
@@ -42,14 +42,23 @@ kit_run() {
     "${kit_words[@]}" "$@"
 }
 
+# The crates that export functions to C. The compiler takes a crate's archive as a whole, and makes what two of its functions call a function
+# apart; so explaining, which settles, is not in one with settling. Whoever calls only some of the functions links only their archive's code.
+kit_exporting=(sneupelaar explain)
+
 kit_archive() {
-    local archive=$kit_root/target/staticlib/lib$1.a said
+    local archive=$kit_root/target/libsneupelaar.a crate said made=()
     if [ ! -f "$archive" ] || [ -n "$(find "$kit_root/crates.txt" "$kit_root"/crates/*/src -newer "$archive" -print -quit)" ]; then
-        echo "proving $1 and all that it rests on, and making its archive; from nothing this takes some minutes" >&2
-        if ! said=$(cd "$kit_root" && rt staticlib "$1" 2>&1); then
-            echo "$said" >&2
-            return 1
-        fi
+        echo "proving the library for C and all that it rests on, and making its archive; from nothing this takes some minutes" >&2
+        for crate in "${kit_exporting[@]}"; do
+            if ! said=$(cd "$kit_root" && rt staticlib "$crate" 2>&1); then
+                echo "$said" >&2
+                return 1
+            fi
+            made+=("$kit_root/target/staticlib/lib$crate.a")
+        done
+        rm -f "$archive"
+        "$kit_tools/bin/llvm-ar" qcL "$archive" "${made[@]}"
     fi
     echo "$archive"
 }

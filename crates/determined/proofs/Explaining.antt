@@ -21,7 +21,7 @@ use Rattle.rules.proofs.Worded.{cut-input-same}
 use Rattle.printing.proofs.Showing.{whole-text}
 use Rattle.pool.specs.Buffers.{buffers}
 use Rattle.explain.specs.Answered.{answered}
-use Rattle.sneupelaar.specs.HandedOut.{explanation as handedOut, headCounted}
+use Rattle.explain.specs.HandedOut.{handedOut, headCounted}
 use Rattle.determined.specs.Determined.{OneResult, OneOutcome, Gives, KeepsExplaining}
 use Rattle.determined.proofs.Laws.{agree, agree-answer, agree-found}
 use Rattle.printing.proofs.explanation.put_explanation.Reads as put-explanation
@@ -29,7 +29,7 @@ use Rattle.explain.proofs.explain.Reads as explain
 use Rattle.explain.proofs.explanation.Reads as explanation
 use Rattle.pool.proofs.Port.settle.Reads as settle
 use Rattle.sneupelaar.proofs.Port.sneupelaar_settle.Reads as sneupelaar-settle
-use Rattle.sneupelaar.proofs.sneupelaar_explain.Reads as sneupelaar-explain
+use Rattle.explain.proofs.boundary.sneupelaar_explain.Reads as sneupelaar-explain
 
 -- ---- no second result fits
 

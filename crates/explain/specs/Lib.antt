@@ -2,3 +2,4 @@
 pub mod Room
 pub mod Leading
 pub mod Answered
+pub mod HandedOut

@@ -11,6 +11,7 @@ use rules::Answer;
 use rules::Explained;
 use rules::Found;
 
+pub mod boundary;
 mod heads;
 
 // The most bytes that the explanation of any byte string has: six lines of five numbers of 64 bits (`explanation-fits` of `rules`).

@@ -1,16 +1,12 @@
--- What the functions for C hand out, as the results that `rules` defines: an answer is its number and place, a body is where it stands, the
--- head that decided is counted.
-use Prim.Native.Nat.{ℕ, zero, suc, _+_, _*_}
+-- What the functions for C hand out, as the results that `rules` defines: an answer is its number and place, a body is where it stands.
+use Prim.Native.Nat.{ℕ, _+_, _*_}
 use mathlib.Core.Bool.{cond, _||_}
-use mathlib.Core.Option.{Option, none, some}
 use mathlib.Core.List.{List}
 use lib.Dec.{leb}
 use Rattle.rules.specs.HourFile.{hourly, lengthBad, blocks}
 use Rattle.rules.specs.Refusals.{refusedAt}
 use Rattle.rules.specs.Settling.{Buffers, Settlement, HourWritten, Written, ReadAmount}
-use Rattle.rules.specs.Explanation.{Explanation}
 use Rattle.sneupelaar.specs.declared.NumberedAnswer.{NumberedAnswer}
-use Rattle.sneupelaar.specs.declared.NumberedExplained.{NumberedExplained}
 use Rattle.sneupelaar.specs.declared.NumberedFiled.{NumberedFiled}
 use Rattle.sneupelaar.specs.declared.NumberedReading.{NumberedReading}
 use Rattle.sneupelaar.specs.declared.NumberedSettled.{NumberedSettled}
@@ -27,14 +23,6 @@ written r after = record { verdict = refusedAt (r .number) (r .place); field = a
 
 abbrev pub readAmount : NumberedReading → ReadAmount
 readAmount r = record { verdict = refusedAt (r .number) (r .place); amount = r .amount }
-
--- 0 is none, and the five heads count from 1
-abbrev pub headCounted : ℕ → Option ℕ
-headCounted zero = none
-headCounted (suc k) = some k
-
-abbrev pub explanation : NumberedExplained → Explanation
-explanation r = record { verdict = refusedAt (r .number) (r .place); heads = r .heads; decided = headCounted (r .decided) }
 
 -- the 480 bytes after a block's first 32; where the file has no such body, no bytes from its start
 unfoldable pub bodyPart : List ℕ → ℕ → Part

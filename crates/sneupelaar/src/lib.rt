@@ -1,18 +1,13 @@
 // The library for programs in C (include/sneupelaar.h): an answer goes out as its number and place, a body as where it stands in the file.
 // No function here has a `requires`: nothing would check it for C.
 ghost use mathlib.Core.Path.{_≡_};
-ghost use mathlib.Core.Option.{some};
-ghost use Prim.Native.Nat.{ℕ, _<_};
 ghost use lib.ListN.{drop, take};
 ghost use Rattle.rules.specs.HourFile.{body, hourly};
-ghost use Rattle.rules.specs.Explanation as Explanation;
-ghost use Rattle.rules.specs.Inner.Searched.{foundAt};
 ghost use Rattle.rules.specs.Refusals.{numberOf, placeOf};
 ghost use Rattle.rules.specs.Settling as Settling;
 ghost use Rattle.rules.specs.Writing.{AreWords};
 ghost use Rattle.pool.specs.Buffers.{buffers};
-ghost use Rattle.sneupelaar.specs.HandedOut.{bodyPart, explanation, headCounted, hourWritten, readAmount, settlement, written};
-use rules::Found;
+ghost use Rattle.sneupelaar.specs.HandedOut.{bodyPart, hourWritten, readAmount, settlement, written};
 use rules::Line;
 use rules::Settled;
 
@@ -41,14 +36,6 @@ pub struct NumberedFiled {
     pub number: u64,
     pub place: u64,
     pub length: usize,
-}
-
-#[repr(C)]
-pub struct NumberedExplained {
-    pub number: u64,
-    pub place: u64,
-    pub heads: [i64; 5],
-    pub decided: u64,
 }
 
 // A part of a file: its first byte's place, and how many bytes it has.
@@ -149,33 +136,5 @@ pub extern "C" fn sneupelaar_body(file: &[u8], block: usize) -> Part
     Part {
         from: 512 * block + 32,
         length: length,
-    }
-}
-
-// The head that decided, counted from 1; 0 where none did.
-fn head_number(decided: Found) -> u64
-    requires { ⌜ ((k : ℕ) → foundAt decided ≡ some k → k < 5) ⌝ }
-    ensures { λ r. ⌜ headCounted r ≡ foundAt decided ⌝ }
-{
-    let Found::At(place) = decided else {
-        return 0;
-    };
-    place as u64 + 1
-}
-
-// Explains a member's charge.
-#[no_mangle]
-pub extern "C" fn sneupelaar_explain(file: &[u8], member: u32) -> NumberedExplained
-    ensures { λ r. ⌜ explanation r ≡ Explanation.explain (now (file .entry)) member ⌝ }
-{
-    let explained = explain::explain(file, member);
-    let answer = explained.answer;
-    let heads = explained.heads;
-    let decided = explained.decided;
-    NumberedExplained {
-        number: answer::number_of(answer),
-        place: answer::place_of(answer) as u64,
-        heads: heads,
-        decided: head_number(decided),
     }
 }

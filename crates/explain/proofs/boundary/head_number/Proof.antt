@@ -1,12 +1,12 @@
--- `sneupelaar::head_number` meets its contract: the place among the five, counted from 1.
+-- `explain::boundary::head_number` meets its contract: the place among the five, counted from 1.
 use mathlib.Core.Path.{_≡_, sym, ap}
 use mathlib.Core.Option.{some}
 use native.Mathlib.Numerals.{add-one}
 use native.Mathlib.Omega.{arith}
 use borrow.Author.Needs.{needs}
 use Rattle.rules.specs.Inner.Searched.{foundAt}
-use Rattle.sneupelaar.proofs.head_number.Statement.{statement}
-use Rattle.sneupelaar.proofs.head_number.Tie as tie
+use Rattle.explain.proofs.boundary.head_number.Statement.{statement}
+use Rattle.explain.proofs.boundary.head_number.Tie as tie
 
 -- let Found::At(place) = decided
 enum-known-decided : tie.Need-enum-known-decided

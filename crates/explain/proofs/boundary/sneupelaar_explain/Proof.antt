@@ -3,12 +3,11 @@ use mathlib.Core.Path.{sym, _∙_, ap, ap₂}
 use mathlib.Core.Option.{Option}
 use Prim.Native.Nat.{ℕ}
 use borrow.Author.Needs.{needs}
-use Rattle.rules.specs.Refusals.{Verdict}
+use Rattle.rules.specs.Refusals.{Verdict, refusedAt}
 use Rattle.rules.specs.Explanation.{Explanation}
 use Rattle.rules.proofs.Explaining.{one-of-five}
-use Rattle.sneupelaar.proofs.HandedOut.{numbered-verdict}
-use Rattle.sneupelaar.proofs.sneupelaar_explain.Statement.{statement}
-use Rattle.sneupelaar.proofs.sneupelaar_explain.Tie as tie
+use Rattle.explain.proofs.boundary.sneupelaar_explain.Statement.{statement}
+use Rattle.explain.proofs.boundary.sneupelaar_explain.Tie as tie
 
 explain-requires : tie.Need-explain-requires
 explain-requires c κs = search needs
@@ -29,7 +28,7 @@ returns : tie.Need-returns
 returns c =
     let x = c .before .before .before .before .explain in
     ap₂ (λ (v : Verdict) (d : Option ℕ). record { verdict = v; heads = x .result .heads; decided = d })
-    (numbered-verdict (x .result .answer) (c .before .before .number-of .ensures) (c .before .place-of .ensures)) (c .head-number .ensures)
+    (ap₂ refusedAt (c .before .before .number-of .ensures) (c .before .place-of .ensures)) (c .head-number .ensures)
     ∙ x .ensures
 
 pub sneupelaar-explain-spec : {M : Type 1} → statement M
