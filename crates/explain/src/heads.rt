@@ -85,6 +85,7 @@ pub fn heads_of(
     while i < n {
         let area = hour::area_of(file, i);
         let price = head.prices[area];
+        // A call's array goes into a local of its own first: no proof is made of it otherwise.
         let with_record = posted(file, i, member, price, deviations[i], shares[i], heads);
         heads = with_record;
         i += 1;

@@ -1,6 +1,7 @@
 -- `printing::explanation::put_head` meets its contract: the name, a blank, the grains and a line feed, one after the other.
 use mathlib.Core.Path.{ap}
 use mathlib.Core.List.{_++_}
+use Prim.Native.Nat.{_+_, _≤_}
 use native.Mathlib.Omega.{arith}
 use lib.ListN.{length, length-append}
 use borrow.Author.Needs.{needs}
@@ -28,6 +29,16 @@ module _ (c : tie.After-put-signed) where
       (c .put-signed .result) (c .put-signed .last .0)
   to-grains = put-on to-blank (put-as (ap signedDecimal (read-back (start .fits .grains))) (c .put-signed .ensures))
 
+  to-grains-most : c .put-signed .result ≤ start .args .at + length (headName (start .args .place)) + 22
+  to-grains-most = omega (
+    arith,
+    to-blank .next-is,
+    length-append (headName (start .args .place)) (bytes " "),
+    c .put-signed .ensures .next-is,
+    ap length (ap signedDecimal (read-back (start .fits .grains))),
+    signed-at-most-21 (start .args .grains),
+  )
+
 put-head-name-requires : tie.Need-put-head-name-requires
 put-head-name-requires c κs = search needs
 
@@ -48,17 +59,7 @@ slice-aggregate-put-bytes-2 c = search needs
 put-bytes-requires-2 : tie.Need-put-bytes-requires-2
 put-bytes-requires-2 c κs =
     let g = c .before .before .before .before in
-    let s = start g in
-    omega (
-      arith,
-      to-blank g .next-is,
-      length-append (headName (s .args .place)) (bytes " "),
-      g .put-signed .ensures .next-is,
-      ap length (ap signedDecimal (read-back (s .fits .grains))),
-      signed-at-most-21 (s .args .grains),
-      put-length (to-grains g),
-      s .pre,
-    )
+    omega (arith, to-grains-most g, put-length (to-grains g), start g .pre)
 
 -- out: &mut [u8]
 same-length : tie.Need-same-length
@@ -69,19 +70,7 @@ unfolding headLine
 returns c =
     let b = c .before .before in
     let g = b .before .before .before .before .before in
-    let s = start g in
-    let line = put-on (to-grains g) (b .put-bytes2 .ensures) in (
-      line,
-      omega (
-        arith,
-        to-blank g .next-is,
-        length-append (headName (s .args .place)) (bytes " "),
-        g .put-signed .ensures .next-is,
-        ap length (ap signedDecimal (read-back (s .fits .grains))),
-        signed-at-most-21 (s .args .grains),
-        b .put-bytes2 .ensures .next-is,
-      ),
-    )
+    (put-on (to-grains g) (b .put-bytes2 .ensures), omega (arith, to-grains-most g, b .put-bytes2 .ensures .next-is))
 
 pub put-head-spec : {M : Type 1} → statement M
 put-head-spec =
