@@ -19,13 +19,14 @@ use Rattle.rules.specs.declared.Answer.the-variants.{
   TooShort,
   NoDemand,
   NoMember,
+  AboveMaximum,
 }
 use Rattle.rules.specs.Refusals.{verdictOf}
 use Rattle.rules.specs.Settling.{isAccepted}
 
 -- the answers but acceptance, as code that matches tells them apart
-pub no-other : OneOf (1 ∷ 2 ∷ 3 ∷ 4 ∷ 5 ∷ 6 ∷ 7 ∷ 8 ∷ 9 ∷ 10 ∷ 11 ∷ 12 ∷ 13 ∷ []) 0 → ⊥
-no-other = miss (1 ∷ 2 ∷ 3 ∷ 4 ∷ 5 ∷ 6 ∷ 7 ∷ 8 ∷ 9 ∷ 10 ∷ 11 ∷ 12 ∷ 13 ∷ []) 0 tt
+pub no-other : OneOf (1 ∷ 2 ∷ 3 ∷ 4 ∷ 5 ∷ 6 ∷ 7 ∷ 8 ∷ 9 ∷ 10 ∷ 11 ∷ 12 ∷ 13 ∷ 14 ∷ []) 0 → ⊥
+no-other = miss (1 ∷ 2 ∷ 3 ∷ 4 ∷ 5 ∷ 6 ∷ 7 ∷ 8 ∷ 9 ∷ 10 ∷ 11 ∷ 12 ∷ 13 ∷ 14 ∷ []) 0 tt
 
 -- each has a number
 pub numbered : (a : Answer) → (a ≡ Accepted → ⊥) → isAccepted (verdictOf a) ≡ false
@@ -43,3 +44,4 @@ numbered NotAnAmount n = refl
 numbered TooShort n = refl
 numbered NoDemand n = refl
 numbered NoMember n = refl
+numbered (AboveMaximum i) n = refl

@@ -23,6 +23,7 @@ pub fn number_of(answer: Answer) -> u64
         Answer::TooShort => 11,
         Answer::NoDemand => 12,
         Answer::NoMember => 13,
+        Answer::AboveMaximum(_) => 14,
     }
 }
 
@@ -45,6 +46,7 @@ pub fn place_of(answer: Answer) -> usize
         Answer::TooShort => 0,
         Answer::NoDemand => 0,
         Answer::NoMember => 0,
+        Answer::AboveMaximum(record) => record,
     }
 }
 

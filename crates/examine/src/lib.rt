@@ -1,9 +1,10 @@
-// Refusals 1 to 5 of an hour file, in the order of the table: the length, the blocks' sums, their layout, the head, the records. Others
-// call `examine` alone; the first three are those of `blocks` in the hourly layout, and `wordrules` says what each word of the head and of
-// a record may be. Each row is looked through in its order and left at the first fault, so that a refused file costs no more than an
-// accepted one.
+// Refusals 1 to 5 and 14 of an hour file, in the order of the table: the length, the blocks' sums, their layout, the head, the records,
+// the generators' schedules. Others call `examine` alone; the first three are those of `blocks` in the hourly layout, and `wordrules` says
+// what each word of the head and of a record may be. Each row is looked through in its order and left at the first fault, so that a refused
+// file costs no more than an accepted one; row 14 is looked for on the way through row 5, which comes first.
 ghost use mathlib.Core.Path.{_≡_};
-ghost use mathlib.Core.Bool.{not};
+ghost use mathlib.Core.Bool.{not, cond};
+ghost use mathlib.Core.Option.{none, some, orElse};
 ghost use Prim.Native.Nat.{_≤_};
 ghost use lib.ListN.{length, drop};
 ghost use Rattle.rules.specs.HourFile as HourFile;
@@ -11,7 +12,7 @@ ghost use Rattle.rules.specs.HourFile.{hourly};
 ghost use Rattle.rules.specs.Ranges as Ranges;
 ghost use Rattle.rules.specs.Refusals as Refusals;
 ghost use Rattle.rules.specs.Inner.Searched.{foundAt};
-ghost use Rattle.examine.specs.Fault.{faultAt};
+ghost use Rattle.examine.specs.Fault.{faultAt, aboveAt};
 ghost use Rattle.examine.specs.Whole.{BlocksWhole};
 use rules::Answer;
 use rules::Found;
@@ -44,11 +45,12 @@ fn bad_head(file: &[u8]) -> Found
     blocks::first_not_zero(head, 48)
 }
 
-// ---- refusal 5: the records
+// ---- refusals 5 and 14: the records
 
-// Where the search stops: at this word of this record, or nowhere.
+// Where the search stops: at this word of this record, or nowhere; then whether a generator is scheduled above its maximum, and which.
 enum Fault {
     Word(usize, usize),
+    Above(usize),
     Nowhere,
 }
 
@@ -59,16 +61,39 @@ fn record_word_bad(words: &[u8], members: u32, areas: u32, kind: u32, w: usize) 
     !wordrules::record_keeps(members, areas, kind, w, blocks::word(words, w))
 }
 
-// The search leaves all the rows at the first record, and in it the first word, that breaks a rule.
+// Whether a record of this kind is a generator that is scheduled above its maximum.
+fn above_maximum(words: &[u8], kind: u32) -> bool
+    ensures { λ r. ⌜ r ≡ Refusals.scheduledAbove kind (HourFile.word (now (words .entry)) 3) (HourFile.word (now (words .entry)) 8) ⌝ }
+{
+    wordrules::scheduled_above(kind, blocks::word(words, 3), blocks::word(words, 8))
+}
+
+// What was found before, or else this place if it is one.
+fn or_at(found: Found, is_one: bool, at: usize) -> Found
+    ensures { λ r. ⌜ foundAt r ≡ orElse (foundAt found) (cond is_one (some at) none) ⌝ }
+{
+    if let Found::At(before) = found {
+        return Found::At(before);
+    }
+    if is_one {
+        return Found::At(at);
+    }
+    Found::Nothing
+}
+
+// The search leaves all the rows at the first record, and in it the first word, that breaks a rule. On its way it keeps the first generator
+// that is scheduled above its maximum, which counts only where no record of the whole file breaks a rule.
 fn first_fault(file: &[u8]) -> Fault
     requires { ⌜ BlocksWhole (now file) ⌝ }
-    ensures { λ r. ⌜ faultAt r ≡ Refusals.firstFault (HourFile.hourOf hourly (now (file .entry))) ⌝ }
+    ensures fault { λ r. ⌜ faultAt r ≡ Refusals.firstFault (HourFile.hourOf hourly (now (file .entry))) ⌝ }
+    ensures above { λ r. ⌜ (faultAt r ≡ none → aboveAt r ≡ Refusals.aboveMaximum (HourFile.hourOf hourly (now (file .entry)))) ⌝ }
 {
     let members = hour::head_word(file, 9);
     let areas = hour::head_word(file, 11);
     let n = hour::records(file);
     let mut i = 0;
     let mut w = 0;
+    let mut above = Found::Nothing;
     'rows: while i < n {
         let words = hour::record(file, i);
         let kind = blocks::word(words, 0);
@@ -79,17 +104,21 @@ fn first_fault(file: &[u8]) -> Fault
             }
             w += 1;
         }
+        above = or_at(above, above_maximum(words, kind), i);
         i += 1;
     }
     if i < n {
         return Fault::Word(i, w);
+    }
+    if let Found::At(first) = above {
+        return Fault::Above(first);
     }
     Fault::Nowhere
 }
 
 // ---- the table
 
-// Refusals 4 and 5, of a file whose blocks are whole.
+// Refusals 4, 5 and 14, of a file whose blocks are whole.
 fn examine_hour(file: &[u8]) -> Answer
     requires { ⌜ BlocksWhole (now file) ⌝ }
     ensures { λ r. ⌜ Refusals.verdictOf r ≡ Refusals.verdict (drop 3 (Refusals.fileRows (now (file .entry)))) ⌝ }
@@ -97,13 +126,14 @@ fn examine_hour(file: &[u8]) -> Answer
     if let Found::At(w) = bad_head(file) {
         return Answer::BadHead(w);
     }
-    if let Fault::Word(i, _) = first_fault(file) {
-        return Answer::BadRecord(i);
+    match first_fault(file) {
+        Fault::Word(i, _) => Answer::BadRecord(i),
+        Fault::Above(i) => Answer::AboveMaximum(i),
+        Fault::Nowhere => Answer::Accepted,
     }
-    Answer::Accepted
 }
 
-// Any byte string: accepted, or the first of refusals 1 to 5 that it breaks, with its place.
+// Any byte string: accepted, or the first of refusals 1 to 5 and 14 that it breaks, with its place.
 pub fn examine(file: &[u8]) -> Answer
     ensures { λ r. ⌜ Refusals.verdictOf r ≡ Refusals.verdict (Refusals.fileRows (now (file .entry))) ⌝ }
 {

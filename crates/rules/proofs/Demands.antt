@@ -46,7 +46,7 @@ record Passed (h : Hour) : Type 0 where
 
 hour-passed : (s : List ℕ) → AllWhole (hourRows s) → Passed (hourOf hourly s)
 unfolding hourRows tableRows
-hour-passed s w = record { kept = passed-kept s w .hour-kept; no-bad-area = w .1 .1 .1 .1 .1 .0 }
+hour-passed s w = record { kept = passed-kept s w .hour-kept; no-bad-area = w .1 .1 .1 .1 .1 .1 .0 }
 
 -- what row 11 says of the buffers
 pub record Room (h : Hour) (b : Buffers) : Type 0 where

@@ -36,7 +36,7 @@ shareable h whole z =
 
 row-12 : (s : List ℕ) → AllWhole (hourRows s) → noDemand (hourOf hourly s) ≡ none
 unfolding hourRows tableRows
-row-12 s w = w .1 .1 .1 .1 .1 .1 .1 .0
+row-12 s w = w .1 .1 .1 .1 .1 .1 .1 .1 .0
 
 filled-neutral : (h : Hour) (b : Buffers) → Room h b → noDemand h ≡ none → NeutralOutcome h b (filled h b)
 unfolding filled

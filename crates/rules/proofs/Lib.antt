@@ -35,4 +35,5 @@ pub mod Writing
 pub mod Imports
 pub mod Raw
 pub mod Explaining
+pub mod Engines
 pub mod Worded

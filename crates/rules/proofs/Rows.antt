@@ -2,18 +2,19 @@
 -- leave behind, refused or accepted; an answer is told by its number and place.
 use mathlib.Core.Path.{_≡_, refl, sym, _∙_, ap, ap₂}
 use mathlib.Core.Logic.{_↔_}
-use mathlib.Core.Bool.{Bool, true, false, cond}
+use mathlib.Core.Bool.{Bool, true, false, cond, _||_}
 use mathlib.Core.Option.{Option, none, some}
 use mathlib.Core.List.{List, [], _∷_, _++_}
 use Prim.Native.Nat.{ℕ, suc, _≤_}
 use native.Mathlib.Omega.{arith}
 use lib.IntN.{ℤ}
 use lib.ListN.{length, getD}
-use borrow.Author.Tests.{eqb-true}
-use Rattle.whole.proofs.Tests.{split, never-some}
+use lib.Dec.{eqb}
+use borrow.Author.Tests.{eqb-true, eqb-false}
+use Rattle.whole.proofs.Tests.{split, neither, never-some}
 use Rattle.rules.specs.declared.Answer.{Answer}
 use Rattle.rules.specs.declared.Answer.the-variants.{Accepted, BadLength, BadSum, BadBlock, BadHead, BadRecord, BadArea, BadAmount}
-use Rattle.rules.specs.declared.Answer.the-variants.{OutOfRange, TooNarrow, NotAnAmount, TooShort, NoDemand, NoMember}
+use Rattle.rules.specs.declared.Answer.the-variants.{OutOfRange, TooNarrow, NotAnAmount, TooShort, NoDemand, NoMember, AboveMaximum}
 use Rattle.rules.specs.Record.{Hour}
 use Rattle.rules.specs.HourFile.{hourly, hourOf}
 use Rattle.rules.specs.Refusals.{Row, row, Verdict, accepted, refusedAt, verdictOf, verdict, placeZeroIf}
@@ -98,6 +99,39 @@ passed-on [] more w = refl
 passed-on (row n none ∷ rows) more w = passed-on rows more (w .1)
 passed-on (row n (some p) ∷ rows) more w = absurd (let z : _≡_ {A = ℕ} 0 1 = cc (w .0) in omega arith)
 
+-- whether a row has this number
+unfoldable pub named : ℕ → List Row → Bool
+named n [] = false
+named n (row k broken ∷ rows) = eqb k n || named n rows
+
+not-answered : (rows : List Row) (n p : ℕ) → named (suc n) rows ≡ false → verdict rows ≡ refusedAt (suc n) p → ⊥
+unfolding verdict named
+not-answered [] n p other e = zero-never n (sym (ap (λ (v : Verdict). v .number) e))
+not-answered (row k none ∷ rows) n p other e = not-answered rows n p (neither (eqb k (suc n)) (named (suc n) rows) other .1) e
+not-answered (row k (some q) ∷ rows) n p other e =
+    eqb-false k (suc n) (neither (eqb k (suc n)) (named (suc n) rows) other .0) (ap (λ (v : Verdict). v .number) e)
+
+-- the only row of its number answers exactly when it is broken and every row before it is passed
+module _ (n p : ℕ) (broken : Option ℕ) (after : List Row) (none-after : named (suc n) after ≡ false) where
+  only-broken : (before : List Row) → named (suc n) before ≡ false → verdict (before ++ row (suc n) broken ∷ after) ≡ refusedAt (suc n) p →
+      (verdict before ≡ accepted) × (broken ≡ some p)
+  unfolding verdict named
+  only-broken [] other e = (refl, at broken e)
+    where
+      at : (o : Option ℕ) → verdict (row (suc n) o ∷ after) ≡ refusedAt (suc n) p → o ≡ some p
+      at none e = absurd (not-answered after n p none-after e)
+      at (some q) e = ap (λ (v : Verdict). some (v .place)) e
+  only-broken (row k none ∷ before) other e = only-broken before (neither (eqb k (suc n)) (named (suc n) before) other .1) e
+  only-broken (row k (some q) ∷ before) other e =
+      absurd (eqb-false k (suc n) (neither (eqb k (suc n)) (named (suc n) before) other .0) (ap (λ (v : Verdict). v .number) e))
+
+  pub only-row : (before : List Row) → Numbered before → named (suc n) before ≡ false →
+      (verdict (before ++ row (suc n) broken ∷ after) ≡ refusedAt (suc n) p) ↔ ((verdict before ≡ accepted) × (broken ≡ some p))
+  only-row before numbered other = (
+    only-broken before other,
+    λ r. rw (r .1) (first-broken-answers before after (suc n) p (accepts-when-whole before numbered .0 (r .0))),
+  )
+
 -- a last row that is whole wherever all others are decides nothing
 pub last-decides-nothing : (rows : List Row) (n : ℕ) (broken : Option ℕ) → (AllWhole rows → broken ≡ none) →
     verdict (rows ++ row n broken ∷ []) ≡ verdict rows
@@ -135,7 +169,7 @@ module _ (s : List ℕ) where
   unfolding tableRows
   settle-numbered b = omega arith
 
-  -- the table in parts: 1 to 5, then 6 and 7, then 11
+  -- the table in parts: 1 to 5 and 14, then 6, 7 and 12, then 11
   pub hour-in-parts : hourRows s ≡ fileRows s ++ row 6 (badArea h) ∷ row 7 (badAmount h) ∷ row 12 (noDemand h) ∷ []
   unfolding hourRows fileRows tableRows
   hour-in-parts = refl
@@ -151,7 +185,7 @@ module _ (s : List ℕ) where
     unfolding hourRows tableRows
     table-in-parts = refl
 
-    -- what rows 1 to 5 refuse, the table refuses alike
+    -- what rows 1 to 5 and 14 refuse, the table refuses alike
     pub file-decides : (verdict (fileRows s) ≡ accepted → ⊥) →
         verdict (tableRows s charges finals lines shares deviations) ≡ verdict (fileRows s)
     unfolding fileRows tableRows
@@ -187,7 +221,7 @@ module _ (s : List ℕ) (b : Buffers) where
   settle-accepts = let r = accepts-when-whole (settleRows s b) (settle-numbered s b) in
       (λ e. r .0 (sym settle-verdict ∙ e), λ w. settle-verdict ∙ r .1 w)
 
-  -- accepted: rows 1 to 7 and 12 are whole, and no buffer is too short
+  -- accepted: every row but 11 is whole, and no buffer is too short
   pub settle-whole : Accepts s b → AllWhole (hourRows s)
       × (shortOf (hourOf hourly s) b ≡ none)
   settle-whole a = table-whole s _ _ _ _ _ (settle-accepts .0 a)
@@ -232,7 +266,7 @@ abbrev answerOf : Verdict → Answer
 answerOf v = let p = v .place in
     getD (
     Accepted ∷ BadLength ∷ BadSum p ∷ BadBlock p ∷ BadHead p ∷ BadRecord p ∷ BadArea p ∷ BadAmount p
-    ∷ OutOfRange ∷ TooNarrow ∷ NotAnAmount ∷ TooShort ∷ NoDemand ∷ NoMember ∷ []) (v .number) Accepted
+    ∷ OutOfRange ∷ TooNarrow ∷ NotAnAmount ∷ TooShort ∷ NoDemand ∷ NoMember ∷ AboveMaximum p ∷ []) (v .number) Accepted
 
 told : (a : Answer) → answerOf (verdictOf a) ≡ a
 told Accepted = refl
@@ -249,6 +283,7 @@ told NotAnAmount = refl
 told TooShort = refl
 told NoDemand = refl
 told NoMember = refl
+told (AboveMaximum i) = refl
 
 -- no two answers have the same number and place
 pub one-answer : (a b : Answer) → verdictOf a ≡ verdictOf b → a ≡ b

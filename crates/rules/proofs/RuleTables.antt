@@ -16,7 +16,7 @@ use Rattle.rules.specs.declared.Kind.{Kind}
 use Rattle.rules.specs.declared.Kind.the-variants.{Generator, RealTimeLoad, ProfileLoad, Import, Export, Unknown}
 use Rattle.rules.specs.declared.Rule.{Rule}
 use Rattle.rules.specs.declared.Rule.the-variants.{Any, Between, LessThan}
-use Rattle.rules.specs.Record.{signed, kindOf}
+use Rattle.rules.specs.Record.{signed, kindOf, isGenerator}
 use Rattle.rules.specs.Ranges.{keeps, mustBeZero, countRules, areaRule, energy, adjustment, multiplier, rulesOf, recordRule}
 
 -- ---- the size of a negative number in two's complement
@@ -152,6 +152,17 @@ kind-unknown (suc (suc (suc zero))) a b c d e = absurd (c refl)
 kind-unknown (suc (suc (suc (suc zero)))) a b c d e = absurd (d refl)
 kind-unknown (suc (suc (suc (suc (suc zero))))) a b c d e = absurd (e refl)
 kind-unknown (suc (suc (suc (suc (suc (suc k)))))) a b c d e = refl
+
+-- no number but 1 is a generator's
+pub no-generator : (k : ℕ) → (k ≡ 1 → ⊥) → isGenerator (kindOf k) ≡ false
+unfolding kindOf
+no-generator zero other = refl
+no-generator (suc zero) other = absurd (other refl)
+no-generator (suc (suc zero)) other = refl
+no-generator (suc (suc (suc zero))) other = refl
+no-generator (suc (suc (suc (suc zero)))) other = refl
+no-generator (suc (suc (suc (suc (suc zero))))) other = refl
+no-generator (suc (suc (suc (suc (suc (suc k)))))) other = refl
 
 -- of a row beside another: the other's rule where a 1 may stand, zero elsewhere
 abbrev picked : List Rule → List Rule → List Rule

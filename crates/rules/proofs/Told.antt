@@ -22,7 +22,7 @@ use Rattle.rules.specs.Text.{bytes, decimal, digitCount, digitsValue}
 use Rattle.rules.specs.HourFile.{hourly, lengthBad, word, blocks, blockWord, recordCount, hourOf}
 use Rattle.rules.specs.Ranges.{firstBroken}
 use Rattle.rules.specs.Refusals.{Row, row, Verdict, accepted, refusedAt, verdict, placeZeroIf, tableRows, hourRows}
-use Rattle.rules.specs.Refusals.{badLength, badSum, badBlock, badHead, badRecord, badArea, badAmount, noDemand}
+use Rattle.rules.specs.Refusals.{badLength, badSum, badBlock, badHead, badRecord, aboveMaximum, badArea, badAmount, noDemand}
 use Rattle.rules.specs.Settling.{ReadAmount, isAccepted, read}
 use Rattle.rules.specs.Statement.{firstLine, memberLines, acceptedLines, refusedLine, statement}
 use Rattle.rules.specs.Finals.{memberPlace, chargeColumn, finalColumn, SameSheet, AreBytes, Sheet}
@@ -96,7 +96,7 @@ module _ (s : List ℕ) (b : AreBytes s) where
   blocks-small l = omega arith
 
   rows-small : length s ≤ 13312 → SmallRows (hourRows s)
-  unfolding hourRows tableRows badLength badSum badBlock badHead badRecord badArea badAmount noDemand firstBroken
+  unfolding hourRows tableRows badLength badSum badBlock badHead badRecord aboveMaximum badArea badAmount noDemand firstBroken
   rows-small l =
       let h = hourOf hourly s in
       small-row 1 (omega arith) (zero-small (lengthBad hourly s)) (
@@ -104,9 +104,10 @@ module _ (s : List ℕ) (b : AreBytes s) where
       small-row 3 (omega arith) (first-small _ (blocks s) (blocks-small l)) (
       small-row 4 (omega arith) (first-small _ 128 (omega arith)) (
       small-row 5 (omega arith) (first-small _ (h .count) (count-small l)) (
+      small-row 14 (omega arith) (first-small _ (h .count) (count-small l)) (
       small-row 6 (omega arith) (first-small _ (areas h) (head-small 11)) (
       small-row 7 (omega arith) (first-small _ (members h) (head-small 9)) (
-      small-row 12 (omega arith) (zero-small (eqb (hourDemand h) 0 && not (eqb (natAbs (neutrality h)) 0))) no-row)))))))
+      small-row 12 (omega arith) (zero-small (eqb (hourDemand h) 0 && not (eqb (natAbs (neutrality h)) 0))) no-row))))))))
 
   -- a file that is too long has place 0; of the others every place is small
   hour-small : Small (verdict (hourRows s))

@@ -16,7 +16,7 @@ use Rattle.whole.proofs.Buffers.{length-values, getD-values, length-replacing, 
 use Rattle.rules.specs.Record.{Hour}
 use Rattle.rules.specs.HourFile.{hourly, blockWord, recordCount, recordWord, hourOf}
 use Rattle.rules.specs.HourWords.{hourFrom, headWords, recordWords, fileByte, fileLength, fileOf}
-use Rattle.rules.specs.Refusals.{Verdict, accepted, refusedAt, verdict, badLists, badHead, badRecord, noRoom}
+use Rattle.rules.specs.Refusals.{Verdict, accepted, refusedAt, verdict, badLists, badHead, badRecord, aboveMaximum, noRoom}
 use Rattle.rules.specs.Refusals.{tableRows, fileRows, writerRows}
 use Rattle.rules.specs.Settling.{HourWritten, isAccepted, writeHour}
 use Rattle.rules.specs.Promises.{AllWhole, FirstBrokenRow}
@@ -95,7 +95,7 @@ module _ (head records : List ℕ) where
 
     pub room-there : w .verdict ≡ accepted → fileLength hourly h ≤ length file
     unfolding writerRows noRoom
-    room-there e = ltb-false _ _ (no-place _ (accepts .0 e .1 .1 .1 .0))
+    room-there e = ltb-false _ _ (no-place _ (accepts .0 e .1 .1 .1 .1 .0))
 
     past-file : w .verdict ≡ accepted → (drop (w .length) (w .file) ≡ drop (w .length) file) × (length (w .file) ≡ length file)
     past-file e = rw (written e) (
@@ -122,7 +122,7 @@ module _ (head records : List ℕ) where
             sums-whole (fileOf hourly h) h says,
             (
               blocks-whole (fileOf hourly h) h says,
-              (ap badHead same ∙ whole .1 .0, (ap badRecord same ∙ whole .1 .1 .0, tt)),
+              (ap badHead same ∙ whole .1 .0, (ap badRecord same ∙ whole .1 .1 .0, (ap aboveMaximum same ∙ whole .1 .1 .1 .0, tt))),
             ),
           ),
         ) in
@@ -192,9 +192,12 @@ module _ (s : List ℕ) where
         (
           ap badRecord own-lists ∙ whole .1 .1 .1 .1 .0,
           (
-            rw (own-lists, le-ltb room (fileLength hourly (hourOf hourly s)) (omega (arith, own-hour s bytes whole .length-is, enough)))
-                refl,
-            tt,
+            ap aboveMaximum own-lists ∙ whole .1 .1 .1 .1 .1 .0,
+            (
+              rw (own-lists, le-ltb room (fileLength hourly (hourOf hourly s)) (omega (arith, own-hour s bytes whole .length-is, enough)))
+                  refl,
+              tt,
+            ),
           ),
         ),
       ),

@@ -19,6 +19,7 @@ pub mod Promises
 pub mod Finals
 pub mod Writing
 pub mod Imports
+pub mod Engines
 pub mod Explaining
 pub mod Figures
 pub mod Printed

@@ -7,7 +7,7 @@ use lib.Dec.{eqb}
 use Rattle.whole.specs.Below.{valuesBelow}
 use Rattle.rules.specs.HourFile.{hourly, word}
 use Rattle.rules.specs.HourWords.{hourFrom, fileOf}
-use Rattle.rules.specs.Refusals.{Row, row, verdict, placeZeroIf, writerRows}
+use Rattle.rules.specs.Refusals.{Row, row, verdict, placeZeroIf, listRows}
 use Rattle.rules.specs.Settling.{isAccepted}
 use Rattle.rules.specs.Statement.{refusedLine}
 
@@ -22,9 +22,9 @@ module _ (s : List ℕ) where
   abbrev pub rawRecords : List ℕ
   rawRecords = drop 120 rawWords
 
-  -- 1 also where the bytes aren't whole words; the program has no buffer of a caller: the writer's rows without 11
+  -- 1 also where the bytes aren't whole words
   unfoldable pub rawRows : List Row
-  rawRows = row 1 (placeZeroIf (not (eqb (length s % 4) 0))) ∷ take 3 (writerRows rawHead rawRecords 0)
+  rawRows = row 1 (placeZeroIf (not (eqb (length s % 4) 0))) ∷ listRows rawHead rawRecords
 
   -- the file, or the refusal's line
   unfoldable pub rawWritten : List ℕ

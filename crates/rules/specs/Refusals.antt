@@ -1,5 +1,5 @@
 -- The table of refusals: what breaks each row and at which place, and the rows in their order.
--- Document 01, "Refusal numbers and their order"; row 12 is document 02, A1, the rows of the writer are A2, row 13 is A5.
+-- Document 01, "Refusal numbers and their order"; row 12 is document 02, A1, the rows of the writer are A2, row 13 is A5, row 14 is A6.
 use Prim.Native.Nat.{ℕ, _/_, _%_}
 use mathlib.Core.Bool.{Bool, true, false, not, cond, _&&_, _||_}
 use mathlib.Core.Option.{Option, none, some, bind}
@@ -10,8 +10,8 @@ use lib.Dec.{ltb, leb, eqb}
 use Rattle.whole.specs.Below.{firstBelow}
 use Rattle.rules.specs.declared.Answer.{Answer}
 use Rattle.rules.specs.declared.Answer.the-variants.{Accepted, BadLength, BadSum, BadBlock, BadHead, BadRecord, BadArea, BadAmount}
-use Rattle.rules.specs.declared.Answer.the-variants.{OutOfRange, TooNarrow, NotAnAmount, TooShort, NoDemand, NoMember}
-use Rattle.rules.specs.Record.{Hour, members, zones, areas}
+use Rattle.rules.specs.declared.Answer.the-variants.{OutOfRange, TooNarrow, NotAnAmount, TooShort, NoDemand, NoMember, AboveMaximum}
+use Rattle.rules.specs.Record.{Hour, members, zones, areas, kindOf, isGenerator}
 use Rattle.rules.specs.Ufe.{ufe, demands}
 use Rattle.rules.specs.Charge.{amount}
 use Rattle.rules.specs.Neutrality.{neutrality, hourDemand}
@@ -50,6 +50,7 @@ verdictOf NotAnAmount = refusedAt 10 0
 verdictOf TooShort = refusedAt 11 0
 verdictOf NoDemand = refusedAt 12 0
 verdictOf NoMember = refusedAt 13 0
+verdictOf (AboveMaximum i) = refusedAt 14 i
 
 abbrev pub numberOf : Answer → ℕ
 numberOf a = verdictOf a .number
@@ -94,6 +95,10 @@ badSum s = firstBelow (λ b. not (eqb (blockSum s b) 0)) (blocks s)
 unfoldable pub badBlock : Layout → List ℕ → Option ℕ
 badBlock l s = firstBelow (λ b. isBroken (firstBroken (blockRule l (blocks s) (blockWord s b 2) b) (blockWord s b) 128)) (blocks s)
 
+-- 14, of one record by its words 0, 3 and 8: a generator's scheduled energy is above its maximum; equal is allowed
+unfoldable pub scheduledAbove : (kind scheduled maximum : ℕ) → Bool
+scheduledAbove kind scheduled maximum = isGenerator (kindOf kind) && ltb maximum scheduled
+
 abbrev pub mostGrains : ℕ
 mostGrains = 4000000000000000000
 
@@ -113,6 +118,10 @@ module _ (h : Hour) where
   -- where the search stops: in the first such record, at the first such word
   unfoldable pub firstFault : Option (ℕ × ℕ)
   firstFault = bind badRecord (λ i. bind (badWord i) (λ w. some (i, w)))
+
+  -- 14: a generator is scheduled above its maximum; the first such record
+  unfoldable pub aboveMaximum : Option ℕ
+  aboveMaximum = firstBelow (λ i. scheduledAbove (h .rec i 0) (h .rec i 3) (h .rec i 8)) (h .count)
 
   -- 6: T is 0 and U isn't; the first such area
   unfoldable pub badArea : Option ℕ
@@ -158,7 +167,7 @@ notAnAmount field = nothingRead (amountIn field)
 
 -- ---- THE TABLE: its rows as each call checks them, in order, each with its own test
 
--- settling checks 1 to 7 in number order over the whole file, then 12, then 11, by the lengths of the five buffers
+-- settling checks 1 to 5 in number order over the whole file, then 14, 6, 7 and 12, then 11, by the lengths of the five buffers
 unfoldable pub tableRows : List ℕ → (charges finals lines shares deviations : ℕ) → List Row
 tableRows s charges finals lines shares deviations = let h = hourOf hourly s in
     row 1 (badLength hourly s)
@@ -166,6 +175,7 @@ tableRows s charges finals lines shares deviations = let h = hourOf hourly s in
     ∷ row 3 (badBlock hourly s)
     ∷ row 4 (badHead h)
     ∷ row 5 (badRecord h)
+    ∷ row 14 (aboveMaximum h)
     ∷ row 6 (badArea h)
     ∷ row 7 (badAmount h)
     ∷ row 12 (noDemand h)
@@ -174,20 +184,29 @@ tableRows s charges finals lines shares deviations = let h = hourOf hourly s in
 
 -- the statement has no buffers of a caller: the same without 11
 unfoldable pub hourRows : List ℕ → List Row
-hourRows s = take 8 (tableRows s 0 0 0 0 0)
+hourRows s = take 9 (tableRows s 0 0 0 0 0)
 
--- 1 to 5 of them: what a file by itself can break
+-- 1 to 5 and 14 of them: what a file by itself can break
 unfoldable pub fileRows : List ℕ → List Row
-fileRows s = take 5 (tableRows s 0 0 0 0 0)
+fileRows s = take 6 (tableRows s 0 0 0 0 0)
 
 -- an explanation checks what settling does, without the buffers' 11, then 13
 unfoldable pub explainRows : List ℕ → (member : ℕ) → List Row
 explainRows s m = hourRows s ++ row 13 (noMember (hourOf hourly s) m) ∷ []
 
--- the writer of hour files checks 1, then 4 and 5 as the reader, then 11, by the length of the buffer
+-- the writer of hour files checks 1, then 4, 5 and 14 as the reader, then 11, by the length of the buffer
 unfoldable pub writerRows : (head records : List ℕ) (room : ℕ) → List Row
 writerRows head records room = let h = hourFrom hourly head records in
-    row 1 (badLists head records) ∷ row 4 (badHead h) ∷ row 5 (badRecord h) ∷ row 11 (noRoom h room) ∷ []
+    row 1 (badLists head records)
+    ∷ row 4 (badHead h)
+    ∷ row 5 (badRecord h)
+    ∷ row 14 (aboveMaximum h)
+    ∷ row 11 (noRoom h room)
+    ∷ []
+
+-- the program that writes has no buffer of a caller: the same without 11
+unfoldable pub listRows : (head records : List ℕ) → List Row
+listRows head records = take 4 (writerRows head records 0)
 
 -- writing an amount checks 8, then 9
 unfoldable pub writeRows : ℕ → ℤ → List Row

@@ -1,5 +1,5 @@
 -- Refusals of settling as figures: a small file for each row, what settling answers, and that the buffers are what they were.
--- Document 01, "Refusal numbers and their order"; document 02, A1.
+-- Document 01, "Refusal numbers and their order"; document 02, A1 and A6.
 use Prim.Native.Nat.{ℕ, _+_, _-_}
 use mathlib.Core.List.{List, [], _∷_, _++_}
 use lib.ListN.{take, drop, replicate}
@@ -24,6 +24,18 @@ first others body = sealed (1 ∷ 0 ∷ others ∷ 0 ∷ 0 ∷ 0 ∷ 0 ∷ body)
 abbrev pub plainHead : ℕ → List ℕ
 plainHead members = 7 ∷ members ∷ 1 ∷ 1 ∷ 5000 ∷ []
 
+-- a generator of member 0 that is scheduled so much, with a maximum of 1 and an actual energy of 1
+abbrev pub engine : (scheduled : ℕ) → List ℕ
+engine scheduled = 1 ∷ 0 ∷ 0 ∷ scheduled ∷ 1 ∷ 0 ∷ 0 ∷ 0 ∷ 1 ∷ 1 ∷ 1 ∷ 0 ∷ []
+
+-- an hour of two members and so many records, of these words
+abbrev pub withRecords : (count : ℕ) → List ℕ → List ℕ
+withRecords count records = first 1 (plainHead 2) ++ sealed (2 ∷ 1 ∷ count ∷ 0 ∷ 0 ∷ 0 ∷ 0 ∷ records)
+
+-- an export of nothing, and an engine scheduled above its maximum; there is no load, so that row 6 is broken too
+abbrev pub aboveEngine : List ℕ
+aboveEngine = withRecords 2 (5 ∷ replicate 11 0 ++ engine 2)
+
 -- all figures are 0, and the buffers, with three places each, are as they were
 abbrev pub refused : (number place : ℕ) → List ℕ → Case
 refused number place s = settle s usedBuffers is record { verdict = refusedAt number place; ufe = noFigures; buffers = usedBuffers }
@@ -39,8 +51,11 @@ refusals =
     ∷ refused 3 0 (first 1 (plainHead 2))
     -- a price of 1,000,001
     ∷ refused 4 12 (first 0 (7 ∷ 2 ∷ 1 ∷ 1 ∷ 1000001 ∷ []))
-    -- two records: an export of nothing, and one of kind 6
-    ∷ refused 5 1 (first 1 (plainHead 2) ++ sealed (2 ∷ 1 ∷ 2 ∷ 0 ∷ 0 ∷ 0 ∷ 0 ∷ 5 ∷ replicate 11 0 ++ 6 ∷ []))
+    -- two records: an engine scheduled above its maximum, and one of kind 6: 5 is looked for in the whole file before 14
+    ∷ refused 5 1 (withRecords 2 (engine 2 ++ 6 ∷ []))
+    ∷ refused 14 1 aboveEngine
+    -- at its maximum an engine may be scheduled
+    ∷ refused 6 0 (withRecords 1 (engine 1))
     -- two areas: one without ties, and one with a kWh coming in and no load
     ∷ refused 6 1 (first 0 (7 ∷ 2 ∷ 1 ∷ 2 ∷ 5000 ∷ replicate 8 0 ++ 1 ∷ []))
     -- an export of a kWh, scheduled and not taken, no load, and four members for three places: 12 is looked for before 11

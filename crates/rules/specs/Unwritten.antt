@@ -1,12 +1,12 @@
 -- Refusals of the writer as figures: for each row lists that break it and every row after it, so that the order shows.
--- Document 02, A2.
+-- Document 02, A2 and A6.
 use Prim.Native.Nat.{ℕ}
 use mathlib.Core.List.{List, [], _∷_, _++_}
 use lib.ListN.{replicate}
 use Rattle.rules.specs.Refusals.{refusedAt}
 use Rattle.rules.specs.Settling.{writeHour}
 use Rattle.rules.specs.Figures.{Case, _is_, AllRight}
-use Rattle.rules.specs.Refused.{plainHead}
+use Rattle.rules.specs.Refused.{plainHead, engine}
 
 -- a buffer a byte shorter than the shortest file
 abbrev pub shortBuffer : List ℕ
@@ -21,9 +21,9 @@ unwritten number place head records =
 abbrev pub headTo : ℕ → List ℕ
 headTo last = plainHead 2 ++ replicate 114 0 ++ last ∷ []
 
--- an export of nothing, and one of kind 6
+-- an engine scheduled above its maximum, and a record of kind 6
 abbrev pub twoRecords : List ℕ
-twoRecords = 5 ∷ replicate 11 0 ++ 6 ∷ replicate 11 0
+twoRecords = engine 2 ++ 6 ∷ replicate 11 0
 
 unfoldable pub unwrittenCases : List Case
 unwrittenCases =
@@ -34,6 +34,7 @@ unwrittenCases =
     -- the head's last word is word 127 of its block
     ∷ unwritten 4 127 (headTo 1) twoRecords
     ∷ unwritten 5 1 (headTo 0) twoRecords
+    ∷ unwritten 14 1 (headTo 0) (engine 1 ++ engine 2)
     ∷ unwritten 11 0 (headTo 0) []
     ∷ []
 

@@ -67,6 +67,7 @@ pub enum Answer {
     TooShort,
     NoDemand,
     NoMember,
+    AboveMaximum(usize),
 }
 
 // What settling answers beside the buffers it fills: the UFE of each area, 0 past the areas.

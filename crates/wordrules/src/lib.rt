@@ -1,5 +1,5 @@
-// What each word of an hour file may be, as code: whether a word keeps a rule, the rule of every word of a block and of the head, and
-// whether a word of a record keeps its rule. Each equals its definition for every input. A rule is chosen by tests and not from a stored
+// What each word of an hour file may be, as code: whether a word keeps a rule, the rule of every word of a block and of the head, whether
+// a word of a record keeps its rule, and whether a generator is scheduled above its maximum. Each equals its definition for every input. A rule is chosen by tests and not from a stored
 // table: the compiler then folds it into the search that asks for it, where an array of rules would be laid down on the stack at each word.
 ghost use mathlib.Core.Path.{_≡_};
 ghost use mathlib.Core.Bool.{cond};
@@ -10,6 +10,7 @@ ghost use lib.Dec.{eqb};
 ghost use Rattle.rules.specs.Record as Record;
 ghost use Rattle.rules.specs.Inner.Layouts.{FitsBody};
 ghost use Rattle.rules.specs.Ranges as Ranges;
+ghost use Rattle.rules.specs.Refusals as Refusals;
 ghost use Rattle.rules.specs.declared.Kind.the-variants as Kinds;
 ghost use Rattle.rules.specs.declared.Rule.the-variants as Rules;
 use rules::Layout;
@@ -254,4 +255,14 @@ pub fn record_keeps(members: u32, areas: u32, kind: u32, w: usize, v: u32) -> bo
         return keeps(generator_rule(w), v);
     }
     v == 0
+}
+
+// Whether a record of this kind is a generator that is scheduled above its maximum.
+pub fn scheduled_above(kind: u32, scheduled: u32, maximum: u32) -> bool
+    ensures { λ r. ⌜ r ≡ Refusals.scheduledAbove kind scheduled maximum ⌝ }
+{
+    if kind == 1 {
+        return maximum < scheduled;
+    }
+    false
 }
