@@ -68,14 +68,14 @@ fn above_maximum(words: &[u8], kind: u32) -> bool
     wordrules::scheduled_above(kind, blocks::word(words, 3), blocks::word(words, 8))
 }
 
-// What was found before, or else this place if it is one.
-fn or_at(found: Found, is_one: bool, at: usize) -> Found
-    ensures { λ r. ⌜ foundAt r ≡ orElse (foundAt found) (cond is_one (some at) none) ⌝ }
+// What was found before, or else this place if it is here.
+fn or_at(found: Found, here: bool, at: usize) -> Found
+    ensures { λ r. ⌜ foundAt r ≡ orElse (foundAt found) (cond here (some at) none) ⌝ }
 {
     if let Found::At(before) = found {
         return Found::At(before);
     }
-    if is_one {
+    if here {
         return Found::At(at);
     }
     Found::Nothing

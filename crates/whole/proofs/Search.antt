@@ -31,6 +31,12 @@ unfolding firstBelow orElse
 first-hit p i zero e t l = absurd (not-suc-le-zero l)
 first-hit p i (suc n) e t l = last-or-below i n l (λ k. rw (← k) (rw (e, t))) (λ k. rw (first-hit p i n e t k))
 
+-- a loop that goes on whatever it has found
+pub first-so-far : (p : ℕ → Bool) (i : ℕ) (o : Option ℕ) (b : Bool) → o ≡ firstBelow p i → b ≡ p i →
+    orElse o (cond b (some i) none) ≡ firstBelow p (i + 1)
+unfolding firstBelow
+first-so-far p i o b e f = ap₂ (λ (o : Option ℕ) (b : Bool). orElse o (cond b (some i) none)) e f ∙ sym (ap (firstBelow p) (add-one i))
+
 -- ---- what the search answers
 no-pick : (b : Bool) (n : ℕ) → cond b (some n) none ≡ none → b ≡ false
 no-pick true n e = never-some e

@@ -1,4 +1,5 @@
--- `examine::examine_hour` meets its contract: the first row that is broken. The first fault tells the first bad record.
+-- `examine::examine_hour` meets its contract: the first row that is broken. The search tells the first bad record, or else what row 14
+-- names.
 use mathlib.Core.Path.{_≡_, sym, _∙_, ap}
 use mathlib.Core.Option.{none}
 use native.Mathlib.Omega.{arith}
@@ -7,7 +8,7 @@ use Rattle.rules.specs.Refusals.{badHead, verdict, tableRows, fileRows}
 use Rattle.rules.specs.Inner.Searched.{foundAt}
 use Rattle.rules.proofs.Words.{length-is-whole}
 use Rattle.rules.proofs.Faults.{fault-record, fault-nowhere}
-use Rattle.examine.specs.Fault.{faultAt}
+use Rattle.examine.specs.Fault.{faultAt, aboveAt}
 use Rattle.examine.proofs.examine_hour.Statement.{statement}
 use Rattle.examine.proofs.examine_hour.Tie as tie
 
@@ -41,23 +42,44 @@ first-fault-requires c κs = c .before .before .before .before .pre
 enum-known-i : tie.Need-enum-known-i
 enum-known-i c = c .match2 .keys1
 
--- return Answer::BadRecord(i)
+-- Fault::Above(i) = first_fault(file)
+enum-known-i-2 : tie.Need-enum-known-i-2
+enum-known-i-2 c = c .match2 .keys2
+
+-- Fault::Nowhere = first_fault(file)
+enum-told-2 : tie.Need-enum-told-2
+enum-told-2 c = c .match2 .keys3
+
+-- Answer::BadRecord(i)
 returns-2 : tie.Need-returns-2
 unfolding verdict fileRows tableRows
 returns-2 c =
     let searched = c .before .before .before in
-    simp (head-good (searched .before), fault-record _ _ _ (sym (searched .first-fault .ensures) ∙ ap faultAt (c .before .i .given .1)))
+    simp (head-good (searched .before), fault-record _ _ _ (sym (searched .first-fault .ensures .0) ∙ ap faultAt (c .before .i .given .1)))
 
--- Fault::Nowhere = first_fault(file)
-enum-told-2 : tie.Need-enum-told-2
-enum-told-2 c = c .match2 .keys2
-
--- Answer::Accepted
+-- Answer::AboveMaximum(i)
 returns-3 : tie.Need-returns-3
 unfolding verdict fileRows tableRows
 returns-3 c =
+    let searched = c .before .before .before in
+    let no-fault = ap faultAt (c .before .i2 .given .1) in
+    simp (
+      head-good (searched .before),
+      fault-nowhere _ (sym (searched .first-fault .ensures .0) ∙ no-fault),
+      sym (searched .first-fault .ensures .1 no-fault) ∙ ap aboveAt (c .before .i2 .given .1),
+    )
+
+-- Answer::Accepted
+returns-4 : tie.Need-returns-4
+unfolding verdict fileRows tableRows
+returns-4 c =
     let searched = c .before .before in
-    simp (head-good (searched .before), fault-nowhere _ (sym (searched .first-fault .ensures) ∙ ap faultAt (c .enum-told2 .given .1)))
+    let no-fault = ap faultAt (c .enum-told2 .given .1) in
+    simp (
+      head-good (searched .before),
+      fault-nowhere _ (sym (searched .first-fault .ensures .0) ∙ no-fault),
+      sym (searched .first-fault .ensures .1 no-fault) ∙ ap aboveAt (c .enum-told2 .given .1),
+    )
 
 pub examine-hour-spec : {M : Type 1} → statement M
 examine-hour-spec =
@@ -69,6 +91,8 @@ examine-hour-spec =
     enum-told
     first-fault-requires
     enum-known-i
-    returns-2
+    enum-known-i-2
     enum-told-2
-    returns-3)
+    returns-2
+    returns-3
+    returns-4)

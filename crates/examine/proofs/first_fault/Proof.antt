@@ -1,18 +1,20 @@
 -- `examine::first_fault` meets its contract. Two loops, left at once by a label. Their invariants: no record passed is bad, and of this
--- record no word passed.
+-- record no word passed; what is kept is the first of the records passed that row 14 names.
 use mathlib.Core.Path.{_≡_, refl, sym, _∙_, ap}
 use mathlib.Core.Logic.{⊎-elim}
 use mathlib.Core.Bool.{Bool, true, false, not}
 use mathlib.Core.Option.{none, some}
 use mathlib.Core.List.{List}
-use Prim.Native.Nat.{ℕ, _-_, _<_}
+use Prim.Native.Nat.{ℕ, _-_, _≤_, _<_}
 use native.Mathlib.Omega.{arith}
 use Rattle.whole.specs.Below.{firstBelow}
-use Rattle.whole.proofs.Search.{first-next, first-hit, first-less}
+use Rattle.whole.proofs.Tests.{never-some}
+use Rattle.whole.proofs.Search.{first-next, first-hit, first-less, first-so-far}
 use Rattle.rules.specs.Record.{Hour, members, areas}
 use Rattle.rules.specs.HourFile.{hourly, word, lengthBad, blocks, hourOf}
 use Rattle.rules.specs.Ranges.{keeps, recordRule, firstBroken}
-use Rattle.rules.specs.Refusals.{isBroken, badWord, badRecord, firstFault}
+use Rattle.rules.specs.Refusals.{isBroken, badWord, badRecord, firstFault, scheduledAbove, aboveMaximum}
+use Rattle.rules.specs.Inner.Searched.{foundAt}
 use Rattle.rules.proofs.Words.{record-count}
 use Rattle.rules.proofs.Faults.{fault-at, no-fault}
 use Rattle.blocks.specs.Part.{recordPart}
@@ -26,17 +28,21 @@ word-bad s i w = let h = hourOf hourly s in not (keeps (recordRule (members h) (
 abbrev record-bad : (s : List ℕ) (i : ℕ) → Bool
 record-bad s i = isBroken (badWord (hourOf hourly s) i)
 
+abbrev engine-above : (s : List ℕ) (i : ℕ) → Bool
+engine-above s i = let h = hourOf hourly s in scheduledAbove (h .rec i 0) (h .rec i 3) (h .rec i 8)
+
 abbrev Inv-loop : tie.InvT-loop
-Inv-loop file members areas n i w₀ words kind w = firstBelow (word-bad file i) w ≡ none
+Inv-loop file members areas n i w₀ above words kind w = firstBelow (word-bad file i) w ≡ none
 
 abbrev μ-loop : tie.MeasureT-loop
-μ-loop file members areas n i w₀ words kind w = 12 - w
+μ-loop file members areas n i w₀ above words kind w = 12 - w
 
 abbrev Inv-rows : tie.InvT-rows
-Inv-rows file members areas n i₀ w₀ i w = firstBelow (record-bad file) i ≡ none
+Inv-rows file members areas n i₀ w₀ above₀ i w above =
+    (i ≤ n) × (firstBelow (record-bad file) i ≡ none) × (foundAt above ≡ firstBelow (engine-above file) i)
 
 abbrev μ-rows : tie.MeasureT-rows
-μ-rows file members areas n i₀ w₀ i w = n - i
+μ-rows file members areas n i₀ w₀ above₀ i w above = n - i
 
 -- counts, kind and word that are the file's are judged alike
 module _ (s : List ℕ) (i w : ℕ) where
@@ -72,12 +78,19 @@ module _ (turn : tie.At-rows Inv-loop μ-loop Inv-rows μ-rows) where
 
   -- what the code has read of the record's part is the file's record
   module _ {words : List ℕ} {kind : ℕ} (l : at < counted) (part : words ≡ recordPart hourly file at) (e : kind ≡ word words 0) where
+    says : (w : ℕ) → w < 12 → word words w ≡ hourOf hourly file .rec at w
+    says w m = part-word file at good (there l) part w m
+
+    kind-is : kind ≡ hourOf hourly file .rec at 0
+    kind-is = e ∙ says 0 (omega arith)
+
     told : (w : ℕ) → w < 12 → judged words kind w ≡ word-bad file at w
     told w m =
         let areas-read = turn .before .before in
-        let kind-is = e ∙ part-word file at good (there l) part 0 (omega arith) in
-        let word-is = part-word file at good (there l) part w m in
-        alike file at w _ _ _ _ (areas-read .before .head-word .ensures) (areas-read .head-word2 .ensures) kind-is word-is
+        alike file at w _ _ _ _ (areas-read .before .head-word .ensures) (areas-read .head-word2 .ensures) kind-is (says w m)
+
+    above-told : scheduledAbove kind (word words 3) (word words 8) ≡ engine-above file at
+    above-told = rw (kind-is, says 3 (omega arith), says 8 (omega arith))
 
     -- a word that breaks its rule, with none before it, is the first fault
     stops : (w : ℕ) → w < 12 → firstBelow (word-bad file at) w ≡ none → judged words kind w ≡ true
@@ -86,7 +99,7 @@ module _ (turn : tie.At-rows Inv-loop μ-loop Inv-rows μ-rows) where
     stops w m passed broken =
         let h = hourOf hourly file in
         let word-first : badWord h at ≡ some w = first-hit (word-bad file at) w 12 passed (sym (told w m) ∙ broken) m in
-        fault-at h at w (first-hit (record-bad file) at (h .count) (turn .rows .inv) (ap isBroken word-first) (there l)) word-first
+        fault-at h at w (first-hit (record-bad file) at (h .count) (turn .rows .inv .1) (ap isBroken word-first) (there l)) word-first
 
 -- hour::head_word(file, 9)
 head-word-requires : tie.Need-head-word-requires Inv-loop μ-loop Inv-rows μ-rows
@@ -101,7 +114,7 @@ records-requires c κs = tt
 
 rows-holds : tie.Need-rows-holds Inv-loop μ-loop Inv-rows μ-rows
 unfolding firstBelow
-rows-holds c = refl
+rows-holds c = (omega arith, refl, refl)
 
 record-requires : tie.Need-record-requires Inv-loop μ-loop Inv-rows μ-rows
 unfolding blocks
@@ -137,6 +150,12 @@ loop-again c =
     let kept = sym (here w (c .before .before .loop-test .taken)) ∙ sym (c .before .record-word-bad .ensures) ∙ c .if1 .left in
     first-next (word-bad (file turn) (at turn)) w (inner .loop .inv) kept
 
+above-maximum-requires : tie.Need-above-maximum-requires Inv-loop μ-loop Inv-rows μ-rows
+above-maximum-requires c κs = tt
+
+or-at-requires : tie.Need-or-at-requires Inv-loop μ-loop Inv-rows μ-rows
+or-at-requires c κs = tt
+
 -- i += 1
 add-i : tie.Need-add-i Inv-loop μ-loop Inv-rows μ-rows
 add-i c = omega arith
@@ -147,10 +166,18 @@ rows-less c = omega arith
 rows-again : tie.Need-rows-again Inv-loop μ-loop Inv-rows μ-rows
 unfolding badWord firstBroken
 rows-again c =
-    let inner = c .before in
-    let turn = inner .before .before .before .before in
+    let judged = c .before in
+    let inner = judged .before .before in
+    let row-read = inner .before in
+    let turn = row-read .before .before .before in
     let whole = first-less (word-bad (file turn) (at turn)) _ 12 (inner .loop .inv) (omega arith) in
-    first-next (record-bad (file turn)) (at turn) (turn .rows .inv) (ap isBroken whole)
+    let above = above-told turn (row-read .before .before .rows-test .taken) (row-read .before .record .ensures) (row-read .word .ensures) in
+    let kept = first-so-far (engine-above (file turn)) (at turn) _ _ (turn .rows .inv .2) (judged .above-maximum .ensures ∙ above) in
+    (
+      omega arith,
+      first-next (record-bad (file turn)) (at turn) (turn .rows .inv .1) (ap isBroken whole),
+      c .or-at .ensures ∙ kept,
+    )
 
 -- return Fault::Word(i, w)
 -- the loops were left by the label; had they run out, no record would be left
@@ -162,16 +189,50 @@ returns c =
     (λ left.
     let here = stops turn (left .0 .taken) (left .1 .ensures) (left .2 .ensures) (left .3 .w) (left .4 .taken) (left .3 .inv) in
     let told = here (sym (left .5 .ensures) ∙ left .6 .taken) in
-    sym (told ∙ ap (λ (w : ℕ). some (at turn, w)) (sym (left .7))))
+    (sym (told ∙ ap (λ (w : ℕ). some (at turn, w)) (sym (left .7))), λ e. never-some e))
     (c .before .rows-test .came)
 
--- Fault::Nowhere
+-- all records were passed: none is bad, and what was kept is what row 14 names
+module _ (c : tie.Else2 Inv-loop μ-loop Inv-rows μ-rows) where
+  abbrev last : tie.At-rows Inv-loop μ-loop Inv-rows μ-rows
+  last = c .before .before
+
+  abbrev hour : Hour
+  hour = hourOf hourly (file last)
+
+  all-passed : at last ≡ hour .count
+  all-passed = ended ∙ last .before .records .ensures
+    where
+      ended : at last ≡ counted last
+      ended = omega (arith, last .rows .inv .0, c .if2 .left)
+
+  nowhere : firstFault hour ≡ none
+  unfolding badRecord
+  nowhere = no-fault hour (ap (firstBelow (record-bad (file last))) (sym all-passed) ∙ last .rows .inv .1)
+
+  kept-above : foundAt (last .rows .above) ≡ aboveMaximum hour
+  unfolding aboveMaximum
+  kept-above = last .rows .inv .2 ∙ ap (firstBelow (engine-above (file last))) all-passed
+
+-- Found::At(first) = above
+enum-known-above : tie.Need-enum-known-above Inv-loop μ-loop Inv-rows μ-rows
+enum-known-above c = c .match .keys1
+
+-- return Fault::Above(first)
 returns-2 : tie.Need-returns-2 Inv-loop μ-loop Inv-rows μ-rows
-unfolding badRecord
 returns-2 c =
-    let turn = c .before .before in
-    let passed = first-less (record-bad (file turn)) (at turn) (counted turn) (turn .rows .inv) (c .if2 .left) in
-    sym (no-fault (hourOf hourly (file turn)) (ap (firstBelow (record-bad (file turn))) (sym (turn .before .records .ensures)) ∙ passed))
+    let passed = c .before .before .before in
+    (sym (nowhere passed), λ e. sym (ap foundAt (c .before .above .given .1)) ∙ kept-above passed)
+
+-- Found::Nothing = above
+enum-told : tie.Need-enum-told Inv-loop μ-loop Inv-rows μ-rows
+enum-told c = c .match .keys2
+
+-- Fault::Nowhere
+returns-3 : tie.Need-returns-3 Inv-loop μ-loop Inv-rows μ-rows
+returns-3 c =
+    let passed = c .before .before in
+    (sym (nowhere passed), λ e. sym (ap foundAt (c .enum-told .given .1)) ∙ kept-above passed)
 
 pub first-fault-spec : {M : Type 1} → statement M
 first-fault-spec =
@@ -192,8 +253,13 @@ first-fault-spec =
     add-w
     loop-less
     loop-again
+    above-maximum-requires
+    or-at-requires
     add-i
     rows-less
     rows-again
     returns
-    returns-2)
+    enum-known-above
+    returns-2
+    enum-told
+    returns-3)
