@@ -4,6 +4,7 @@ use mathlib.Core.Bool.{Bool, not}
 use mathlib.Core.Option.{none, some}
 use mathlib.Core.List.{List}
 use Prim.Native.Nat.{ℕ, _+_, _-_, _*_, _/_, _≤_, _<_}
+use native.Mathlib.Nat.{add-zero}
 use native.Mathlib.Omega.{arith}
 use lib.ListN.{length, getD, take, drop, length-drop}
 use lib.Seq.{getD-take, getD-drop, length-take-le}
@@ -16,7 +17,7 @@ use Rattle.rules.specs.Record.{Hour, members, zones, areas}
 use Rattle.rules.specs.HourFile.{hourly}
 use Rattle.rules.specs.HourWords.{hourFrom, blocksFor, fileLength}
 use Rattle.rules.specs.Ranges.{keeps, headRule, firstBroken}
-use Rattle.rules.specs.Refusals.{isBroken, badLists, badHead, badWord, noRoom}
+use Rattle.rules.specs.Refusals.{isBroken, badLists, badHead, badWord, scheduledAbove, noRoom}
 use Rattle.rules.proofs.Faults.{head-any}
 use Rattle.rules.proofs.Writing.{lists-whole as lists-pass}
 use Rattle.writer.specs.Lists.{hourOfLists, ListsWhole, recordBad}
@@ -66,6 +67,15 @@ module _ (head records : List ℕ) where
       let part : (w : ℕ) → w < 12 → getD (take 12 (drop (12 * i) records)) w 0 ≡ h .rec i w
       = λ w k. getD-take 12 (drop (12 * i) records) w 0 k ∙ getD-drop (12 * i) records w 0 ∙ sym (said-word i w l k) in
       rw (m, a) (ap isBroken (first-ext _ _ 12 (λ w k. rw (part 0 (omega arith), part w k))))
+
+  -- ---- row 14
+
+  -- record i, by three words of the list
+  pub above-row : (i : ℕ) → i < length records / 12 →
+      scheduledAbove (getD records (12 * i) 0) (getD records (12 * i + 3) 0) (getD records (12 * i + 8) 0)
+      ≡ scheduledAbove (h .rec i 0) (h .rec i 3) (h .rec i 8)
+  above-row i l =
+      rw (said-word i 0 l (omega arith), add-zero (12 * i), said-word i 3 l (omega arith), said-word i 8 l (omega arith)) refl
 
   -- ---- rows 1 and 11
 

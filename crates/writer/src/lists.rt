@@ -1,5 +1,5 @@
-// The writer's refusals, 1, 4, 5 and 11 in this order (document 02, A2), of a head and records as lists of words: word `k` of the head is
-// word 8 + k of the first block, and twelve words are a record.
+// The writer's refusals, 1, 4, 5, 14 and 11 in this order (document 02, A2 and A6), of a head and records as lists of words: word `k` of the
+// head is word 8 + k of the first block, and twelve words are a record.
 ghost use mathlib.Core.Path.{_≡_};
 ghost use mathlib.Core.List.{List};
 ghost use mathlib.Core.Bool.{not};
@@ -101,6 +101,24 @@ fn bad_record(head: &[u32], records: &[u32]) -> Found
     Found::Nothing
 }
 
+// ---- refusal 14: the generators' schedules
+
+// The first generator that is scheduled above its maximum.
+fn above_maximum(records: &[u32]) -> Found
+    ensures { λ r. ⌜ ((head : List ℕ) → foundAt r ≡ Refusals.aboveMaximum (hourOfLists head (now (records .entry)))) ⌝ }
+{
+    let n = records.len() / 12;
+    let mut i = 0;
+    while i < n {
+        let from = 12 * i;
+        if wordrules::scheduled_above(records[from], records[from + 3], records[from + 8]) {
+            return Found::At(i);
+        }
+        i += 1;
+    }
+    Found::Nothing
+}
+
 // ---- refusal 11: the room
 
 // How many blocks the file has: the first, and one for every ten records or part of them.
@@ -124,6 +142,9 @@ pub fn examine(head: &[u32], records: &[u32], room: usize) -> Answer
     }
     if let Found::At(i) = bad_record(head, records) {
         return Answer::BadRecord(i);
+    }
+    if let Found::At(i) = above_maximum(records) {
+        return Answer::AboveMaximum(i);
     }
     if room < 512 * blocks_for(records) {
         return Answer::TooShort;

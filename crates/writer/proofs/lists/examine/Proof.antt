@@ -2,7 +2,7 @@
 use mathlib.Core.Path.{_≡_, sym, _∙_, ap}
 use mathlib.Core.Option.{none}
 use native.Mathlib.Omega.{arith}
-use Rattle.rules.specs.Refusals.{badLists, badHead, badRecord, verdict, writerRows, placeZeroIf}
+use Rattle.rules.specs.Refusals.{badLists, badHead, badRecord, aboveMaximum, verdict, writerRows, placeZeroIf}
 use Rattle.rules.specs.Inner.Searched.{foundAt}
 use Rattle.writer.specs.Lists.{hourOfLists, ListsWhole}
 use Rattle.writer.proofs.Said.{lists-whole, few-blocks, no-room, has-room}
@@ -35,6 +35,16 @@ module _ (c : tie.After-enum-told2) where
 
   records-good : let at = given (row-1 row-4) .args in badRecord (hourOfLists (at .head .now) (at .records .now)) ≡ none
   records-good = sym (c .before .before .bad-record .ensures) ∙ ap foundAt (c .enum-told2 .given .1)
+
+-- row 14 passed: so are the generators' schedules
+module _ (c : tie.After-enum-told3) where
+  abbrev row-5 : tie.After-enum-told2
+  row-5 = c .before .before .before
+
+  schedules-good : let at = given (row-1 (row-4 row-5)) .args in aboveMaximum (hourOfLists (at .head .now) (at .records .now)) ≡ none
+  schedules-good =
+      let at = given (row-1 (row-4 row-5)) .args in
+      sym (c .before .before .above-maximum .ensures (at .head .now)) ∙ ap foundAt (c .enum-told3 .given .1)
 
 lists-bad-requires : tie.Need-lists-bad-requires
 lists-bad-requires c κs = tt
@@ -82,35 +92,58 @@ returns-3 c =
 enum-told-2 : tie.Need-enum-told-2
 enum-told-2 c = c .match2 .keys2
 
+above-maximum-requires : tie.Need-above-maximum-requires
+above-maximum-requires c κs = tt
+
+-- Found::At(i) = above_maximum(records)
+enum-known-i-2 : tie.Need-enum-known-i-2
+enum-known-i-2 c = c .match3 .keys1
+
+-- return Answer::AboveMaximum(i)
+returns-4 : tie.Need-returns-4
+unfolding verdict writerRows
+returns-4 c =
+    let searched = c .before .before .before in
+    let records = searched .before in
+    let head = row-4 records in
+    let found = searched .above-maximum .ensures (given (row-1 head) .args .head .now) in
+    simp (lists-good (row-1 head), head-good head, records-good records, sym found ∙ ap foundAt (c .before .i2 .given .1))
+
+-- Found::Nothing = above_maximum(records)
+enum-told-3 : tie.Need-enum-told-3
+enum-told-3 c = c .match3 .keys2
+
 blocks-for-requires : tie.Need-blocks-for-requires
 blocks-for-requires c κs = tt
 
 -- 512 * blocks_for(records)
 mul-if2 : tie.Need-mul-if2
 mul-if2 c =
-    let lists = row-1 (row-4 (c .before)) in
+    let lists = row-1 (row-4 (row-5 (c .before))) in
     let at = given lists .args in
     omega (arith, c .blocks-for .ensures (at .head .now), few-blocks (at .head .now) (at .records .now) (whole lists))
 
 -- return Answer::TooShort
-returns-4 : tie.Need-returns-4
-unfolding verdict writerRows
-returns-4 c =
-    let records = c .before .before in
-    let head = row-4 records in
-    let at = given (row-1 head) .args in
-    let room = no-room (at .head .now) (at .records .now) (at .room) _ (c .before .blocks-for .ensures (at .head .now)) (c .if2 .taken) in
-    simp (lists-good (row-1 head), head-good head, records-good records, room)
-
--- Answer::Accepted
 returns-5 : tie.Need-returns-5
 unfolding verdict writerRows
 returns-5 c =
-    let records = c .before .before in
+    let schedules = c .before .before in
+    let records = row-5 schedules in
+    let head = row-4 records in
+    let at = given (row-1 head) .args in
+    let room = no-room (at .head .now) (at .records .now) (at .room) _ (c .before .blocks-for .ensures (at .head .now)) (c .if2 .taken) in
+    simp (lists-good (row-1 head), head-good head, records-good records, schedules-good schedules, room)
+
+-- Answer::Accepted
+returns-6 : tie.Need-returns-6
+unfolding verdict writerRows
+returns-6 c =
+    let schedules = c .before .before in
+    let records = row-5 schedules in
     let head = row-4 records in
     let at = given (row-1 head) .args in
     let room = has-room (at .head .now) (at .records .now) (at .room) _ (c .before .blocks-for .ensures (at .head .now)) (c .if2 .left) in
-    simp (lists-good (row-1 head), head-good head, records-good records, room)
+    simp (lists-good (row-1 head), head-good head, records-good records, schedules-good schedules, room)
 
 pub examine-spec : {M : Type 1} → statement M
 examine-spec =
@@ -126,7 +159,11 @@ examine-spec =
     enum-known-i
     returns-3
     enum-told-2
+    above-maximum-requires
+    enum-known-i-2
+    returns-4
+    enum-told-3
     blocks-for-requires
     mul-if2
-    returns-4
-    returns-5)
+    returns-5
+    returns-6)
