@@ -1,6 +1,7 @@
 -- When a promise leaves no second result, and what it gives. A promise is a function's contract as its callers read it: a claim about the
 -- arguments, the result and what the arguments are at exit.
 use mathlib.Core.Path.{_≡_}
+use mathlib.Core.Logic.{_↔_}
 use mathlib.Core.List.{List}
 use Prim.Native.Nat.{ℕ, _≤_, _<_}
 use mathlib.Core.Option.{none}
@@ -16,6 +17,7 @@ use Rattle.rules.specs.Promises.{Accepts, ByFormula, FairOutcome}
 use Rattle.rules.specs.Finals.{NeutralOutcome, AreBytes}
 use Rattle.rules.specs.Writing.{fileIn}
 use Rattle.rules.specs.Imports.{FirstMetered}
+use Rattle.rules.specs.Engines.{AllWithin, FirstAbove}
 use Rattle.rules.specs.Explaining.{Explains}
 
 module _ {A X S : Type 0} (promise : A → X → S → Type 0) where
@@ -35,8 +37,8 @@ module _ {A X S : Type 0} (promise : A → X → S → Type 0) where
   abbrev pub Gives : (A → X → S → Type 0) → Type 0
   Gives property = (a : A) (x : X) (s : S) → promise a x s → property a x s
 
--- the three demands of a settling and what document 02 asks of its finals (A1) and of imports (A3), by its file, its buffers before, the
--- verdict told, the UFE figures answered and its buffers afterwards
+-- the three demands of a settling and what document 02 asks of its finals (A1), of imports (A3) and of schedules (A6), by its file, its
+-- buffers before, the verdict told, the UFE figures answered and its buffers afterwards
 pub record KeepsDemands (file : List ℕ) (before : Buffers) (told : Verdict) (ufes : List ℤ) (after : Buffers) : Type 0 where
   -- 1: the first broken row of the table answers, and a refusal changes nothing
   pub by-the-table : told ≡ verdict (settleRows file before)
@@ -48,24 +50,31 @@ pub record KeepsDemands (file : List ℕ) (before : Buffers) (told : Verdict) (u
   pub neutral : told ≡ accepted → NeutralOutcome (hourOf hourly file) before after
   -- A3: an import that says what was metered, where no row before 5 and no record before it is broken
   pub metered-import : (i : ℕ) → verdict (take 4 (fileRows file)) ≡ accepted → FirstMetered (hourOf hourly file) i → told ≡ refusedAt 5 i
+  -- A6: 14 exactly where rows 1 to 5 are passed and a generator is scheduled above its maximum, at the first; accepted, none is
+  pub above-engine : (i : ℕ) → (told ≡ refusedAt 14 i) ↔ ((verdict (take 5 (fileRows file)) ≡ accepted) × FirstAbove (hourOf hourly file) i)
+  pub all-within : told ≡ accepted → AllWithin (hourOf hourly file)
 
--- what document 02 asks of the writer (A2) and of imports (A3), by its head, records and buffer before, and by what was answered and left
+-- what document 02 asks of the writer (A2), of imports (A3) and of schedules (A6), by its head, records and buffer before, and by what was answered and left
 pub record KeepsWriting (head records before : List ℕ) (w : HourWritten) : Type 0 where
   -- the first broken row of the table answers, and a refusal changes nothing
   pub by-the-table : w .verdict ≡ verdict (writerRows head records (length before))
   pub unchanged : (w .verdict ≡ accepted → ⊥) → (w .length ≡ 0) × (w .file ≡ before)
-  -- what was written passes rows 1 to 5 and is read back as the same hour
+  -- what was written passes rows 1 to 5 and 14 and is read back as the same hour
   pub read-back : w .verdict ≡ accepted →
       (verdict (fileRows (fileIn w)) ≡ accepted) × (hourOf hourly (fileIn w) ≡ hourFrom hourly head records)
   pub past-file : w .verdict ≡ accepted → (drop (w .length) (w .file) ≡ drop (w .length) before) × (length (w .file) ≡ length before)
-  -- the head and records of a file that passes rows 1 to 5 give its bytes again, whatever the buffer held
+  -- the head and records of a file that passes rows 1 to 5 and 14 give its bytes again, whatever the buffer held
   pub same-bytes : (s : List ℕ) → AreBytes s → verdict (fileRows s) ≡ accepted → head ≡ headWords s → records ≡ recordWords hourly s →
       length s ≤ length before → (w .verdict ≡ accepted) × (fileIn w ≡ s)
   -- A3, as of a settling
   pub metered-import : (i : ℕ) → verdict (take 2 (writerRows head records (length before))) ≡ accepted →
       FirstMetered (hourFrom hourly head records) i → w .verdict ≡ refusedAt 5 i
+  -- A6, as of a settling, behind rows 1, 4 and 5
+  pub above-engine : (i : ℕ) → (w .verdict ≡ refusedAt 14 i)
+      ↔ ((verdict (take 3 (writerRows head records (length before))) ≡ accepted) × FirstAbove (hourFrom hourly head records) i)
+  pub all-within : w .verdict ≡ accepted → AllWithin (hourFrom hourly head records)
 
--- what document 02 asks of an explanation (A5), by its file and member number, and by what was answered
+-- what document 02 asks of an explanation (A5) and of schedules (A6), by its file and member number, and by what was answered
 pub record KeepsExplaining (file : List ℕ) (member : ℕ) (e : Explanation) : Type 0 where
   -- the first broken row of the table answers, and a refusal says nothing
   pub by-the-table : e .verdict ≡ verdict (explainRows file member)
@@ -78,3 +87,7 @@ pub record KeepsExplaining (file : List ℕ) (member : ℕ) (e : Explanation) : 
   -- and to nobody else: 13 comes last
   pub no-member : (b : Buffers) → Accepts file b → members (hourOf hourly file) ≤ member → e .verdict ≡ refusedAt 13 0
   pub refused-alike : (verdict (hourRows file) ≡ accepted → ⊥) → e .verdict ≡ verdict (hourRows file)
+  -- A6, as of a settling
+  pub above-engine : (i : ℕ) →
+      (e .verdict ≡ refusedAt 14 i) ↔ ((verdict (take 5 (fileRows file)) ≡ accepted) × FirstAbove (hourOf hourly file) i)
+  pub all-within : e .verdict ≡ accepted → AllWithin (hourOf hourly file)

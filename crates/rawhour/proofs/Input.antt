@@ -16,7 +16,7 @@ use Rattle.rules.specs.declared.Filed.{Filed}
 use Rattle.rules.specs.declared.Answer.the-variants.{Accepted}
 use Rattle.rules.specs.HourFile.{hourly, word}
 use Rattle.rules.specs.HourWords.{hourFrom, fileByte, fileOf, fileLength}
-use Rattle.rules.specs.Refusals.{verdictOf, accepted, refusedAt, verdict, badLists, writerRows}
+use Rattle.rules.specs.Refusals.{verdictOf, accepted, refusedAt, verdict, badLists, writerRows, listRows}
 use Rattle.rules.specs.Settling.{isAccepted, writeHour}
 use Rattle.rules.specs.Statement.{refusedLine}
 use Rattle.rules.specs.RawHour.{rawWords, rawRows, rawWritten}
@@ -47,7 +47,7 @@ module _ (s : List ℕ) where
   no-words f = rw (ne-eqb (length s % 4) 0 f) refl
 
   no-head : length s < 480 → verdict (rawRows s) ≡ refusedAt 1 0
-  unfolding rawRows writerRows badLists verdict
+  unfolding rawRows listRows writerRows badLists verdict
   no-head l = split (eqb (length s % 4) 0)
       (λ t. rw (t, ne-eqb (length (take 120 (rawWords s))) 120 (λ e. omega (arith, e, length-take 120 (rawWords s), words-length))) refl)
       (λ t. rw t refl)
@@ -97,7 +97,7 @@ module _ (words : List ℕ) where
     filed : HasFiled head records out r after
     filed = subst (λ (l : List ℕ). HasFiled head l out r after) rest-is cut
 
-    same-verdict : verdict (take 3 (writerRows head records 0)) ≡ verdictOf (r .answer)
+    same-verdict : verdict (listRows head records) ≡ verdictOf (r .answer)
     same-verdict = sym (filed .verdict-is ∙ verdict-is head records out ∙ room-for-file head records (length out) room)
 
     pub file-put : r .answer ≡ Accepted → Put out 0 (wordsWritten words) (r .length) after

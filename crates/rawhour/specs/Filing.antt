@@ -6,7 +6,7 @@ use lib.ListN.{take, drop}
 use lib.Dec.{ltb, eqb}
 use Rattle.rules.specs.HourFile.{hourly}
 use Rattle.rules.specs.HourWords.{hourFrom, fileOf}
-use Rattle.rules.specs.Refusals.{verdict, writerRows}
+use Rattle.rules.specs.Refusals.{verdict, listRows}
 use Rattle.rules.specs.Settling.{isAccepted}
 use Rattle.rules.specs.Statement.{refusedLine}
 use Rattle.rules.specs.RawHour.{rawWritten}
@@ -21,5 +21,5 @@ inputBad bytes = not (eqb (bytes % 4) 0) || ltb bytes 480 || ltb 12480 bytes
 
 -- a list of words: the file of its head and records, or the line of the first of the writer's rows that they break
 unfoldable pub wordsWritten : List ℕ → List ℕ
-wordsWritten words = let v = verdict (take 3 (writerRows (take 120 words) (drop 120 words) 0)) in
+wordsWritten words = let v = verdict (listRows (take 120 words) (drop 120 words)) in
     cond (isAccepted v) (fileOf hourly (hourFrom hourly (take 120 words) (drop 120 words))) (refusedLine v)
