@@ -49,9 +49,10 @@ extern "C" {
  *       11  settle, write_hour           a buffer is too short for the hour                                   0
  *       12  settle, explain              nobody has demand, and the sum of all charges isn't 0                0
  *       13  explain                      the member's number isn't below the hour's members                   0
+ *       14  settle, explain, write_hour  a generator's scheduled energy is above its maximum                  the first such record
  *
- * Settling looks for 1 to 7 in this order, each over the whole file, then for 12, then for 11; explaining for 1 to 7, 12, then 13; writing
- * an hour for 1, 4, 5, then 11; writing an amount for 8, then 9. The first found is answered.
+ * Settling looks for 1 to 5 in this order, then for 14, 6 and 7, each over the whole file, then for 12, then for 11; explaining for 1 to 5,
+ * 14, 6, 7, 12, then 13; writing an hour for 1, 4, 5, 14, then 11; writing an amount for 8, then 9. The first found is answered.
  * Blocks, words of the head's block, records, areas and members count from 0. docs/FORMAT.md has the file's and the text's form. */
 
 /* A member's line. 16 bytes: amount at 0, records at 8, then 4 that are padding. */
@@ -109,8 +110,8 @@ typedef struct {
  * figure for each area of the hour and 0 past them. What the buffers held there isn't read, and every element past the hour's members or
  * records is unchanged. A line's padding may change.
  *
- * Refused (1 to 7, 11, 12): every buffer is unchanged, and ufe is all 0. 11 is answered where lines, charges or finals are fewer than the
- * hour's members, or shares or deviations fewer than its records. */
+ * Refused (1 to 7, 11, 12, 14): every buffer is unchanged, and ufe is all 0. 11 is answered where lines, charges or finals are fewer than
+ * the hour's members, or shares or deviations fewer than its records. */
 sneupelaar_settled sneupelaar_settle(const uint8_t *file, size_t file_length, sneupelaar_line *lines, size_t lines_length,
                                      int64_t *charges, size_t charges_length, int64_t *finals, size_t finals_length,
                                      int64_t *shares, size_t shares_length, int64_t *deviations, size_t deviations_length);
@@ -121,8 +122,8 @@ sneupelaar_settled sneupelaar_settle(const uint8_t *file, size_t file_length, sn
  * up to it. decided is the head that decided: of those with the sign of the charge, which is the amount rounded to cents, the one largest
  * in size, on a tie the first. It is 0 exactly where the charge is 0.
  *
- * Refused (1 to 7, 12, 13): heads are all 0, and decided is 0. 13 is answered where the member's number isn't below the hour's members and
- * settling would accept the hour. */
+ * Refused (1 to 7, 12 to 14): heads are all 0, and decided is 0. 13 is answered where the member's number isn't below the hour's members
+ * and settling would accept the hour. */
 sneupelaar_explained sneupelaar_explain(const uint8_t *file, size_t file_length, uint32_t member);
 
 /* Writes an hour file. Lengths are in words, and in bytes of the file. The head is words 8 to 127 of the first block; the records stand
@@ -132,8 +133,8 @@ sneupelaar_explained sneupelaar_explain(const uint8_t *file, size_t file_length,
  * settling reads as that head and those records; every byte past them is unchanged. Head and records of an hour file that settling accepts
  * are written as the same bytes.
  *
- * Refused (1, 4, 5, 11): file is unchanged. A word of the head is counted as in the first block, so that head[1] is at 9. 11 is answered
- * where file is shorter than the hour; SNEUPELAAR_MOST_BYTES are enough for any. */
+ * Refused (1, 4, 5, 11, 14): file is unchanged. A word of the head is counted as in the first block, so that head[1] is at 9. 11 is
+ * answered where file is shorter than the hour; SNEUPELAAR_MOST_BYTES are enough for any. */
 sneupelaar_written sneupelaar_write_hour(const uint32_t *head, size_t head_length, const uint32_t *records, size_t records_length,
                                          uint8_t *file, size_t file_length);
 

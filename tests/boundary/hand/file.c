@@ -1,4 +1,4 @@
-/* file.c: the block reader, and refusals 1 to 5. */
+/* file.c: the block reader, and refusals 1 to 5 and 14. */
 #include "file.h"
 
 /* The words that keep a range, in one comparison: moved up by `up` modulo 2^32 they are at most `most`. */
@@ -133,6 +133,15 @@ static inline int record_bad(const uint8_t *record, uint32_t members, uint32_t a
     return 0;
 }
 
+/* The first of records that stand one behind the other, as those of a block do, that breaks row 14; `count` where none does. */
+static size_t first_above(const uint8_t *records, size_t count)
+{
+    size_t record = 0;
+    while (record < count && !above_maximum(records + 4 * RECORD_WORDS * record))
+        record++;
+    return record;
+}
+
 sneupelaar_answer examine(const uint8_t *file, size_t file_length)
 {
     if (length_bad(file_length))
@@ -152,6 +161,11 @@ sneupelaar_answer examine(const uint8_t *file, size_t file_length)
     for (size_t record = 0; record < records; record++)
         if (record_bad(record_at(file, record), members, areas))
             return (sneupelaar_answer){ 5, record };
+    for (size_t block = 1; block < blocks; block++) {
+        size_t held = word(block_at(file, block), 2), above = first_above(block_at(file, block) + 4 * BODY_WORD, held);
+        if (above < held)
+            return (sneupelaar_answer){ 14, BLOCK_RECORDS * (block - 1) + above };
+    }
     return (sneupelaar_answer){ 0, 0 };
 }
 
@@ -164,5 +178,6 @@ sneupelaar_answer examine_parts(const uint8_t *head, const uint8_t *records, siz
     for (size_t record = 0; record < count; record++)
         if (record_bad(records + 4 * RECORD_WORDS * record, members, areas))
             return (sneupelaar_answer){ 5, record };
-    return (sneupelaar_answer){ 0, 0 };
+    size_t above = first_above(records, count);
+    return above < count ? (sneupelaar_answer){ 14, above } : (sneupelaar_answer){ 0, 0 };
 }

@@ -39,10 +39,16 @@ static inline size_t records_in(const uint8_t *file, size_t file_length)
     return blocks < 2 ? 0 : BLOCK_RECORDS * (blocks - 2) + word(block_at(file, blocks - 1), 2);
 }
 
-/* Refusals 1 to 5, in their order over the whole file. */
+/* Row 14, no schedule above the engine (document 02, A6), of a record that keeps row 5. Generators are judged and no other kind. */
+static inline int above_maximum(const uint8_t *record)
+{
+    return word(record, KIND) == GENERATOR && word(record, SCHEDULED) > word(record, MAXIMUM);
+}
+
+/* Refusals 1 to 5 and 14, in this order over the whole file. */
 sneupelaar_answer examine(const uint8_t *file, size_t file_length);
 
-/* Refusals 4 and 5 of a first body and of records that stand one behind the other. */
+/* Refusals 4, 5 and 14 of a first body and of records that stand one behind the other. */
 sneupelaar_answer examine_parts(const uint8_t *head, const uint8_t *records, size_t count);
 
 #endif

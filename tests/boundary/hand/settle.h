@@ -28,7 +28,7 @@ static inline int64_t price_of(const uint8_t *file, size_t area)
 /* Grains to the nearest cent, halves away from zero. */
 int64_t cents(int64_t grains);
 
-/* The figures of an hour, or the first of refusals 1 to 7 and 12. */
+/* The figures of an hour, or the first of refusals 1 to 5, 14, 6, 7 and 12. */
 sneupelaar_answer work_out(const uint8_t *file, size_t file_length, figures *out);
 
 #endif
