@@ -1,4 +1,4 @@
-/* damage.c: hours spoiled: bits, counts, ranges left by one, blocks and lengths that are wrong. */
+/* damage.c: hours spoiled: bits, counts, ranges left by one, schedules above a maximum, blocks and lengths that are wrong. */
 #include <string.h>
 
 #include "chance.h"
@@ -68,17 +68,51 @@ static void spoil_record(hour_file *hour)
     mend_sum(hour, block);
 }
 
+/* The first record of a kind from some record on, and then from the first; the number of records where there is none. */
+static size_t some_of_kind(hour_file *hour, uint32_t kind)
+{
+    size_t from = hour->records == 0 ? 0 : below(hour->records);
+    for (size_t past = 0; past < hour->records; past++) {
+        size_t record = (from + past) % hour->records;
+        if (record_words(hour, record)[KIND] == kind)
+            return record;
+    }
+    return hour->records;
+}
+
 /* An import with an actual energy, as scheduled or another: a word that it does not use. */
 static void spoil_import(hour_file *hour)
 {
-    size_t record = hour->records == 0 ? 0 : below(hour->records);
-    while (record < hour->records && record_words(hour, record)[KIND] != IMPORT)
-        record++;
+    size_t record = some_of_kind(hour, IMPORT);
     if (record == hour->records)
         return;
     uint32_t *words = record_words(hour, record);
     words[ACTUAL] = once_in(2) ? words[SCHEDULED] : past_an_end();
     mend_sum(hour, 1 + record / BLOCK_RECORDS);
+}
+
+/* A generator scheduled above its maximum, by one or by anything that its range allows. */
+static void spoil_schedule(hour_file *hour)
+{
+    enum { MOST_ENERGY = 100000 };
+    size_t record = some_of_kind(hour, GENERATOR);
+    if (record == hour->records)
+        return;
+    uint32_t *words = record_words(hour, record);
+    if (words[MAXIMUM] >= MOST_ENERGY || once_in(8))
+        words[MAXIMUM] = once_in(2) ? 0 : MOST_ENERGY - 1;
+    words[SCHEDULED] = once_in(2) ? words[MAXIMUM] + 1 : (uint32_t)between(words[MAXIMUM] + 1, MOST_ENERGY);
+    mend_sum(hour, 1 + record / BLOCK_RECORDS);
+}
+
+/* One such generator, or several; sometimes with a record that breaks row 5, before or behind it: row 5 is looked for in all of them
+   first. */
+static void spoil_schedules(hour_file *hour)
+{
+    for (size_t left = once_in(2) ? 1 : 2 + below(3); left > 0; left--)
+        spoil_schedule(hour);
+    if (once_in(4))
+        spoil_record(hour);
 }
 
 static void swap_blocks(hour_file *hour)
@@ -102,7 +136,7 @@ static void spoil_length(hour_file *hour)
 void damage_hour(hour_file *hour)
 {
     static void (*const damages[])(hour_file *) = {
-        flip_bit, spoil_front, spoil_count, spoil_zeros, spoil_head, spoil_record, spoil_import, swap_blocks
+        flip_bit, spoil_front, spoil_count, spoil_zeros, spoil_head, spoil_record, spoil_import, spoil_schedules, swap_blocks
     };
     enum { DAMAGES = sizeof damages / sizeof *damages };
     damages[below(DAMAGES)](hour);

@@ -61,13 +61,13 @@ static int all_seen(const char *function, const unsigned long *counts, const uns
 /* Refusal 7 cannot occur: within the ranges no amount is that large, which is proved. */
 static int enough_seen(unsigned long cases)
 {
-    static const unsigned settling[] = { 0, 1, 2, 3, 4, 5, 6, 11, 12 }, writing[] = { 0, 8, 9 }, reading[] = { 0, 10 };
-    static const unsigned explaining[] = { 0, 1, 2, 3, 4, 5, 6, 12, 13 }, writing_hours[] = { 0, 1, 4, 5, 11 };
-    int enough = all_seen("settle", seen.settled, settling, 9);
-    enough &= all_seen("explain", seen.explained, explaining, 9);
+    static const unsigned settling[] = { 0, 1, 2, 3, 4, 5, 6, 11, 12, 14 }, writing[] = { 0, 8, 9 }, reading[] = { 0, 10 };
+    static const unsigned explaining[] = { 0, 1, 2, 3, 4, 5, 6, 12, 13, 14 }, writing_hours[] = { 0, 1, 4, 5, 11, 14 };
+    int enough = all_seen("settle", seen.settled, settling, 10);
+    enough &= all_seen("explain", seen.explained, explaining, 10);
     enough &= all_seen("write", seen.written, writing, 3);
     enough &= all_seen("read", seen.read, reading, 2);
-    enough &= all_seen("write_hour", seen.hours_written, writing_hours, 5);
+    enough &= all_seen("write_hour", seen.hours_written, writing_hours, 6);
     printf("  body: %lu positions\n", seen.bodies);
     return enough && seen.settled[0] >= cases / 5 && seen.explained[0] >= cases / 5 && seen.hours_written[0] >= cases / 5;
 }

@@ -1,4 +1,4 @@
-/* hours.c: hours that keep rows 1 to 5. */
+/* hours.c: hours that keep rows 1 to 5 and 14. */
 #include "hours.h"
 
 #include <string.h>
@@ -60,6 +60,17 @@ static void make_head(hour_file *hour, size_t zones, size_t areas)
     }
 }
 
+/* A generator's numbers as they were drawn may break row 14: the larger becomes the maximum. Both equal, which is allowed, is made more
+   often than it falls out. */
+static void keep_to_maximum(uint32_t *words)
+{
+    uint32_t scheduled = words[SCHEDULED], maximum = words[MAXIMUM];
+    words[SCHEDULED] = scheduled < maximum ? scheduled : maximum;
+    words[MAXIMUM] = scheduled < maximum ? maximum : scheduled;
+    if (once_in(8))
+        words[SCHEDULED] = words[MAXIMUM];
+}
+
 static void make_record(uint32_t *words, size_t kind, size_t member, size_t area)
 {
     words[KIND] = (uint32_t)kind;
@@ -75,6 +86,8 @@ static void make_record(uint32_t *words, size_t kind, size_t member, size_t area
         else
             words[at] = number(0, 100000);
     }
+    if (kind == GENERATOR)
+        keep_to_maximum(words);
 }
 
 /* Takes what a record adds to its area's UFE or demand out of it. */

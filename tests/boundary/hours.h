@@ -12,7 +12,7 @@ typedef struct {
     size_t members, records; /* as it was made; damage may have its words say otherwise */
 } hour_file;
 
-/* An hour that keeps rows 1 to 5, and mostly rows 6 and 12. */
+/* An hour that keeps rows 1 to 5 and 14, and mostly rows 6 and 12. */
 void make_hour(hour_file *hour);
 
 /* Spoils one thing, or two. */

@@ -144,6 +144,34 @@ static sneupelaar_explained thirteen_first(ARGUMENTS)
     return explained;
 }
 
+/* Row 13 looked for before row 14. */
+static sneupelaar_explained thirteen_before_fourteen(ARGUMENTS)
+{
+    sneupelaar_explained explained = sneupelaar_explain(PASSED);
+    if (explained.number == 14 && member >= word(file, MEMBERS))
+        return (sneupelaar_explained){ .number = 13 };
+    return explained;
+}
+
+/* Row 14 looked for after row 6. */
+static sneupelaar_explained fourteen_after_six(ARGUMENTS)
+{
+    sneupelaar_explained explained = sneupelaar_explain(PASSED);
+    if (explained.number != 14)
+        return explained;
+    sneupelaar_explained later = sneupelaar_explain(schedules_lowered(file, file_length), file_length, member);
+    return later.number == 6 ? later : explained;
+}
+
+/* Generators scheduled above their maximum, explained as though they were scheduled at it. */
+static sneupelaar_explained above_let_through(ARGUMENTS)
+{
+    sneupelaar_explained explained = sneupelaar_explain(PASSED);
+    if (explained.number == 14)
+        return sneupelaar_explain(schedules_lowered(file, file_length), file_length, member);
+    return explained;
+}
+
 /* The member count taken for a member, who has no records. */
 static sneupelaar_explained one_member_more(ARGUMENTS)
 {
@@ -196,7 +224,8 @@ explain_function *misexplained(const char *how)
         { "amount", by_the_amount }, { "nobody", never_none }, { "loads", loads_added }, { "exports", exports_added },
         { "imports", imports_under_generation }, { "next", share_of_the_next }, { "shares", shares_of_all }, { "first", thirteen_first },
         { "count", one_member_more }, { "byte", one_byte_of_member }, { "member", place_of_member }, { "head", head_on_refusal },
-        { "decided", decided_on_refusal }, { "after", byte_past_the_file } };
+        { "decided", decided_on_refusal }, { "after", byte_past_the_file }, { "schedule", above_let_through },
+        { "stranger", thirteen_before_fourteen }, { "area", fourteen_after_six } };
     for (size_t at = 0; at < sizeof faults / sizeof *faults; at++)
         if (strcmp(how, faults[at].name) == 0)
             return faults[at].explain;

@@ -89,6 +89,56 @@ static sneupelaar_written import_let_through(ARGUMENTS)
     return sneupelaar_write_hour(head, head_length, without, records_length, file, file_length);
 }
 
+static const uint8_t *record_of(const uint32_t *records, size_t at)
+{
+    return (const uint8_t *)(records + RECORD_WORDS * at);
+}
+
+/* Generators scheduled above their maximum, written as though they were scheduled at it. */
+static sneupelaar_written above_let_through(ARGUMENTS)
+{
+    static uint32_t lowered[RECORD_WORDS * MOST_RECORDS];
+    sneupelaar_written written = sneupelaar_write_hour(PASSED);
+    if (written.number != 14)
+        return written;
+    memcpy(lowered, records, 4 * records_length);
+    for (size_t at = 0; at < records_length / RECORD_WORDS; at++)
+        if (above_maximum(record_of(records, at)))
+            lowered[RECORD_WORDS * at + SCHEDULED] = records[RECORD_WORDS * at + MAXIMUM];
+    return sneupelaar_write_hour(head, head_length, lowered, records_length, file, file_length);
+}
+
+static sneupelaar_written equal_refused(ARGUMENTS)
+{
+    sneupelaar_written written = sneupelaar_write_hour(PASSED);
+    for (size_t at = 0; written.number == 0 && at < records_length / RECORD_WORDS; at++) {
+        const uint32_t *record = records + RECORD_WORDS * at;
+        if (record[KIND] == GENERATOR && record[SCHEDULED] == record[MAXIMUM])
+            written = (sneupelaar_written){ 14, at, 0 };
+    }
+    return written;
+}
+
+/* Rows 5 and 14 looked for at one record after the other, so that 14 is answered where row 5 is broken behind it. */
+static sneupelaar_written five_with_fourteen(ARGUMENTS)
+{
+    sneupelaar_written written = sneupelaar_write_hour(PASSED);
+    for (size_t at = 0; written.number == 5 && at < written.place; at++)
+        if (above_maximum(record_of(records, at)))
+            written = (sneupelaar_written){ 14, at, 0 };
+    return written;
+}
+
+/* Row 14 looked for after row 11. */
+static sneupelaar_written fourteen_last(ARGUMENTS)
+{
+    sneupelaar_written written = sneupelaar_write_hour(PASSED);
+    size_t others = (records_length / RECORD_WORDS + BLOCK_RECORDS - 1) / BLOCK_RECORDS;
+    if (written.number == 14 && file_length < BLOCK_BYTES * (1 + others))
+        return (sneupelaar_written){ 11, 0, 0 };
+    return written;
+}
+
 static sneupelaar_written length_on_refusal(ARGUMENTS)
 {
     sneupelaar_written written = sneupelaar_write_hour(PASSED);
@@ -138,7 +188,8 @@ write_hour_function *miswritten(const char *how)
     } faults[] = { { "ten", ten_in_the_last }, { "seal", seal_left_out }, { "others", one_block_too_many },
         { "empty", block_for_no_records }, { "word", words_from_0 }, { "record", last_record }, { "length", length_on_refusal },
         { "past", byte_past_the_last_block }, { "early", head_before_refusal }, { "room", room_first }, { "over", word_past_the_records },
-        { "import", import_let_through } };
+        { "import", import_let_through }, { "engine", above_let_through }, { "limit", equal_refused }, { "together", five_with_fourteen },
+        { "space", fourteen_last } };
     for (size_t at = 0; at < sizeof faults / sizeof *faults; at++)
         if (strcmp(how, faults[at].name) == 0)
             return faults[at].write_hour;

@@ -207,6 +207,128 @@ static sneupelaar_settled unit_to_later(ARGUMENTS)
     return dealt_otherwise(to_later, PASSED);
 }
 
+/* What is said of a record. */
+typedef int judgement(const uint8_t *record);
+
+/* The first record of which that is so, or the number of records. */
+static size_t first_judged(const uint8_t *file, size_t file_length, judgement *so)
+{
+    size_t records = records_in(file, file_length), at = 0;
+    while (at < records && !so(record_at(file, at)))
+        at++;
+    return at;
+}
+
+/* An accepted hour refused by row 14, as another judgement has it. */
+static sneupelaar_settled judged_otherwise(judgement *so, ARGUMENTS)
+{
+    sneupelaar_settled settled = sneupelaar_settle(PASSED);
+    size_t records = settled.number == 0 ? records_in(file, file_length) : 0;
+    size_t found = records == 0 ? 0 : first_judged(file, file_length, so);
+    return found < records ? (sneupelaar_settled){ .number = 14, .place = found } : settled;
+}
+
+static int generator_at_maximum(const uint8_t *record)
+{
+    return word(record, KIND) == GENERATOR && word(record, SCHEDULED) == word(record, MAXIMUM);
+}
+
+/* A load has no maximum: the word is zero. */
+static int load_above_maximum(const uint8_t *record)
+{
+    int load = word(record, KIND) == REAL_TIME_LOAD || word(record, KIND) == PROFILE_LOAD;
+    return load && word(record, SCHEDULED) > word(record, MAXIMUM);
+}
+
+static int metered_above_maximum(const uint8_t *record)
+{
+    return word(record, KIND) == GENERATOR && word(record, ACTUAL) > word(record, MAXIMUM);
+}
+
+static sneupelaar_settled equal_refused(ARGUMENTS)
+{
+    return judged_otherwise(generator_at_maximum, PASSED);
+}
+
+static sneupelaar_settled loads_judged(ARGUMENTS)
+{
+    return judged_otherwise(load_above_maximum, PASSED);
+}
+
+static sneupelaar_settled actual_judged(ARGUMENTS)
+{
+    return judged_otherwise(metered_above_maximum, PASSED);
+}
+
+const uint8_t *schedules_lowered(const uint8_t *file, size_t file_length)
+{
+    static uint8_t lowered[MOST_BLOCKS * BLOCK_BYTES];
+    memcpy(lowered, file, file_length);
+    for (size_t at = 0; at < records_in(file, file_length); at++) {
+        const uint8_t *record = record_at(file, at);
+        uint8_t *block = lowered + BLOCK_BYTES * (1 + at / BLOCK_RECORDS);
+        if (above_maximum(record))
+            change_word(block, BODY_WORD + RECORD_WORDS * (at % BLOCK_RECORDS) + SCHEDULED, word(record, MAXIMUM));
+    }
+    return lowered;
+}
+
+/* Generators scheduled above their maximum, settled as though they were scheduled at it. */
+static sneupelaar_settled above_let_through(ARGUMENTS)
+{
+    sneupelaar_settled settled = sneupelaar_settle(PASSED);
+    if (settled.number != 14)
+        return settled;
+    file = schedules_lowered(file, file_length);
+    return sneupelaar_settle(PASSED);
+}
+
+static sneupelaar_settled last_above(ARGUMENTS)
+{
+    sneupelaar_settled settled = sneupelaar_settle(PASSED);
+    for (size_t at = settled.place; settled.number == 14 && at < records_in(file, file_length); at++)
+        if (above_maximum(record_at(file, at)))
+            settled.place = at;
+    return settled;
+}
+
+/* Rows 5 and 14 looked for at one record after the other, so that 14 is answered where row 5 is broken behind it. */
+static sneupelaar_settled five_with_fourteen(ARGUMENTS)
+{
+    sneupelaar_settled settled = sneupelaar_settle(PASSED);
+    size_t above = settled.number == 5 ? first_judged(file, file_length, above_maximum) : settled.place;
+    return above < settled.place ? (sneupelaar_settled){ .number = 14, .place = above } : settled;
+}
+
+/* Row 14 looked for after row 6. Without room the other hour is refused by row 11 if by nothing else, and nothing is written. */
+static sneupelaar_settled fourteen_after_six(ARGUMENTS)
+{
+    sneupelaar_settled settled = sneupelaar_settle(PASSED);
+    if (settled.number != 14)
+        return settled;
+    const uint8_t *lowered = schedules_lowered(file, file_length);
+    sneupelaar_settled later = sneupelaar_settle(lowered, file_length, NULL, 0, NULL, 0, NULL, 0, NULL, 0, NULL, 0);
+    return later.number == 6 ? later : settled;
+}
+
+/* Row 14 looked for after row 11. */
+static sneupelaar_settled fourteen_last(ARGUMENTS)
+{
+    sneupelaar_settled settled = sneupelaar_settle(PASSED);
+    if (settled.number == 14 && (charges_length < word(file, MEMBERS) || shares_length < records_in(file, file_length)))
+        return (sneupelaar_settled){ .number = 11 };
+    return settled;
+}
+
+/* Row 14 found while deviations are worked out: one was written before. */
+static sneupelaar_settled deviation_before_fourteen(ARGUMENTS)
+{
+    sneupelaar_settled settled = sneupelaar_settle(PASSED);
+    if (settled.number == 14 && deviations_length > 0)
+        deviations[0] ^= 1;
+    return settled;
+}
+
 settle_function *spoiled(const char *how)
 {
     static const struct {
@@ -216,7 +338,9 @@ settle_function *spoiled(const char *how)
         { "deviation", first_deviation }, { "refusal", charge_on_refusal }, { "beside", beside_charges }, { "added", share_added },
         { "kind", real_time_alone }, { "order", twelve_last }, { "actual", import_let_through }, { "losses", losses_by_word_4 },
         { "deviates", deviation_by_word_4 }, { "all", unit_to_all_at_bound }, { "none", unit_to_none_at_bound },
-        { "later", unit_to_later } };
+        { "later", unit_to_later }, { "above", above_let_through }, { "equal", equal_refused }, { "judged", loads_judged },
+        { "metered", actual_judged }, { "last", last_above }, { "both", five_with_fourteen }, { "balance", fourteen_after_six },
+        { "short", fourteen_last }, { "worked", deviation_before_fourteen } };
     for (size_t at = 0; at < sizeof faults / sizeof *faults; at++)
         if (strcmp(how, faults[at].name) == 0)
             return faults[at].settle;

@@ -7,7 +7,7 @@
 
 /* How often each number was answered by settling, by explaining, by writing an hour, and by writing and reading an amount, and how often
    the block reader was asked. */
-enum { NUMBERS = 14 };
+enum { NUMBERS = 15 };
 extern struct seen {
     unsigned long settled[NUMBERS], explained[NUMBERS], hours_written[NUMBERS], written[NUMBERS], read[NUMBERS], bodies;
 } seen;
@@ -41,5 +41,9 @@ write_hour_function *miswritten(const char *how);
 
 /* A word of a block changed, with the sum mended: nothing but the word tells. */
 void change_word(uint8_t *block, size_t at, uint32_t value);
+
+/* A file that passes rows 1 to 5, its generators that are scheduled above their maximum now scheduled at it: row 14 is kept, and row 6
+   says what it would have said. It stands until the next is asked for. */
+const uint8_t *schedules_lowered(const uint8_t *file, size_t file_length);
 
 #endif
