@@ -38,6 +38,8 @@ def record(rng, kind, members, areas):
     # imports had one, and figures of then and now can be compared.
     drawn = {letter: some(rng, letter) for letter in hours.LETTERS if letter == "A" or letter in hours.USED[kind]}
     letters = {letter: drawn[letter] for letter in hours.USED[kind]}
+    if kind == hours.GENERATOR:  # no schedule above the engine (document 02, A6): where one was drawn, the maximum is raised to it
+        letters["M"] = max(letters["S"], letters["M"])
     return hours.record(kind, rng.randrange(members), rng.randrange(areas), **letters)
 
 
