@@ -4,7 +4,7 @@
 in turn, so that a few hundred hours see each refusal that an hour file can bring about. Where the maker
 knows the answer (number and place) from the way the hour was made, it says so.
 
-Refusals 1 to 6 and 12 occur. Refusal 7 cannot: within the ranges of document 01 a record's deviation is at most
+Refusals 1 to 6, 12 and 14 occur. Refusal 7 cannot: within the ranges of document 01 a record's deviation is at most
 9 x 10^9 units in size (2 scheduled, 4 metered less adjustment, 1 ancillary, 2 unavailable), so 250 of
 them at 1,000,000 cents come to 2.25 x 10^18 grains; the UFE of all areas together is at most
 8 x 10^11 units of ties and 250 x 2 x 10^9 of meters and losses, which makes 1.3 x 10^18 more. That is
@@ -127,7 +127,17 @@ def random_record(rng, members, areas, most, kinds=KINDS):
             each[letter] = rng.choice([0, rng.randint(-most, most)])
         else:
             each[letter] = rng.choice([0, rng.randint(0, most), rng.randint(0, most)])
+    if kind == GENERATOR:
+        schedule_within_maximum(each)
+        if rng.random() < 0.2:
+            each["S"] = each["M"]
     return each
+
+
+def schedule_within_maximum(generator):
+    """The larger of a generator's schedule and maximum becomes the maximum (document 02, A6). What was metered may be above it, and the
+    obligation too."""
+    generator["S"], generator["M"] = sorted((generator["S"], generator["M"]))
 
 
 def random_areas(rng, zones, areas, most_tie):
@@ -275,6 +285,15 @@ def unavailable_energy(rng):
             each["O"] = max(0, each["M"] - each["A"] + each["N"] + nearly)
         else:
             each["O"] = max(0, each["A"] + each["N"] + nearly)
+    return hour
+
+
+def schedules_at_maximum(rng):
+    """Generators that are scheduled at their maximum, or a kWh below it; some have the highest maximum there can be, or a kWh, or none."""
+    hour = random_hour(rng, rng.randint(5, 40), 5_000)
+    for generator in (each for each in hour.records if each["kind"] == GENERATOR):
+        generator["M"] = rng.choice([generator["M"], HIGHEST["M"], HIGHEST["M"], 1, 0])
+        generator["S"] = max(0, generator["M"] - rng.choice([0, 1]))
     return hour
 
 
@@ -436,6 +455,8 @@ def record_at_ends(rng, members, areas):
     kind = rng.choice(KINDS)
     each = record(kind, rng.choice([0, members - 1]), rng.randrange(areas))
     each.update((letter, at_an_end(rng, letter)) for letter in USED[kind])
+    if kind == GENERATOR:
+        schedule_within_maximum(each)
     return each
 
 
@@ -463,7 +484,7 @@ def largest_amounts(rng):
     if rng.random() < 0.5:
         ties = [0, MOST_TIE, 0]
         load = dict(A=100_000, J=-100_000, N=100_000)
-        rest = record(GENERATOR, 0, 0, S=100_000, J=100_000, N=100_000, F=20_000, H=20_000)
+        rest = record(GENERATOR, 0, 0, S=100_000, J=100_000, N=100_000, M=100_000, F=20_000, H=20_000)
     else:
         ties = [0, 0, MOST_TIE]
         load = dict(S=100_000, A=1, J=100_000)
@@ -475,7 +496,7 @@ def largest_amounts(rng):
 
 
 HONEST = (printed_case, few_records, ordinary, many_records, no_records, full_file, full_blocks,
-          equal_remainders, most_units_left, halves, no_demand_no_ufe, unavailable_energy,
+          equal_remainders, most_units_left, halves, no_demand_no_ufe, unavailable_energy, schedules_at_maximum,
           ends_everywhere, largest_amounts, cents_left_over, largest_products)
 
 
@@ -496,8 +517,8 @@ def unwanted(rng):
 
 
 def beyond(rng, highest):
-    """A word over the highest that is allowed: one more, or far more."""
-    return highest + 1 if rng.random() < 0.7 else rng.choice([rng.randint(highest + 1, 2**31), *BIG_WORDS])
+    """A word over the highest that is allowed: mostly one more, so that a few tries have it, or far more."""
+    return highest + 1 if rng.random() < 0.85 else rng.choice([rng.randint(highest + 1, 2**31), *BIG_WORDS])
 
 
 # Faults of the hour's figures, before it is encoded.
@@ -785,6 +806,18 @@ def imports_as_document_01_had_them(rng, hour, blocks):
     return (5, places[0]) if places else None
 
 
+def wrong_at(which):
+    """Where the first, the last and a record between breaks a rule; for pairs of which the place decides."""
+    def fault(rng, hour, blocks):
+        place = place_of(hour, which)
+        if place is None:
+            return None
+        put_in_record(blocks, place, *rng.choice([(0, 6), (11, 1), (1, hour.members), (3, 100_001)]))
+        return 5, place
+    fault.__name__ = f"{which}_record_wrong"
+    return fault
+
+
 def last_word_of_a_record(rng, hour, blocks):
     return spoil_record(rng, hour, blocks, lambda each: (11, unwanted(rng)))
 
@@ -796,6 +829,37 @@ def wrong_kind_twice(rng, hour, blocks):
     for place in places:
         put_in_record(blocks, place, 0, beyond(rng, 5))
     return 5, min(places)
+
+
+# A generator's schedule above its maximum (document 02, A6).
+
+def put_above_maximum(rng, hour, blocks, place):
+    """By a kWh, tenfold, as a clerk typed it, or as far as it goes; the schedule too high or the maximum too low. One of them has room: the
+    hours that are damaged have no energies near the end of the range."""
+    scheduled, maximum = hour.records[place]["S"], hour.records[place]["M"]
+    raised = [(3, over) for over in (maximum + 1, maximum + 1, 10 * maximum, HIGHEST["S"]) if maximum < over <= HIGHEST["S"]]
+    lowered = [(8, under) for under in (scheduled - 1, scheduled // 10) if 0 <= under < scheduled]
+    put_in_record(blocks, place, *rng.choice(raised + lowered))
+    return 14, place
+
+
+def schedule_above(which):
+    """A fault for each of the places."""
+    def fault(rng, hour, blocks):
+        place = place_of(hour, which)
+        if place is None or hour.records[place]["kind"] != GENERATOR:
+            return None
+        return put_above_maximum(rng, hour, blocks, place)
+    fault.__name__ = f"schedule_above_{which}"
+    return fault
+
+
+def schedules_above(rng, hour, blocks):
+    """Of two generators or more."""
+    generators = [place for place, each in enumerate(hour.records) if each["kind"] == GENERATOR]
+    if len(generators) < 2:
+        return None
+    return min(put_above_maximum(rng, hour, blocks, place) for place in rng.sample(generators, rng.randint(2, len(generators))))
 
 
 # Faults that move the border between what is a record and what is not; they come alone, since another
@@ -904,19 +968,41 @@ LAYOUT_FAULTS = (wrong_mark, wrong_position, wrong_count_of_blocks, wrong_count_
 HEAD_FAULTS = (*itertools.starmap(none_of, COUNTS), *itertools.starmap(too_many, COUNTS), price_too_high,
                price_too_low, price_past_zones, wrong_zone, wrong_tie_in, wrong_tie_out, fourth_word_of_an_area,
                area_past_areas, word_past_areas, last_word_of_the_head)
+IMPORT_FAULTS = tuple(map(import_with_actual, PLACES))
 RECORD_FAULTS = (wrong_kind, wrong_member, wrong_area, *map(field_too_high, LETTERS), adjustment_too_low,
-                 field_below_zero, no_multiplier, unused_field, *map(import_with_actual, PLACES),
+                 field_below_zero, no_multiplier, unused_field, *IMPORT_FAULTS,
                  imports_as_document_01_had_them, last_word_of_a_record, wrong_kind_twice)
-WORD_FAULTS = LAYOUT_FAULTS + HEAD_FAULTS + RECORD_FAULTS
+PLACED_SCHEDULES = tuple(map(schedule_above, PLACES))
+SCHEDULE_FAULTS = (*PLACED_SCHEDULES, schedules_above)
+WORD_FAULTS = LAYOUT_FAULTS + HEAD_FAULTS + SCHEDULE_FAULTS + RECORD_FAULTS  # a schedule put in last could mend a record
+PLACED_FAULTS = tuple(map(wrong_at, PLACES))
 SUM_FAULTS = (wrong_sum, wrong_sum_by_its_highest_bit, wrong_sum_twice)
 LENGTH_FAULTS = (nothing_at_all, cut, bytes_too_many, file_too_long)
 LONE_FAULTS = (one_record_more, one_record_fewer, block_too_many, last_block_without_records, block_too_few,
                blocks_swapped)
 FAULTS = HOUR_FAULTS + WORD_FAULTS + SUM_FAULTS + LENGTH_FAULTS
 
-# Two faults of an area, of a sum or of the length can undo each other.
+# Two faults of an area, of a sum or of the length can undo each other, and no record is an import and a generator.
 PAIRS = [pair for pair in itertools.combinations(FAULTS, 2)
-         if not any(set(pair) <= set(stage) for stage in (AREA_FAULTS, SUM_FAULTS, LENGTH_FAULTS))]
+         if not any(set(pair) <= set(stage) for stage in (AREA_FAULTS, SUM_FAULTS, LENGTH_FAULTS, *zip(IMPORT_FAULTS, PLACED_SCHEDULES)))]
+
+# A record that breaks row 5, and a later one with a schedule above the maximum; and the other way round.
+EARLIER_AND_LATER = [*itertools.combinations(range(len(PLACES)), 2)]
+WRONG_AND_SCHEDULE = ([(PLACED_FAULTS[one], PLACED_SCHEDULES[two]) for one, two in EARLIER_AND_LATER],
+                      [(PLACED_FAULTS[two], PLACED_SCHEDULES[one]) for one, two in EARLIER_AND_LATER])
+
+# Pairs of rows next to each other, each in every round, so that a change of their order doesn't show by luck alone.
+NEIGHBOURS = (*([*itertools.product(*faults)] for faults in (
+    (LENGTH_FAULTS, SUM_FAULTS), (LAYOUT_FAULTS, SUM_FAULTS), (LAYOUT_FAULTS, HEAD_FAULTS), (HEAD_FAULTS, RECORD_FAULTS),
+    (AREA_FAULTS, SCHEDULE_FAULTS), ([nobody_demands], SCHEDULE_FAULTS), ([nobody_demands], AREA_FAULTS))), *WRONG_AND_SCHEDULE)
+
+# The order in which settling looks for the rows.
+ROWS = (1, 2, 3, 4, 5, 14, 6, 7, 12, 11)
+
+
+def first_row(due):
+    """Of refusals that are due, each a number and a place, the one that is given."""
+    return min(due, key=lambda each: (ROWS.index(each[0]), each[1]))
 
 
 def spoil(rng, hour, faults):
@@ -924,7 +1010,7 @@ def spoil(rng, hour, faults):
     None where the hour has no room for one of them."""
     due = [fault(rng, hour) for fault in faults if fault in HOUR_FAULTS]
     blocks = hour.blocks()
-    due += [fault(rng, hour, blocks) for fault in faults if fault in WORD_FAULTS + LONE_FAULTS]
+    due += [fault(rng, hour, blocks) for fault in faults if fault in WORD_FAULTS + PLACED_FAULTS + LONE_FAULTS]
     for block in blocks:
         mend(block)
     due += [fault(rng, blocks) for fault in faults if fault in SUM_FAULTS]
@@ -933,7 +1019,7 @@ def spoil(rng, hour, faults):
         if fault in LENGTH_FAULTS:
             data = fault(rng, data)
             due.append((1, 0))
-    return None if None in due else (data, min(due))
+    return None if None in due else (data, first_row(due))
 
 
 # ---- Damaged hours
@@ -947,8 +1033,11 @@ def damaged(rng, faults):
             return Made(" and ".join(fault.__name__ for fault in faults), *spoiled)
 
 
-def two_faults(rng):
-    return damaged(rng, rng.choice(PAIRS))
+def two_of(pairs):
+    return lambda rng: damaged(rng, rng.choice(pairs))
+
+
+two_faults = two_of(PAIRS)
 
 
 def scattered(rng):
@@ -1005,7 +1094,7 @@ def alone(fault):
 
 ROUND = ([honest(maker) for maker in HONEST] * 2 + [unforeseen(ends_as_they_fall)] * 2 + [honest(cents_left_over)] * 2
          + [honest(maker) for maker in NO_DEMAND_AND_NO_N] + [answered(maker, (12, 0)) for maker in NO_DEMAND_FOR_N]
-         + [alone(fault) for fault in FAULTS + LONE_FAULTS] + [two_faults] * 8
+         + [two_of(pairs) for pairs in NEIGHBOURS] + [alone(fault) for fault in FAULTS + LONE_FAULTS] + [two_faults] * 4
          + [scattered] * 3 + [words_swapped, junk])
 
 

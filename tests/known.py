@@ -1,8 +1,9 @@
 """Hour files whose answers are known by hand, from document 01's table: refusals 1 to 5 at a first, a middle and a last place, the ends of
 several ranges, the longest file, the highest price, and two faults of which the table's order or the first place decides; from document
-02, A1: hours in which nobody takes anything, with refusal 12 and without; and from A3: imports whose word 4 isn't zero, and an hour with
-losses of one. And heads and records to be written (document 02, A2): those of these files, and inputs of lengths that are right and wrong.
-And members to be explained (A5): of the printed case and other hours that are worked by hand, and of these files.
+02, A1: hours in which nobody takes anything, with refusal 12 and without; from A3: imports whose word 4 isn't zero, and an hour with
+losses of one; and from A6: generators that are scheduled above their maximum, at it and below it. And heads and records to be written
+(document 02, A2): those of these files, and inputs of lengths that are right and wrong. And members to be explained (A5): of the printed
+case and other hours that are worked by hand, and of these files.
 
 `cases()` gives each file's name, the first line of its statement, and its bytes; `cases_to_write()` each input's name, what program
 `write_hour` must write, and the input; `cases_to_explain()` the same of program `explanation`. No program had a part in those lines, and
@@ -32,6 +33,8 @@ def hour_of(count):
     for place in range(count):
         kind = hours.KINDS[place % 5]
         letters = {letter: value(letter, place) for letter in hours.USED[kind]}
+        if kind == hours.GENERATOR:
+            letters["M"] = max(letters["M"], letters["S"])  # in some places both are the greatest
         records.append(hours.record(kind, place % 32, place % 8, **letters))
     areas = [[area % 4, 10_000_000 - 1_000_000 * area, 10_000_000] for area in range(8)]
     return hours.Hour(4_000_000_000, 32, [1_000_000, -1_000_000, 0, 12_345], areas, records)
@@ -195,16 +198,79 @@ def of_imports():
     yield "first-import-of-two", "refused 5 at 2", words(thirteen_imports(), (*field(11, 4), 300), (*field(2, 4), 1))
 
 
+# ---- Generators, which may not be scheduled above their maximum (document 02, A6)
+
+def thirteen_records():
+    """Three blocks. Twelve generators, each of which made the 300 kWh that are scheduled and are its maximum; record 5 is a load that took
+    the 3,600 kWh. So nothing deviates, there is no UFE, and whatever is charged, there is demand to carry N."""
+    generator = hours.record(hours.GENERATOR, 0, 0, S=300, A=300, M=300, F=10_000, H=10_000)
+    load = hours.record(hours.REAL_TIME_LOAD, 1, 0, S=3_600, A=3_600)
+    return hours.Hour(7, 2, [1_000], [[0, 0, 0]], [generator] * 5 + [load] + [generator] * 7).blocks()
+
+
+def of_schedules():
+    """Row 14, at words 3 and 8 of a generator."""
+    accepted = "hour 7 members 2 records 13"
+    yield "schedules-at-maximum", accepted, hours.to_bytes(thirteen_records())
+    yield "schedule-a-kwh-below", accepted, words(thirteen_records(), (*field(0, 3), 299))
+    yield "maximum-a-kwh-higher", accepted, words(thirteen_records(), (*field(12, 8), 301))
+    yield "schedule-above-first", "refused 14 at 0", words(thirteen_records(), (*field(0, 3), 301))
+    yield "schedule-above-tenfold", "refused 14 at 6", words(thirteen_records(), (*field(6, 3), 3_000))
+    yield "schedule-above-last", "refused 14 at 12", words(thirteen_records(), (*field(12, 3), 301))
+    yield "maximum-below-first", "refused 14 at 0", words(thirteen_records(), (*field(0, 8), 299))
+    yield "maximum-below-middle", "refused 14 at 9", words(thirteen_records(), (*field(9, 8), 0))
+    yield "maximum-below-last", "refused 14 at 12", words(thirteen_records(), (*field(12, 8), 299))
+    yield "first-schedule-of-two", "refused 14 at 2", words(thirteen_records(), (*field(11, 3), 3_000), (*field(2, 3), 301))
+    yield "schedule-and-maximum-100000", accepted, words(thirteen_records(), (*field(4, 3), 100_000), (*field(4, 8), 100_000))
+    yield "schedule-100000-maximum-99999", "refused 14 at 4", words(thirteen_records(), (*field(4, 3), 100_000), (*field(4, 8), 99_999))
+    yield "schedule-and-maximum-0", accepted, words(thirteen_records(), (*field(10, 3), 0), (*field(10, 8), 0))
+    yield "schedule-1-maximum-0", "refused 14 at 10", words(thirteen_records(), (*field(10, 3), 1), (*field(10, 8), 0))
+    # the clerk's schedule, in the printed case: the engine's size is 2,000
+    yield "printed-at-maximum", "hour 7 members 2 records 2", words(hours.printed_case().blocks(), (*field(0, 3), 2_000))
+    yield "printed-above-maximum", "refused 14 at 0", words(hours.printed_case().blocks(), (*field(0, 3), 20_000))
+
+
+def of_nothing_else_judged():
+    """What was metered, the obligation and the ancillary energy may be above the maximum, and other kinds have none: loads, an import and
+    an export that are scheduled as they were metered, 200 kWh by the tie in for the loads."""
+    accepted = "hour 7 members 2 records 13"
+    yield "actual-above-maximum", accepted, words(thirteen_records(), (*field(0, 4), 301))
+    yield "obligation-above-maximum", accepted, words(thirteen_records(), (*field(0, 7), 301))
+    yield "ancillary-above-maximum", accepted, words(thirteen_records(), (*field(0, 6), 301))
+    others = [hours.record(hours.REAL_TIME_LOAD, 0, 0, S=100, A=100), hours.record(hours.PROFILE_LOAD, 0, 0, S=100, A=100),
+              hours.record(hours.IMPORT, 0, 0, S=100, F=10_000, H=10_000), hours.record(hours.EXPORT, 0, 0, S=100, A=100)]
+    yield "kinds-without-a-maximum", "hour 7 members 1 records 4", hours.Hour(7, 1, [1_000], [[0, 200, 0]], others).encode()
+
+
+def of_schedules_beside_other_rows():
+    """Row 5 goes first, over all records; rows 6 and 12 come after. Where the load took nothing, what was made is UFE that nobody can
+    carry. A generator that is scheduled a kWh more than it made and sent out is charged a cent, which is N, and nobody's demand carries
+    that."""
+    above = (*field(2, 3), 301)
+    yield "record-after-schedule", "refused 5 at 12", words(thirteen_records(), above, (*field(12, 11), 1))
+    yield "record-before-schedule", "refused 5 at 1", words(thirteen_records(), above, (*field(1, 0), 6))
+    yield "record-of-the-schedule", "refused 5 at 2", words(thirteen_records(), (*field(2, 3), 100_001))
+    yield "head-before-schedule", "refused 4 at 127", words(thirteen_records(), above, (0, 127, 1))
+    no_demand = (*field(5, 4), 0)
+    yield "area-without-demand", "refused 6 at 0", words(thirteen_records(), no_demand)
+    yield "schedule-before-area", "refused 14 at 2", words(thirteen_records(), no_demand, above)
+    for name, most, line in (("no-demand-below-maximum", 301, "refused 12 at 0"), ("schedule-before-no-demand", 300, "refused 14 at 0")):
+        generator = hours.record(hours.GENERATOR, 1, 0, S=301, A=300, M=most, F=10_000, H=10_000)
+        yield name, line, hours.Hour(7, 3, [1_000], [[0, 0, 300]], [generator]).encode()
+
+
 def cases():
-    return itertools.chain(of_lengths(), of_blocks(), of_heads(), of_records(), of_two_faults(), of_no_demand(), of_imports())
+    return itertools.chain(of_lengths(), of_blocks(), of_heads(), of_records(), of_two_faults(), of_no_demand(), of_imports(),
+                           of_schedules(), of_nothing_else_judged(), of_schedules_beside_other_rows())
 
 
 # ---- Heads and records to be written: name, what must be written, input
 
 def of_files():
-    """The files above, taken apart. Rows 4 and 5 are the reader's, and a file that passes rows 1 to 5 is written as the same bytes."""
+    """The files above, taken apart. Rows 4, 5 and 14 are the reader's, and a file that passes rows 1 to 5 and 14 is written as the same
+    bytes."""
     for name, line, data in cases():
-        if line.startswith(("refused 4", "refused 5")):
+        if line.startswith(("refused 4", "refused 5", "refused 14")):
             yield name, f"{line}\n".encode(), to_write.taken_apart(to_write.blocks_of(data))
         elif line.startswith(("hour", "refused 6", "refused 12")):
             yield name, data, to_write.taken_apart(to_write.blocks_of(data))
@@ -247,7 +313,7 @@ def heads_hour():
     return hours.Hour(7, 7, [1_000], [[0, 160, 0]], [
         hours.record(hours.EXPORT, 0, 0, A=30), imported(0, 30),
         hours.record(hours.PROFILE_LOAD, 1, 0, S=100, A=130),
-        hours.record(hours.EXPORT, 2, 0, S=90), hours.record(hours.GENERATOR, 2, 0, S=40, F=10_000, H=10_000), imported(2, 60),
+        hours.record(hours.EXPORT, 2, 0, S=90), hours.record(hours.GENERATOR, 2, 0, S=40, M=40, F=10_000, H=10_000), imported(2, 60),
         imported(3, 1, 4_999), imported(4, 1, 5_000), imported(5, -1, 5_000)])
 
 
@@ -275,7 +341,7 @@ def of_digits():
     """As many digits as a head can have: 249 generators that each deviate by 100,000 x 20,000 + 100,000 x 20,000 + 10,000 x 100,000 units,
     which are 5,000,000,000, at 1,000,000 cents a MWh; the load took what was planned. And as few: at a cent a MWh a unit is a grain, and an
     import that was scheduled nothing deviates by J x H, here by 9, -9, 10 and -10 units."""
-    generator = hours.record(hours.GENERATOR, 0, 0, S=100_000, J=100_000, N=100_000, F=20_000, H=20_000)
+    generator = hours.record(hours.GENERATOR, 0, 0, S=100_000, J=100_000, N=100_000, M=100_000, F=20_000, H=20_000)
     load = hours.record(hours.PROFILE_LOAD, 0, 0, S=1, A=1)
     for price, grains in ((1_000_000, 1_245_000_000_000_000_000), (-1_000_000, -1_245_000_000_000_000_000)):
         hour = hours.Hour(7, 1, [price], [[0, 1, 0]], [generator] * 249 + [load])
@@ -305,6 +371,14 @@ def of_examples():
             yield f"{len(each)}-members-{member}", text, hours.question(member, data)
 
 
+def of_maximum():
+    """The printed case with a schedule of 2,000 kWh, which is the maximum: the generator deviates by 10,000 x (2,000 - 900) = 11,000,000
+    units."""
+    data = words(hours.printed_case().blocks(), (*field(0, 3), 2_000))
+    yield "printed-at-maximum-0", explanation("generation", generation=55_000_000_000), hours.question(0, data)
+    yield "printed-at-maximum-1", explanation("load", load=-6_500_000_000, share=1_500_000_000), hours.question(1, data)
+
+
 def of_numbers():
     """Of the printed case, which has two members: any other number is no member's, also where some of its bytes are."""
     for member in (2, 3, 32, 255, 256, 2**16, 2**24, 2**24 + 1, 2**31, 2**32 - 1):
@@ -323,4 +397,4 @@ def of_refused():
 
 
 def cases_to_explain():
-    return itertools.chain(of_members(), of_digits(), of_examples(), of_numbers(), of_refused())
+    return itertools.chain(of_members(), of_digits(), of_examples(), of_maximum(), of_numbers(), of_refused())

@@ -41,7 +41,8 @@ def records_of(rng, member, area, kwh):
     planned, ancillary = max(0, -exported) + rng.randint(0, 9), rng.randint(0, 9)
     records = [record(rng.choice(LOADS), member, area, S=took - load, A=took)]
     if generation:
-        records.append(record(GENERATOR, member, area, S=made + generation, A=made, M=made, F=10_000, H=10_000))
+        most = max(made + generation, made)  # no schedule is above it, and all that was made is available
+        records.append(record(GENERATOR, member, area, S=made + generation, A=made, M=most, F=10_000, H=10_000))
     if imported:
         records.append(record(IMPORT, member, area, S=rng.randint(0, 9), J=imported - ancillary, N=ancillary, F=10_000, H=10_000))
     if exported:
@@ -194,7 +195,7 @@ def without_records(rng):
 def largest_head(way):
     """Nineteen digits: 249 generators, each of which deviates as far as one can, at the highest price."""
     def make(rng):
-        generator = record(GENERATOR, 0, 0, S=100_000, J=100_000, N=100_000, F=20_000, H=20_000)
+        generator = record(GENERATOR, 0, 0, S=100_000, J=100_000, N=100_000, M=100_000, F=20_000, H=20_000)
         load = record(rng.choice(LOADS), 0, 0, S=1, A=1)
         hour = hours.Hour(rng.randrange(10_000), 1, [way * hours.MOST_PRICE], [[0, 1, 0]], [generator] * 249 + [load])
         return asked("largest_head", 0, hour.encode(), "generation")
@@ -239,9 +240,9 @@ NO_MEMBERS = (("the_count", lambda count: count), ("one_more", lambda count: cou
               ("a_byte", lambda count: 255), ("in_the_second_byte", lambda count: 256), ("in_the_last_byte", lambda count: 2**24),
               ("the_highest_bit", lambda count: 2**31), ("minus_one", lambda count: 2**32 - 1))
 
-# Faults by the refusal that they bring about.
+# Faults by the refusal that they bring about, in the order of the rows.
 FAULTS = {1: hours.LENGTH_FAULTS, 2: hours.SUM_FAULTS, 3: hours.LAYOUT_FAULTS, 4: hours.HEAD_FAULTS, 5: hours.RECORD_FAULTS,
-          6: hours.AREA_FAULTS, 12: (hours.nobody_demands,)}
+          14: hours.SCHEDULE_FAULTS, 6: hours.AREA_FAULTS, 12: (hours.nobody_demands,)}
 
 
 def refused_before_13(number):
@@ -337,7 +338,7 @@ class Reached:
         return self.bytes >= 4 and self.member >= (self.stated if self.number > 4 else 32)
 
 
-ANSWERS = {"explained": 0, **{f"refused {number}": number for number in (*FAULTS, 13)}}
+ANSWERS = {"explained": 0, **{f"refused {number}": number for number in sorted((*FAULTS, 13))}}
 SIDES = {
     **{f"{head} decided, charge {name} 0": lambda r, head=head, way=way: r.decided == head and r.charge * way > 0
        for head in HEADS for name, way in (("above", 1), ("below", -1))},

@@ -209,6 +209,13 @@ def read_hour(data):
     return hour
 
 
+def check_schedules(records):
+    """No generator is scheduled above its maximum (document 02, A6); a row that is looked for once all records have passed row 5."""
+    for place, r in enumerate(records):
+        if r["kind"] == GENERATOR and r["S"] > r["M"]:
+            raise Refused(14, place)
+
+
 # ---- Writing an hour file (document 02, A2)
 
 def sealed(mark, position, count, body):
@@ -227,12 +234,12 @@ def hour_file(head, records):
 
 def write_hour(head, words, room):
     """The hour file of a head and of the words of records, one record after the other, for a buffer of `room` bytes; or refusals 1, 4,
-    5 and 11."""
+    5, 14 and 11."""
     if len(head) != HEAD_WORDS or len(words) % RECORD_WORDS != 0 or len(words) > RECORD_WORDS * MOST_RECORDS:
         raise Refused(1)
     read = read_head((0,) * FIRST_BODY_WORD + tuple(head))
     records = [words[first:first + RECORD_WORDS] for first in range(0, len(words), RECORD_WORDS)]
-    read_records(records, read["members"], len(read["areas"]))
+    check_schedules(read_records(records, read["members"], len(read["areas"])))
     file = hour_file(head, records)
     if room < len(file):
         raise Refused(11)
@@ -389,7 +396,8 @@ def work_out_charges(hour):
 
 
 def work_out(hour):
-    """All figures of an hour, or refusals 6, 7 and 12."""
+    """All figures of an hour that keeps rows 1 to 5, or refusals 14, 6, 7 and 12."""
+    check_schedules(hour["records"])
     figures = work_out_charges(hour)
     return {**figures, "finals": finals_of(figures["charges"], member_demands(hour))}
 

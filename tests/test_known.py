@@ -2,8 +2,9 @@
 
     python3 -m unittest tests/test_known.py       # programs from target/bin; those of tests/archive are made
 
-The files of tests/known.py, the printed case, an hour with finals of its own and one with an import in buffers of several lengths, members
-to be explained, hours to be written, and text amounts, document 01's figures among them.
+The files of tests/known.py, the printed case, an hour with finals of its own and one with an import in buffers of several lengths, a
+schedule above the maximum before a buffer that is too short, members to be explained, hours to be written, and text amounts, document 01's
+figures among them.
 """
 
 import struct
@@ -85,6 +86,14 @@ class Buffers(unittest.TestCase):
             lengths = [1 if place == short else 2 for place in range(5)]
             with self.subTest(lengths):
                 self.assertEqual(printed_by("settled", PRINTED, *lengths), self.untouched(11, lengths))
+
+    def test_a_schedule_above_the_maximum_goes_before_short_buffers(self):
+        """The printed case with a schedule of 2,001 kWh, and with one of 2,000, which is the maximum."""
+        above, at = (known.words(known.hours.printed_case().blocks(), (*known.field(0, 3), kwh)) for kwh in (2_001, 2_000))
+        for lengths in ((32, 32, 32, 250, 250), (2, 2, 2, 2, 2), (1, 2, 2, 2, 2), (2, 2, 2, 2, 1), (0, 0, 0, 0, 0)):
+            with self.subTest(lengths):
+                self.assertEqual(printed_by("settled", above, *lengths), self.untouched(14, lengths))
+                self.assertEqual(printed_by("settled", at, *lengths).splitlines()[0], f"answer {0 if min(lengths) > 1 else 11} at 0")
 
     def test_no_demand_goes_before_short_buffers(self):
         data = known.idle_hour(1_000, (1, 1)).encode()
@@ -181,6 +190,16 @@ class Written(unittest.TestCase):
                 wrote = b"" if answer else PRINTED
                 self.assertEqual(self.called(data, *lengths),
                                  (f"answer {answer} at 0 length {len(wrote)}", wrote.ljust(lengths[1], b"M")))
+
+    def test_a_schedule_above_the_maximum(self):
+        """It goes before a file that is too short, and after the head's length; at the maximum the printed case is written. A refused file
+        is what it was."""
+        for kwh, lengths, answer in ((2_001, (120, 1_024), 14), (2_001, (120, 1_023), 14), (2_001, (120, 0), 14), (2_001, (119, 1_024), 1),
+                                     (2_000, (120, 1_023), 11), (2_000, (120, 0), 11)):
+            data = bytearray(self.HEAD + self.RECORDS)
+            struct.pack_into("<I", data, 4 * (120 + 3), kwh)
+            with self.subTest((kwh, lengths)):
+                self.assertEqual(self.called(bytes(data), *lengths), (f"answer {answer} at 0 length 0", b"M" * lengths[1]))
 
     def test_what_is_written_is_settled(self):
         wrote = programs.run(COMMANDS["write_hour"], self.HEAD + self.RECORDS)

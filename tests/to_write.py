@@ -59,19 +59,6 @@ def some_room(rng, needed):
     return min(MOST_ROOM, rng.choice([needed] * 3 + long + short))
 
 
-# ---- Faults of the words, beside those of tests/hours.py: where the first, the last and a record between breaks a rule
-
-def wrong_at(which):
-    def fault(rng, hour, blocks):
-        place = hours.place_of(hour, which)
-        if place is None:
-            return None
-        hours.put_in_record(blocks, place, *rng.choice([(0, 6), (11, 1), (1, hour.members), (3, 100_001)]))
-        return 5, place
-    fault.__name__ = f"{which}_record_wrong"
-    return fault
-
-
 # ---- Faults of the length: each is refusal 1 at 0
 
 def nothing_at_all(rng, data):
@@ -101,16 +88,16 @@ def too_many_records(rng, data):
 
 
 LENGTH_FAULTS = (nothing_at_all, head_cut, no_whole_word, no_whole_record, too_many_records)
-PLACED_FAULTS = tuple(map(wrong_at, hours.PLACES))
-RECORD_FAULTS = hours.RECORD_FAULTS + PLACED_FAULTS
-FAULTS = hours.HEAD_FAULTS + RECORD_FAULTS + LENGTH_FAULTS
+RECORD_FAULTS = hours.RECORD_FAULTS + hours.PLACED_FAULTS
+FAULTS = hours.HEAD_FAULTS + hours.SCHEDULE_FAULTS + RECORD_FAULTS + LENGTH_FAULTS
 
 # Pairs of which the first place, or the order of the refusals, decides. Two faults of records at any place may be of the same one, and
 # undo each other.
 LONG_FAULTS = (no_whole_record, too_many_records)
-PAIRS = ([*itertools.combinations(hours.HEAD_FAULTS, 2)], [*itertools.combinations(PLACED_FAULTS, 2)],
+PAIRS = ([*itertools.combinations(hours.HEAD_FAULTS, 2)], [*itertools.combinations(hours.PLACED_FAULTS, 2)],
          [*itertools.product(hours.HEAD_FAULTS, RECORD_FAULTS)], [*itertools.product(hours.HEAD_FAULTS, LONG_FAULTS)],
-         [*itertools.product(RECORD_FAULTS, LONG_FAULTS)])
+         [*itertools.product(RECORD_FAULTS, LONG_FAULTS)], *hours.WRONG_AND_SCHEDULE,
+         [*itertools.product(hours.HEAD_FAULTS, hours.SCHEDULE_FAULTS)], [*itertools.product(hours.SCHEDULE_FAULTS, LONG_FAULTS)])
 
 
 # ---- The makers
@@ -187,11 +174,12 @@ def made(seed, index):
 class Reached:
     """What SIDES ask about: what was made, and what the program `write_hour` and the call from C answer to it."""
 
-    def __init__(self, case, program, called, imported):
+    def __init__(self, case, program, called, imported, kept):
         """`program` is the number and place that the program answers, `called` the number that the call does, `imported` the import that
-        row 5 refuses for its word 4 alone, or None."""
+        row 5 refuses for its word 4 alone, or None, `kept` the records that keep row 5, by their places."""
         self.number, self.place = program
         self.called, self.imported = called, imported
+        self.kept, self.above = kept, above_maximum(kept)
         self.bytes, self.split, self.records = len(case.data), case.split, records_in(case.data)
         self.spare = case.room - bytes_needed(case.data)
         self.due = [number for number, _ in case.due or []]
@@ -199,6 +187,19 @@ class Reached:
     def both(self, one, two):
         """Whether refusal `one` was answered where `two` was due as well."""
         return self.number == one and self.due.count(two) > (one == two)
+
+
+def generators_in(kept):
+    return {place: each for place, each in kept.items() if each["kind"] == hours.GENERATOR}
+
+
+def above_maximum(kept):
+    """By how many kWh a generator is scheduled above its maximum, by its place."""
+    return {place: each["S"] - each["M"] for place, each in generators_in(kept).items() if each["S"] > each["M"]}
+
+
+def at_maximum(kept):
+    return any(each["S"] == each["M"] > 0 for each in generators_in(kept).values())
 
 
 def at_each_place(name, shows):
@@ -212,6 +213,15 @@ def at_each_place(name, shows):
 IMPORT_SIDES = {
     **at_each_place("5 by an import's word 4", lambda r: r.imported),
     "5 by an import's word 4 that is its word 3": lambda r: r.imported and r.imported["A"] == r.imported["S"],
+}
+
+# Document 02, A6; these too.
+SCHEDULE_SIDES = {
+    **at_each_place("14", lambda r: r.number == 14),
+    "14 by a kWh": lambda r: r.number == 14 and r.above[r.place] == 1,
+    "14 at the first of two records": lambda r: r.number == 14 and len(r.above) > 1,
+    "5 where 14 is due as well, at an earlier record": lambda r: r.number == 5 and r.above and min(r.above) < r.place,
+    "5 where 14 is due as well, at a later record": lambda r: r.number == 5 and r.above and min(r.above) > r.place,
 }
 SIDES = {f"written, {count} records": lambda r, count=count: r.number == 0 and r.records == count for count in COUNTS}
 SIDES.update({
@@ -227,16 +237,21 @@ SIDES.update({
     "4 at its last word": lambda r: r.number == 4 and r.place == 127,
     **at_each_place("5", lambda r: r.number == 5),
     **IMPORT_SIDES,
+    **SCHEDULE_SIDES,
     "1 where 4 is due as well": lambda r: r.both(1, 4),
     "1 where 5 is due as well": lambda r: r.both(1, 5),
+    "1 where 14 is due as well": lambda r: r.both(1, 14),
     "4 where 5 is due as well": lambda r: r.both(4, 5),
+    "4 where 14 is due as well": lambda r: r.both(4, 14),
     "4 at the first of two words": lambda r: r.both(4, 4),
     "5 at the first of two records": lambda r: r.both(5, 5),
     "1 where the file is too short as well": lambda r: r.called == 1 and r.spare < 0,
     "4 where the file is too short as well": lambda r: r.called == 4 and r.spare < 0,
     "5 where the file is too short as well": lambda r: r.called == 5 and r.spare < 0,
+    "14 where the file is too short as well": lambda r: r.called == 14 and r.spare < 0,
     "11 by a byte": lambda r: r.called == 11 and r.spare == -1,
     "11 by a block": lambda r: r.called == 11 and r.spare == -BLOCK_BYTES,
     "written, the file just long enough": lambda r: r.called == 0 and r.spare == 0,
     "written, bytes past the last block": lambda r: r.called == 0 and r.spare > 0,
+    "written, a generator scheduled at its maximum": lambda r: r.number == 0 and at_maximum(r.kept),
 })
