@@ -3,8 +3,8 @@
     python3 -m unittest tests/test_second.py
 
 Document 01's own figures and printed case, every refusal, text amounts, the three bounds of demand 3 with
-exact fractions, document 02's finals, explanations, hour files that are written and imports, and that tests/compare notices a wrong
-program.
+exact fractions, document 02's finals, explanations, hour files that are written, imports and schedules, and that tests/compare notices a
+wrong program.
 """
 
 import contextlib
@@ -172,7 +172,7 @@ class PrintedCase(unittest.TestCase):
 
 
 class Refusals(unittest.TestCase):
-    """Document 01, "Refusal numbers and their order"; document 02, A1."""
+    """Document 01, "Refusal numbers and their order"; document 02, A1 and A6."""
 
     def test_each_fault_alone_is_refused_with_its_number_and_place(self):
         for fault in hours.FAULTS + hours.LONE_FAULTS:
@@ -188,6 +188,7 @@ class Refusals(unittest.TestCase):
     def test_faults_of_every_number_taken_away_one_by_one(self):
         hour = hours.printed_case()
         hour.areas[0][1] = 5
+        hour.records[0]["S"] = 2_001       # 14 at record 0
         hour.records[1]["A"] = 0
         blocks = hour.blocks()
         blocks[0][127] = 1                 # 4 at word 127
@@ -208,6 +209,8 @@ class Refusals(unittest.TestCase):
         blocks[0][127] = 0
         hours.mend(blocks[0])
         self.assertEqual(answer(hours.to_bytes(blocks), short), (5, 1))
+        self.assertEqual(answer(hour, short), (14, 0))
+        hour.records[0]["S"] = 2_000
         self.assertEqual(answer(hour, short), (6, 0))
         hour.areas[0][2] = 905             # what came in and what was generated leaves
         self.assertEqual(answer(hour, short), (12, 0))
@@ -237,6 +240,9 @@ class Refusals(unittest.TestCase):
         blocks[2][8] = blocks[2][8 + 12] = 6
         hours.mend(blocks[2])
         self.assertEqual(answer(hours.to_bytes(blocks)), (5, 10))
+        for place in (7, 11):
+            hour.records[place] = record(GENERATOR, 0, 0, S=2, M=1, F=1, H=1)
+        self.assertEqual(answer(hour), (14, 7))
 
     def test_short_buffers(self):
         data = Hour(1, 3, [1], [[0, 0, 0]], [record(EXPORT, 0, 0)] * 5).encode()
@@ -256,9 +262,12 @@ class Refusals(unittest.TestCase):
                 self.assertEqual(settled[2:], ([0] * 8, [77] * 32, [77] * 32, [77] * 250, [77] * 250, [(77, 77)] * 32))
 
     def test_every_word_of_a_small_file_is_looked_at(self):
-        """One more is accepted in the words that hold a figure with room above it, and in no other: of a generator and a load, and of an
-        import and a load."""
+        """One more is accepted in the words that hold a figure with room above it, and in no other: of a generator and a load, where the
+        generator is scheduled at its maximum, and of an import and a load."""
+        at_maximum = hours.printed_case()
+        at_maximum.records[0]["M"] = 1_000
         for hour, one, other in ((hours.printed_case(), (1, *range(3, 11)), (0, *range(3, 8))),
+                                 (at_maximum, (1, *range(4, 11)), (0, *range(3, 8))),
                                  (known.import_hour(), (1, 3, 5, 6, 9, 10), range(3, 8))):
             figures = {(0, word) for word in (8, 9, 10, 11, 12, 17, 18)}
             figures |= {(1, 8 + word) for word in one} | {(1, 20 + word) for word in other}
@@ -502,16 +511,15 @@ class Explained(unittest.TestCase):
         hour = hours.printed_case()
         hour.areas[0][1] = 5
         hour.records[1]["A"] = 0
-        blocks = hour.blocks()
-        blocks[1][8] = 6
-        hours.mend(blocks[1])
-        spoiled = hours.to_bytes(blocks)
+        spoiled = known.words(hour.blocks(), (1, 8, 6))
+        above = known.words(hour.blocks(), (1, 8 + 3, 2_001))
         for member in (2, 3, 256, 2**32 - 1):
             def explained(data, member=member):
                 return second.explanation(hours.question(member, data))
             self.assertEqual(explained(spoiled[:-1]), b"refused 1 at 0\n")
             self.assertEqual(explained(spoiled[:-4] + b"\1\0\0\0"), b"refused 2 at 1\n")
             self.assertEqual(explained(spoiled), b"refused 5 at 0\n")
+            self.assertEqual(explained(above), b"refused 14 at 0\n")
             self.assertEqual(explained(hour.encode()), b"refused 6 at 0\n")
             balanced = Hour(7, 2, [5_000], [[0, 5, 905]], hour.records)
             self.assertEqual(explained(balanced.encode()), b"refused 12 at 0\n")
@@ -598,14 +606,18 @@ class Written(unittest.TestCase):
         for places, first in (((0,), 0), ((6,), 6), ((12,), 12), ((12, 3), 3)):
             words = self.changed(self.RECORDS[:12] * 13, *((12 * place + 11, 1) for place in places))
             self.assertEqual(self.answer(self.HEAD, words), (5, first))
+            words = self.changed(self.RECORDS[:12] * 13, *((12 * place + 3, 2_001) for place in places))
+            self.assertEqual(self.answer(self.HEAD, words), (14, first))
 
     def test_one_refusal_after_the_other(self):
         """Faults of every number, taken away one by one."""
-        head, words = self.changed(self.HEAD, (1, 0)), self.changed(self.RECORDS, (12, 6))
+        above = self.changed(self.RECORDS, (3, 2_001))
+        head, words = self.changed(self.HEAD, (1, 0)), self.changed(above, (12, 6))
         for split in ((119, 24), (120, 23)):
             self.assertEqual(self.answer(head[:split[0]], words[:split[1]], 0), (1, 0))
         self.assertEqual(self.answer(head, words, 0), (4, 9))
         self.assertEqual(self.answer(self.HEAD, words, 0), (5, 1))
+        self.assertEqual(self.answer(self.HEAD, above, 0), (14, 0))
         self.assertEqual(self.answer(self.HEAD, self.RECORDS, 1_023), (11, 0))
         self.assertEqual(len(self.answer(self.HEAD, self.RECORDS, 1_024)), 1_024)
 
@@ -628,14 +640,18 @@ class Written(unittest.TestCase):
             self.assertEqual(second.written(self.PARTS, lengths), b"answer %d at 0 length 0\nMMMMMMMMM" % number)
 
     def test_read_and_written_again(self):
-        """An hour file that keeps rows 1 to 5, taken apart, gives the same bytes; what is written is read as the same hour."""
-        again = 0
+        """An hour file that keeps rows 1 to 5 and 14, taken apart, gives the same bytes; what is written is read as the same hour. One that
+        row 14 refuses is not written."""
+        again = refused = 0
         for index in range(3 * len(hours.ROUND)):
             made = hours.made("again", index)
-            if answer(made.data)[0] in (0, 6, 11, 12):
-                again += 1
-                self.assertEqual(second.written_hour(to_write.taken_apart(to_write.blocks_of(made.data))), made.data, made.name)
+            number, place = answer(made.data)
+            if number in (0, 6, 11, 12, 14):
+                again, refused = again + (number != 14), refused + (number == 14)
+                wanted = b"refused 14 at %d\n" % place if number == 14 else made.data
+                self.assertEqual(second.written_hour(to_write.taken_apart(to_write.blocks_of(made.data))), wanted, made.name)
         self.assertGreater(again, 100)
+        self.assertGreater(refused, 10)
 
     def test_what_is_made(self):
         """The maker says what is due, and its hours are read as they were given."""
@@ -718,6 +734,26 @@ class MadeHours(unittest.TestCase):
                 generators += r["kind"] == GENERATOR and r["M"] - r["A"] - (r["O"] - r["N"]) < 0
                 loads += r["kind"] in hours.LOADS and r["O"] - r["N"] - r["A"] > 0
         self.assertGreater(min(generators, loads), 30)
+
+    def test_schedules_at_their_maximum(self):
+        """Or a kWh below it, from the lowest maximum to the highest; and a maximum that what was metered or the obligation is above."""
+        seen = set()
+        for turn in range(20):
+            for r in hours.schedules_at_maximum(random.Random(turn)).records:
+                if r["kind"] == GENERATOR:
+                    self.assertIn(r["M"] - r["S"], (0, 1))
+                    seen |= {(r["S"], r["M"]), *(letter for letter in "AO" if r[letter] > r["M"])}
+        self.assertLess({(0, 0), (0, 1), (1, 1), (99_999, 100_000), (100_000, 100_000), "A", "O"}, seen)
+
+    def test_no_generator_is_scheduled_above_its_maximum(self):
+        """In honest hours, of which some at the ends of the ranges; other letters than S are as they fall."""
+        above = set()
+        for turn in range(300):
+            rng = random.Random(turn)
+            for r in [hours.record_at_ends(rng, 1, 1), *(hours.random_record(rng, 1, 1, 100) for _ in range(9))]:
+                if r["kind"] == GENERATOR:
+                    above |= {letter for letter in "SAJNO" if r[letter] > r["M"]}
+        self.assertEqual(above, set("AJNO"))
 
     def test_no_demand_and_no_ufe(self):
         areas = 0
@@ -834,6 +870,48 @@ HOUR_SLIPS.update({
     "the losses of every kind as scheduled": ("sum(actual(r) * (1 -", 'sum(r["S"] * (1 -'),
 })
 
+# The schedules of document 02, A6; first what row 14 asks, which the hours to write must show too.
+JUDGED = 'if r["kind"] == GENERATOR and r["S"] > r["M"]:'
+SCHEDULE_SLIPS = {
+    "equal refused": (JUDGED, JUDGED.replace(">", ">=")),
+    "a kWh above let through": (JUDGED, JUDGED.replace('r["M"]', 'r["M"] + 1')),
+    "every kind judged": (JUDGED, JUDGED.replace('r["kind"] == GENERATOR and ', "")),
+    **{f"{name} judged as well": (JUDGED, JUDGED.replace("== GENERATOR", f"in (GENERATOR, {name})"))
+       for name in ("REAL_TIME_LOAD", "PROFILE_LOAD", "IMPORT", "EXPORT")},
+    "the actual energy judged": (JUDGED, JUDGED.replace('r["S"]', 'r["A"]')),
+    "the actual energy judged as well": (JUDGED, JUDGED.replace('r["S"]', 'max(r["S"], r["A"])')),
+    "the schedule less the adjustment judged": (JUDGED, JUDGED.replace('r["S"]', 'r["S"] - r["J"]')),
+    "the schedule judged against the obligation": (JUDGED, JUDGED.replace('r["M"]', 'r["O"]')),
+    "the obligation judged against the maximum": (JUDGED, JUDGED.replace('r["S"]', 'r["O"]')),
+    "the last schedule": (
+        "for place, r in enumerate(records):\n        if r", "for place, r in reversed([*enumerate(records)]):\n        if r"),
+    "14 at 0": ("raise Refused(14, place)", "raise Refused(14)"),
+    "no refusal 14": (JUDGED, "if False:"),
+    "14 before 5, record by record": (
+        "        records.append(record)\n", "        records.append(record)\n"
+        '        if record["kind"] == GENERATOR and record["S"] > record["M"]:\n            raise Refused(14, len(records) - 1)\n'),
+    "14 before 5, over all records": (
+        "    records = []\n    for words in held",
+        "    check_schedules([read_record(words) for words in held])\n    records = []\n    for words in held"),
+}
+LOOKED_FOR = '    check_schedules(hour["records"])\n'
+HOUR_SLIPS.update({
+    **SCHEDULE_SLIPS,
+    "14 not looked for in settling": (LOOKED_FOR, ""),
+    "14 after 6": (LOOKED_FOR, "", "    figures = work_out_charges(hour)\n", f"    figures = work_out_charges(hour)\n{LOOKED_FOR}"),
+    "14 after 12": (
+        LOOKED_FOR, "", '    return {**figures, "finals": finals_of(figures["charges"], member_demands(hour))}\n',
+        f'    finals = finals_of(figures["charges"], member_demands(hour))\n{LOOKED_FOR}    return {{**figures, "finals": finals}}\n'),
+    "14 after 11": (
+        "        figures = work_out(hour)\n        members, records",
+        "        try:\n            figures = work_out(hour)\n        except Refused as early:\n"
+        '            short = min(lengths[:3]) < hour["members"] or min(lengths[3:]) < len(hour["records"])\n'
+        "            raise Refused(11) if early.number == 14 and short else early\n        members, records"),
+    "charges cleared where 14 is given": (
+        "no_ufe, charges, finals, shares, deviations, lines)\n    posted",
+        "no_ufe, [0] * len(charges) if refused.number == 14 else charges, finals, shares, deviations, lines)\n    posted"),
+})
+
 # A refusal that names the last such place in place of the first.
 HOUR_SLIPS.update({
     "last block whose sum isn't zero": (
@@ -905,6 +983,13 @@ QUESTION_SLIPS = {
     "no refusal 12": (
         "figures = work_out(hour)\n    except Refused as refused:\n        return [not",
         "figures = work_out_charges(hour)\n    except Refused as refused:\n        return [not"),
+    "14 after 13": (
+        REFUSED_FIRST,
+        "return [not_explained(Refused(13) if refused.number == 14 and each >= words_in(data)[9] else refused) for each in members]"),
+    "14 not looked for": (
+        "figures = work_out(hour)\n    except Refused as refused:\n        return [not",
+        'figures = work_out_charges(hour)\n        finals_of(figures["charges"], member_demands(hour))\n'
+        "    except Refused as refused:\n        return [not"),
     "13 missing for the member count": (NO_MEMBER, NO_MEMBER.replace("13", 'member != hour["members"] and 13')),
     "13 for the last member": ('if member < hour["members"] else', 'if member < hour["members"] - 1 else'),
     "13 at the number": (NO_MEMBER, NO_MEMBER.replace("13", "13, member")),
@@ -925,6 +1010,8 @@ QUESTION_SLIPS = {
 
 # Hour files written otherwise than document 02, A2, says; the made hours to write must show every one. The slips of heads and records above
 # that name the last place in place of the first are the writer's too.
+WRITER_READS = 'read_records(records, read["members"], len(read["areas"]))'
+WRITER_CHECKS = f"check_schedules({WRITER_READS})"
 ROOM_FIRST = "    if room < 512 * (1 + (len(words) + 119) // 120):\n        raise Refused(11)\n"
 WRITING_SLIPS = {
     "word 2 of the last block ten": ("sealed(2, position, len(ten),", "sealed(2, position, 10,"),
@@ -943,7 +1030,7 @@ WRITING_SLIPS = {
     "249 records": ("RECORD_WORDS * MOST_RECORDS:", "RECORD_WORDS * MOST_RECORDS - 12:"),
     "a part of a record left out": (
         "len(words) % RECORD_WORDS != 0", "False",
-        "range(0, len(words), RECORD_WORDS)]\n    read", "range(0, len(words) - 11, RECORD_WORDS)]\n    read"),
+        "range(0, len(words), RECORD_WORDS)]\n    check", "range(0, len(words) - 11, RECORD_WORDS)]\n    check"),
     "a head too short filled with zeros": (
         "len(head) != HEAD_WORDS", "len(head) > HEAD_WORDS", "+ tuple(head))", "+ tuple(head) + (0,) * (120 - len(head)))"),
     "a head too long": ("len(head) != HEAD_WORDS", "len(head) < HEAD_WORDS"),
@@ -953,8 +1040,12 @@ WRITING_SLIPS = {
         "    try:\n        read = read_head((0,) * FIRST_BODY_WORD + tuple(head))\n"
         "    except Refused as refused:\n        raise Refused(4, refused.place - FIRST_BODY_WORD)\n"),
     "ten records in all": (
-        "range(0, len(words), RECORD_WORDS)]\n    read", "range(0, len(words), RECORD_WORDS)][:10]\n    read"),
-    "5 not looked for": ('    read_records(records, read["members"], len(read["areas"]))\n', ""),
+        "range(0, len(words), RECORD_WORDS)]\n    check", "range(0, len(words), RECORD_WORDS)][:10]\n    check"),
+    "5 not looked for": (WRITER_CHECKS, "check_schedules(map(read_record, records))"),
+    "14 not looked for": (WRITER_CHECKS, WRITER_READS),
+    "14 after 11": (
+        WRITER_CHECKS, f"kept = {WRITER_READS}",
+        "        raise Refused(11)\n    return file", "        raise Refused(11)\n    check_schedules(kept)\n    return file"),
     "5 before 4": (
         "    read = read_head((0,) *",
         "    read_records([words[at:at + 12] for at in range(0, len(words), 12)], 32, 8)\n    read = read_head((0,) *"),
@@ -1130,15 +1221,36 @@ class Noticing(unittest.TestCase):
             status, said = self.run_compare("--hand", "--hours", 500, "--programs", folder)
             self.assertEqual(status, 1)
             self.assertIn("never occurred in 500 hours: refused 1; refused 2; refused 3; refused 4; refused 5; refused 6; refused 12; "
-                          "12, one record; 12, several members charged; 12, exact amounts that cancel; 12, a buffer too short as well; "
-                          "no demand, ", said)
+                          "refused 14; 12, one record; 12, several members charged; 12, exact amounts that cancel; "
+                          "12, a buffer too short as well; no demand, ", said)
             self.assertIn("never occurred in 500 questions: refused 1; refused 2; refused 3; refused 4; refused 5; refused 6; refused 12; "
-                          "refused 13; generation decided, charge above 0; ", said)
-            self.assertIn("never occurred in 500 hours to write: refused 4; refused 5; written, 0 records; written, 1 records; "
-                          "written, 9 records; written, 11 records; written, 250 records; 1, no bytes; ", said)
+                          "refused 13; refused 14; generation decided, charge above 0; ", said)
+            self.assertIn("never occurred in 500 hours to write: refused 4; refused 5; refused 14; written, 0 records; "
+                          "written, 1 records; written, 9 records; written, 11 records; written, 250 records; 1, no bytes; ", said)
             imports = "".join(f"5 by an import's word 4 at {place}; " for place in
                               ("the first of some records", "a middle record", "the last of some records"))
-            self.assertEqual(said.count(imports + "5 by an import's word 4 that is its word 3"), 2)
+            imports += "5 by an import's word 4 that is its word 3; "
+            schedules = ("14 at the first of some records; 14 at a middle record; 14 at the last of some records; 14 by a kWh; "
+                         "14 at the first of two records; 5 where 14 is due as well, at an earlier record; "
+                         "5 where 14 is due as well, at a later record; ")
+            self.assertEqual(said.count(imports + schedules), 2)
+            self.assertIn(f"{schedules}14 where 6 is due as well; 14 where 12 is due as well; 14 where a buffer is too short as well", said)
+            self.assertIn("; 5 where 13 is due as well; 14 where 13 is due as well; 6 where 13 is due as well; ", said)
+            self.assertIn("; 14 where the file is too short as well\n", said)
+
+    def test_it_says_if_no_schedule_was_near_a_maximum(self):
+        """Nor of another kind: no hour has records."""
+        with self.stand_ins() as folder, mock.patch.object(programs, "run", self.without_starting), \
+                mock.patch.object(hours, "ROUND", [hours.honest(hours.no_records)]), \
+                mock.patch.object(to_write, "ROUND", [to_write.honest(0)]):
+            status, said = self.run_compare("--hand", "--hours", 500, "--programs", folder)
+        self.assertEqual(status, 1)
+        scheduled = ("a load in real time", "a load by profile", "an import", "an export")
+        self.assertIn("; a generator scheduled at its maximum; a generator scheduled at the highest maximum; "
+                      "a generator scheduled a kWh below its maximum; a generator that made more than its maximum; "
+                      "a generator whose obligation is above its maximum; "
+                      + "".join(f"{name} scheduled, which has no maximum; " for name in scheduled), said)
+        self.assertIn("; written, a generator scheduled at its maximum\n", said)
 
     @staticmethod
     def wrong_program(name, slips=HOUR_SLIPS):
@@ -1168,7 +1280,7 @@ class Noticing(unittest.TestCase):
     def test_the_hours_to_write_show_every_slip(self):
         cases = [compare.writing_of(1, index) for index in range(500)]
         cases.sort(key=lambda case: len(case.made.data))
-        for name in (*WRITING_SLIPS, *IMPORT_SLIPS, "last word of the head", "last record"):
+        for name in (*WRITING_SLIPS, *IMPORT_SLIPS, *SCHEDULE_SLIPS, "last word of the head", "last record"):
             wrong = self.wrong_program(name, {**HOUR_SLIPS, **WRITING_SLIPS})
             with self.subTest(name):
                 self.assertTrue(any(wrong.written_hour(case.made.data) != case.file
