@@ -1,6 +1,6 @@
 -- What the pages say of a function, said of its contract as its callers read it: settling keeps the three demands, its finals add up to
--- nothing, and it refuses an import that was metered; an amount written is read, and one read is written again; the statement is put whole
--- or not at all, and tells what it is of; an accepted file keeps its ranges.
+-- nothing, and it refuses an import that was metered and a generator that is scheduled above its maximum; an amount written is read, and
+-- one read is written again; the statement is put whole or not at all, and tells what it is of; an accepted file keeps its ranges.
 use mathlib.Core.Path.{_≡_, sym, _∙_, ap}
 use mathlib.Core.List.{List}
 use Prim.Native.Nat.{ℕ, _≤_, _<_}
@@ -23,6 +23,7 @@ use Rattle.rules.proofs.Rows.{settle-verdict, settle-changes-nothing}
 use Rattle.rules.proofs.Demands.{demand2, demand3}
 use Rattle.rules.proofs.Finals.{neutrality-shared}
 use Rattle.rules.proofs.Imports.{imports}
+use Rattle.rules.proofs.Engines.{engines}
 use Rattle.rules.proofs.Told.{sheet}
 use Rattle.amount.specs.Promised.{Wrote, HasRead}
 use Rattle.amount.proofs.RoundTrips as RoundTrips
@@ -54,6 +55,8 @@ keeps {s} {b} v u a = record {
   fair = λ e. rw (u, a) (demand3 s b (sym v ∙ e));
   neutral = λ e. rw a (neutrality-shared .settled s b (sym v ∙ e));
   metered-import = λ i passed m. v ∙ imports .refused s b i passed m;
+  above-engine = λ i. rw v (engines .refused s b i);
+  all-within = λ e. engines .settled-within s b (sym v ∙ e);
 }
 
 pub settle-keeps-demands : (κs : Lfts 6) → Gives (settle.Post κs) (λ a x s. KeepsDemands (now (a .0))

@@ -17,6 +17,7 @@ use Rattle.rules.specs.Settling.{Settlement, Buffers, emptyLine}
 use Rattle.rules.specs.Explanation as Explanation
 use Rattle.rules.specs.Explaining.{Explains}
 use Rattle.rules.proofs.Explaining.{explain-verdict, explaining}
+use Rattle.rules.proofs.Engines.{engines}
 use Rattle.rules.proofs.Worded.{cut-input-same}
 use Rattle.printing.proofs.Showing.{whole-text}
 use Rattle.pool.specs.Buffers.{buffers}
@@ -73,6 +74,8 @@ keeps {s} {m} e = subst (KeepsExplaining s m) (sym e) (record {
   explained = λ b. explaining .explained s b m;
   no-member = λ b. explaining .no-member s b m;
   refused-alike = explaining .refused-alike s m;
+  above-engine = engines .unexplained s m;
+  all-within = engines .explained-within s m;
 })
 
 pub explain-keeps : (κs : Lfts 1) → Gives (explain.Post κs) (λ a x s. KeepsExplaining (now (a .0)) (a .1 .0) (answered x))

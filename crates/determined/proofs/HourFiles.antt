@@ -1,6 +1,6 @@
 -- What the pages say of the writer of hour files, said of its contract as its callers read it: what it writes is read back as the same
--- hour, an accepted file's own head and records give its bytes again, and an import that was metered is refused; the program's bytes are
--- put whole or not at all.
+-- hour, an accepted file's own head and records give its bytes again, and an import that was metered or a generator that is scheduled above
+-- its maximum is refused; the program's bytes are put whole or not at all.
 use mathlib.Core.Path.{_≡_, refl, sym, _∙_, ap, subst}
 use mathlib.Core.List.{List}
 use Prim.Native.Nat.{ℕ, _≤_}
@@ -17,6 +17,7 @@ use Rattle.rules.specs.Finals.{AreBytes}
 use Rattle.rules.specs.Writing.{AreWords, fileIn}
 use Rattle.rules.proofs.Writing.{verdict-is, as-written, writing}
 use Rattle.rules.proofs.Imports.{imports}
+use Rattle.rules.proofs.Engines.{engines}
 use Rattle.rules.proofs.Raw.{cut-input-same}
 use Rattle.printing.proofs.Showing.{whole-text}
 use Rattle.determined.specs.Determined.{Gives, KeepsWriting}
@@ -39,6 +40,8 @@ module _ (head records before : List ℕ) where
     past-file = writing .past-file head records before;
     same-bytes = own-bytes;
     metered-import = imports .unwritten head records before;
+    above-engine = engines .unwritten head records before;
+    all-within = engines .written-within head records before;
   }
 
   keeps-as : {w : HourWritten} → w ≡ writeHour head records before → AreWords head → AreWords records → KeepsWriting head records before w

@@ -13,6 +13,7 @@ use Rattle.wordrules.proofs.keeps.Reads as keeps
 use Rattle.wordrules.proofs.block_rule.Reads as block-rule
 use Rattle.wordrules.proofs.head_rule.Reads as head-rule
 use Rattle.wordrules.proofs.record_keeps.Reads as record-keeps
+use Rattle.wordrules.proofs.scheduled_above.Reads as scheduled-above
 use Rattle.formula.proofs.entry.kind_of.Reads as kind-of
 use Rattle.formula.proofs.entry.is_load.Reads as is-load
 use Rattle.formula.proofs.deviation.deviation.Reads as deviation
@@ -60,6 +61,9 @@ one-head-rule κs a x y s t = agree
 
 pub one-record-keeps : (κs : Lfts 0) → OneResult (record-keeps.Post κs)
 one-record-keeps κs a x y s t = agree
+
+pub one-scheduled-above : (κs : Lfts 0) → OneResult (scheduled-above.Post κs)
+one-scheduled-above κs a x y s t = agree
 
 pub one-kind-of : (κs : Lfts 0) → OneResult (kind-of.Post κs)
 one-kind-of κs a x y s t = agree

@@ -16,7 +16,7 @@ abbrev pub Examined : List ℕ → Answer → Type 0
 Examined s r = verdictOf r ≡ verdict (fileRows s)
 
 module _ (s : List ℕ) where
-  -- accepted exactly when rows 1 to 5 are whole
+  -- accepted exactly when rows 1 to 5 and 14 are whole
   pub accepted-when-whole : (r : Answer) → Examined s r → (r ≡ Accepted) ↔ AllWhole (fileRows s)
   accepted-when-whole r e = let rows = accepts-when-whole (fileRows s) (file-numbered s) in
       (λ a. rows .0 (sym e ∙ ap verdictOf a), λ w. one-answer r Accepted (e ∙ rows .1 w))

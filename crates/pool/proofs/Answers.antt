@@ -61,7 +61,7 @@ module _ (s : List ℕ) (b : Buffers) where
   abbrev lengthRow : Row
   lengthRow = row 11 (shortOf h b)
 
-  -- rows 1 to 5, then 6, 7, 12 and 11
+  -- rows 1 to 5 and 14, then 6, 7, 12 and 11
   in-order : settleRows s b ≡ fileRows s ++ row 6 (badArea h) ∷ row 7 (badAmount h) ∷ row 12 (noDemand h) ∷ lengthRow ∷ []
   unfolding fileRows tableRows
   in-order = refl
@@ -71,7 +71,7 @@ module _ (s : List ℕ) (b : Buffers) where
   file-refused {a} examined refused =
       refused-with a (file-decides s _ _ _ _ _ (λ e. refused (one-answer a Accepted (examined ∙ e))) ∙ sym examined) refused
 
-  -- once rows 1 to 5 are passed; row 7 is then whole
+  -- once rows 1 to 5 and 14 are passed; row 7 is then whole
   module _ (passed : verdict (fileRows s) ≡ accepted) (kept : FileKept s) where
     rest : verdict (settleRows s b) ≡ verdict (row 6 (badArea h) ∷ row 7 none ∷ row 12 (noDemand h) ∷ lengthRow ∷ [])
     rest = ap verdict in-order

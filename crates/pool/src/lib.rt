@@ -49,8 +49,8 @@ fn too_short(
     deviations < records
 }
 
-// What settling answers of a file that passes rows 1 to 5, whose head this is, and of buffers of these lengths: rows 6, 12 and 11, and
-// the UFE figures. Row 7 is not among them, since no such file breaks it.
+// What settling answers of a file that passes rows 1 to 5 and 14, whose head this is, and of buffers of these lengths: rows 6, 12 and 11,
+// and the UFE figures. Row 7 is not among them, since no such file breaks it.
 fn answered(
     file: &[u8],
     head: Head,
@@ -93,7 +93,8 @@ fn put_shares(file: &[u8], head: Head, figures: [i64; 8], shares: &mut [i64])
 }
 
 // Settles an hour file: any bytes, any lengths of buffers. Every check runs before the first store, so that "unchanged" is the absence of
-// code; then each figure is worked once, in the caller's buffers. The head is read once, when rows 1 to 5 are passed.
+// code; then each figure is worked once, in the caller's buffers. The head is read once, when rows 1 to 5 and 14 are
+// passed.
 pub fn settle(
     file: &[u8],
     lines: &mut [Line],

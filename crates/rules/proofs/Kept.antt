@@ -211,7 +211,7 @@ module _ (s : List ℕ) (length-whole : badLength hourly s ≡ none) (blocks-who
       let held : blockWord s (blocks s - 1) 2 ≤ 10 = held-most hourly s blocks-whole (blocks s - 1) (omega arith) (omega arith) in
       rw e (omega arith))
 
--- A file whose rows 1 to 5 are whole, and 14, keeps the ranges of document 01.
+-- A file whose rows 1 to 5 and 14 are whole keeps the ranges of document 01.
 pub file-kept : (s : List ℕ) → AllWhole (fileRows s) → FileKept s
 unfolding fileRows tableRows
 file-kept s e =

@@ -39,7 +39,7 @@ pub record NeutralOutcome (h : Hour) (before after : Buffers) : Type 0 where
 
 pub record Neutrality : Type 0 where
   pub settled : (s : List ℕ) (b : Buffers) → Accepts s b → NeutralOutcome (hourOf hourly s) b (settle s b .buffers)
-  -- all loads, all areas: of every file that passes rows 1 to 5 the members demand together what the areas do
+  -- all loads, all areas: of every file that passes rows 1 to 5 and 14 the members demand together what the areas do
   pub all-demand : (s : List ℕ) → verdict (fileRows s) ≡ accepted → let h = hourOf hourly s in hourDemand h ≡ sumBelow (demands h) (areas h)
   -- the products stay below 10^19, of every such file
   pub products : (s : List ℕ) → verdict (fileRows s) ≡ accepted → let h = hourOf hourly s in (m : ℕ) → m < members h →

@@ -172,8 +172,7 @@ rows-again c =
     let turn = row-read .before .before .before in
     let whole = first-less (word-bad (file turn) (at turn)) _ 12 (inner .loop .inv) (omega arith) in
     let above = above-told turn (row-read .before .before .rows-test .taken) (row-read .before .record .ensures) (row-read .word .ensures) in
-    let kept = first-so-far (engine-above (file turn)) (at turn) _ _ (turn .rows .inv .2) (judged .above-maximum .ensures ∙ above) in
-    (
+    let kept = first-so-far (engine-above (file turn)) (at turn) _ _ (turn .rows .inv .2) (judged .above-maximum .ensures ∙ above) in (
       omega arith,
       first-next (record-bad (file turn)) (at turn) (turn .rows .inv .1) (ap isBroken whole),
       c .or-at .ensures ∙ kept,

@@ -20,7 +20,7 @@ use Rattle.pool.proofs.Answers.{can-put-finals, all-filled}
 use Rattle.pool.proofs.settle.Statement.{statement}
 use Rattle.pool.proofs.settle.Proof.Tie as tie
 
--- ---- rows 1 to 5
+-- ---- rows 1 to 5 and 14
 
 examine-requires : tie.Need-examine-requires
 examine-requires c κs = tt

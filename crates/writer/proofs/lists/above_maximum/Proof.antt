@@ -89,8 +89,7 @@ loop-less c = omega arith
 
 loop-again : tie.Need-loop-again Inv-loop μ-loop
 loop-again c =
-    let turn = turn-of (c .before) in
-    (
+    let turn = turn-of (c .before) in (
       omega arith,
       λ head. first-next _ (turn .loop .i) (turn .loop .inv .1 head) (sym (told-here (c .before) head) ∙ c .if1 .left),
     )
