@@ -72,13 +72,13 @@ fn above_maximum(words: &[u8], kind: u32) -> bool
 fn or_at(found: Found, here: bool, at: usize) -> Found
     ensures { λ r. ⌜ foundAt r ≡ orElse (foundAt found) (cond here (some at) none) ⌝ }
 {
-    if let Found::At(before) = found {
-        return Found::At(before);
-    }
     if here {
+        if let Found::At(before) = found {
+            return Found::At(before);
+        }
         return Found::At(at);
     }
-    Found::Nothing
+    found
 }
 
 // The search leaves all the rows at the first record, and in it the first word, that breaks a rule. On its way it keeps the first generator
@@ -97,6 +97,7 @@ fn first_fault(file: &[u8]) -> Fault
     'rows: while i < n {
         let words = hour::record(file, i);
         let kind = blocks::word(words, 0);
+        above = or_at(above, above_maximum(words, kind), i);
         w = 0;
         while w < 12 {
             if record_word_bad(words, members, areas, kind, w) {
@@ -104,7 +105,6 @@ fn first_fault(file: &[u8]) -> Fault
             }
             w += 1;
         }
-        above = or_at(above, above_maximum(words, kind), i);
         i += 1;
     }
     if i < n {

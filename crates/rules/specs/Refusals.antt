@@ -197,12 +197,7 @@ explainRows s m = hourRows s ++ row 13 (noMember (hourOf hourly s) m) ∷ []
 -- the writer of hour files checks 1, then 4, 5 and 14 as the reader, then 11, by the length of the buffer
 unfoldable pub writerRows : (head records : List ℕ) (room : ℕ) → List Row
 writerRows head records room = let h = hourFrom hourly head records in
-    row 1 (badLists head records)
-    ∷ row 4 (badHead h)
-    ∷ row 5 (badRecord h)
-    ∷ row 14 (aboveMaximum h)
-    ∷ row 11 (noRoom h room)
-    ∷ []
+    row 1 (badLists head records) ∷ row 4 (badHead h) ∷ row 5 (badRecord h) ∷ row 14 (aboveMaximum h) ∷ row 11 (noRoom h room) ∷ []
 
 -- the program that writes has no buffer of a caller: the same without 11
 unfoldable pub listRows : (head records : List ℕ) → List Row

@@ -261,8 +261,8 @@ pub fn record_keeps(members: u32, areas: u32, kind: u32, w: usize, v: u32) -> bo
 pub fn scheduled_above(kind: u32, scheduled: u32, maximum: u32) -> bool
     ensures { λ r. ⌜ r ≡ Refusals.scheduledAbove kind scheduled maximum ⌝ }
 {
-    if kind == 1 {
-        return maximum < scheduled;
+    if kind != 1 {
+        return false;
     }
-    false
+    maximum < scheduled
 }

@@ -126,6 +126,12 @@ record-requires c κs =
 word-requires : tie.Need-word-requires Inv-loop μ-loop Inv-rows μ-rows
 word-requires c κs = tt
 
+above-maximum-requires : tie.Need-above-maximum-requires Inv-loop μ-loop Inv-rows μ-rows
+above-maximum-requires c κs = tt
+
+or-at-requires : tie.Need-or-at-requires Inv-loop μ-loop Inv-rows μ-rows
+or-at-requires c κs = tt
+
 loop-holds : tie.Need-loop-holds Inv-loop μ-loop Inv-rows μ-rows
 unfolding firstBelow
 loop-holds c = refl
@@ -143,18 +149,12 @@ loop-less c = omega arith
 loop-again : tie.Need-loop-again Inv-loop μ-loop Inv-rows μ-rows
 loop-again c =
     let inner = c .before .before .before in
-    let row-read = inner .before in
+    let row-read = inner .before .before .before in
     let turn = row-read .before .before .before in
     let w = inner .loop .w in
     let here = told turn (row-read .before .before .rows-test .taken) (row-read .before .record .ensures) (row-read .word .ensures) in
     let kept = sym (here w (c .before .before .loop-test .taken)) ∙ sym (c .before .record-word-bad .ensures) ∙ c .if1 .left in
     first-next (word-bad (file turn) (at turn)) w (inner .loop .inv) kept
-
-above-maximum-requires : tie.Need-above-maximum-requires Inv-loop μ-loop Inv-rows μ-rows
-above-maximum-requires c κs = tt
-
-or-at-requires : tie.Need-or-at-requires Inv-loop μ-loop Inv-rows μ-rows
-or-at-requires c κs = tt
 
 -- i += 1
 add-i : tie.Need-add-i Inv-loop μ-loop Inv-rows μ-rows
@@ -166,16 +166,17 @@ rows-less c = omega arith
 rows-again : tie.Need-rows-again Inv-loop μ-loop Inv-rows μ-rows
 unfolding badWord firstBroken
 rows-again c =
-    let judged = c .before in
-    let inner = judged .before .before in
-    let row-read = inner .before in
+    let inner = c .before in
+    let kept = inner .before in
+    let row-read = kept .before .before in
     let turn = row-read .before .before .before in
     let whole = first-less (word-bad (file turn) (at turn)) _ 12 (inner .loop .inv) (omega arith) in
     let above = above-told turn (row-read .before .before .rows-test .taken) (row-read .before .record .ensures) (row-read .word .ensures) in
-    let kept = first-so-far (engine-above (file turn)) (at turn) _ _ (turn .rows .inv .2) (judged .above-maximum .ensures ∙ above) in (
+    let here = kept .before .above-maximum .ensures ∙ above in
+    let so-far = first-so-far (engine-above (file turn)) (at turn) _ _ (turn .rows .inv .2) here in (
       omega arith,
       first-next (record-bad (file turn)) (at turn) (turn .rows .inv .1) (ap isBroken whole),
-      c .or-at .ensures ∙ kept,
+      kept .or-at .ensures ∙ so-far,
     )
 
 -- return Fault::Word(i, w)
@@ -186,9 +187,9 @@ returns c =
     ⊎-elim
     (λ ran-out. absurd (omega (arith, ran-out .0 .left, c .if2 .taken)))
     (λ left.
-    let here = stops turn (left .0 .taken) (left .1 .ensures) (left .2 .ensures) (left .3 .w) (left .4 .taken) (left .3 .inv) in
-    let told = here (sym (left .5 .ensures) ∙ left .6 .taken) in
-    (sym (told ∙ ap (λ (w : ℕ). some (at turn, w)) (sym (left .7))), λ e. never-some e))
+    let here = stops turn (left .0 .taken) (left .1 .ensures) (left .2 .ensures) (left .5 .w) (left .6 .taken) (left .5 .inv) in
+    let told = here (sym (left .7 .ensures) ∙ left .8 .taken) in
+    (sym (told ∙ ap (λ (w : ℕ). some (at turn, w)) (sym (left .9))), λ e. never-some e))
     (c .before .rows-test .came)
 
 -- all records were passed: none is bad, and what was kept is what row 14 names
@@ -209,9 +210,16 @@ module _ (c : tie.Else2 Inv-loop μ-loop Inv-rows μ-rows) where
   unfolding badRecord
   nowhere = no-fault hour (ap (firstBelow (record-bad (file last))) (sym all-passed) ∙ last .rows .inv .1)
 
-  kept-above : foundAt (last .rows .above) ≡ aboveMaximum hour
+  as-left : c .before .rows-test .above ≡ last .rows .above
+  as-left =
+      ⊎-elim
+      (λ ran-out. ran-out .2)
+      (λ left. absurd (omega (arith, left .0 .taken, c .if2 .left)))
+      (c .before .rows-test .came)
+
+  kept-above : foundAt (c .before .rows-test .above) ≡ aboveMaximum hour
   unfolding aboveMaximum
-  kept-above = last .rows .inv .2 ∙ ap (firstBelow (engine-above (file last))) all-passed
+  kept-above = ap foundAt as-left ∙ last .rows .inv .2 ∙ ap (firstBelow (engine-above (file last))) all-passed
 
 -- Found::At(first) = above
 enum-known-above : tie.Need-enum-known-above Inv-loop μ-loop Inv-rows μ-rows
@@ -247,13 +255,13 @@ first-fault-spec =
     rows-holds
     record-requires
     word-requires
+    above-maximum-requires
+    or-at-requires
     loop-holds
     record-word-bad-requires
     add-w
     loop-less
     loop-again
-    above-maximum-requires
-    or-at-requires
     add-i
     rows-less
     rows-again

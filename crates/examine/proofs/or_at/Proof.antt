@@ -1,7 +1,15 @@
 -- `examine::or_at` meets its contract: what was found, or else what is here.
-use mathlib.Core.Option.{orElse}
+use mathlib.Core.Path.{_≡_, refl}
+use mathlib.Core.Option.{Option, none, some, orElse}
+use Prim.Native.Nat.{ℕ}
+use Rattle.rules.specs.Inner.Searched.{foundAt}
 use Rattle.examine.proofs.or_at.Statement.{statement}
 use Rattle.examine.proofs.or_at.Tie as tie
+
+as-it-was : (o : Option ℕ) → o ≡ orElse o none
+unfolding orElse
+as-it-was none = refl
+as-it-was (some i) = refl
 
 -- Found::At(before) = found
 enum-known-found : tie.Need-enum-known-found
@@ -19,12 +27,11 @@ enum-told c = c .match .keys2
 -- return Found::At(at)
 returns-2 : tie.Need-returns-2
 unfolding orElse
-returns-2 c = rw (c .before .enum-told .given .1, c .if1 .taken)
+returns-2 c = rw (c .enum-told .given .1, c .before .before .if1 .taken)
 
--- Found::Nothing
+-- found
 returns-3 : tie.Need-returns-3
-unfolding orElse
-returns-3 c = rw (c .before .enum-told .given .1, c .if1 .left)
+returns-3 c = rw (c .if1 .left) (as-it-was (foundAt (c .before .args .found)))
 
 pub or-at-spec : {M : Type 1} → statement M
 or-at-spec = tie.close (tie.spec enum-known-found returns enum-told returns-2 returns-3)

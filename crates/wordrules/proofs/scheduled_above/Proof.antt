@@ -5,15 +5,15 @@ use Rattle.rules.proofs.RuleTables.{no-generator}
 use Rattle.wordrules.proofs.scheduled_above.Statement.{statement}
 use Rattle.wordrules.proofs.scheduled_above.Tie as tie
 
--- return maximum < scheduled
+-- return false
 returns : tie.Need-returns
-unfolding scheduledAbove kindOf
-returns c = rw (c .if1 .taken)
-
--- false
-returns-2 : tie.Need-returns-2
 unfolding scheduledAbove
-returns-2 c = rw (no-generator _ (c .if1 .left))
+returns c = rw (no-generator _ (c .if1 .taken))
+
+-- maximum < scheduled
+returns-2 : tie.Need-returns-2
+unfolding scheduledAbove kindOf
+returns-2 c = rw (c .if1 .left)
 
 pub scheduled-above-spec : {M : Type 1} → statement M
 scheduled-above-spec = tie.close (tie.spec returns returns-2)
