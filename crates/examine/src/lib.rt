@@ -68,7 +68,7 @@ fn above_maximum(words: &[u8], kind: u32) -> bool
     wordrules::scheduled_above(kind, blocks::word(words, 3), blocks::word(words, 8))
 }
 
-// What was found before, or else this place if it is here.
+// The place that was found before, or else this one, if what is looked for is here.
 fn or_at(found: Found, here: bool, at: usize) -> Found
     ensures { λ r. ⌜ foundAt r ≡ orElse (foundAt found) (cond here (some at) none) ⌝ }
 {
