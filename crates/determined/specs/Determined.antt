@@ -54,7 +54,8 @@ pub record KeepsDemands (file : List ℕ) (before : Buffers) (told : Verdict) (u
   pub above-engine : (i : ℕ) → (told ≡ refusedAt 14 i) ↔ ((verdict (take 5 (fileRows file)) ≡ accepted) × FirstAbove (hourOf hourly file) i)
   pub all-within : told ≡ accepted → AllWithin (hourOf hourly file)
 
--- what document 02 asks of the writer (A2), of imports (A3) and of schedules (A6), by its head, records and buffer before, and by what was answered and left
+-- what document 02 asks of the writer (A2), of imports (A3) and of schedules (A6), by its head, records and buffer before, and by what was
+-- answered and left
 pub record KeepsWriting (head records before : List ℕ) (w : HourWritten) : Type 0 where
   -- the first broken row of the table answers, and a refusal changes nothing
   pub by-the-table : w .verdict ≡ verdict (writerRows head records (length before))

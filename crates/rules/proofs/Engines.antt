@@ -18,13 +18,14 @@ use Rattle.rules.specs.declared.Kind.the-variants.{Generator, RealTimeLo
 use Rattle.rules.specs.Record.{Hour, kindOf, isGenerator, entry, entryOf}
 use Rattle.rules.specs.HourFile.{hourly, hourOf}
 use Rattle.rules.specs.HourWords.{hourFrom}
-use Rattle.rules.specs.Refusals.{Row, row, Verdict, accepted, refusedAt, verdict, scheduledAbove, aboveMaximum, badArea, badAmount, noDemand}
-use Rattle.rules.specs.Refusals.{noMember, noRoom, tableRows, hourRows, fileRows, explainRows, writerRows}
+use Rattle.rules.specs.Refusals.{Row, row, Verdict, accepted, refusedAt, verdict, scheduledAbove, overScheduled, aboveMaximum}
+use Rattle.rules.specs.Refusals.{badArea, badAmount, noDemand, noMember, noRoom, tableRows, hourRows, fileRows, explainRows, writerRows}
 use Rattle.rules.specs.Settling.{Buffers, settle, writeHour}
 use Rattle.rules.specs.Explanation.{explain}
 use Rattle.rules.specs.Promises.{AllWhole}
 use Rattle.rules.specs.Engines.{WithinMaximum, AllWithin, FirstAbove, Engines}
-use Rattle.rules.proofs.Rows.{Numbered, named, only-row, accepts-when-whole, whole-parts, settle-verdict, settle-whole, file-whole, shortOf}
+use Rattle.rules.proofs.Rows.{Numbered, hasRow, only-row, accepts-when-whole, whole-parts, shortOf}
+use Rattle.rules.proofs.Rows.{settle-verdict, settle-whole, file-whole}
 use Rattle.rules.proofs.Writing.{verdict-is, writer-numbered}
 use Rattle.rules.proofs.Explaining.{explain-verdict, explain-numbered}
 
@@ -39,28 +40,25 @@ only-generator Unknown e = never e refl
 -- ---- the row's test of words is one of letters
 
 module _ (h : Hour) where
-  abbrev test : ℕ → Bool
-  test i = scheduledAbove (h .rec i 0) (h .rec i 3) (h .rec i 8)
-
-  pub tested-above : (i : ℕ) → test i ≡ true → (entryOf h i .kind ≡ Generator) × (entryOf h i .M <ℤ entryOf h i .S)
+  pub tested-above : (i : ℕ) → overScheduled h i ≡ true → (entryOf h i .kind ≡ Generator) × (entryOf h i .M <ℤ entryOf h i .S)
   unfolding scheduledAbove entryOf entry
   tested-above i t =
       let b = both (isGenerator (kindOf (h .rec i 0))) (ltb (h .rec i 8) (h .rec i 3)) t in
       (only-generator _ (b .0), omega (arith, zo, ltb-true (h .rec i 8) (h .rec i 3) (b .1)))
 
-  pub tested-within : (i : ℕ) → test i ≡ false → WithinMaximum h i
+  pub tested-within : (i : ℕ) → overScheduled h i ≡ false → WithinMaximum h i
   unfolding scheduledAbove entryOf entry
   tested-within i f generator = omega (arith, zo, ltb-false (h .rec i 8) (h .rec i 3) (rw generator at f))
 
-  holds-when : (i : ℕ) → entryOf h i .kind ≡ Generator → entryOf h i .M <ℤ entryOf h i .S → test i ≡ true
-  holds-when i generator above = split (test i) (λ t. t) (λ f. clashℤ above (tested-within i f generator))
+  holds-when : (i : ℕ) → entryOf h i .kind ≡ Generator → entryOf h i .M <ℤ entryOf h i .S → overScheduled h i ≡ true
+  holds-when i generator above = split (overScheduled h i) (λ t. t) (λ f. clashℤ above (tested-within i f generator))
 
-  fails-when : (i : ℕ) → WithinMaximum h i → test i ≡ false
-  fails-when i within = split (test i) (λ t. let a = tested-above i t in clashℤ (a .1) (within (a .0))) (λ f. f)
+  fails-when : (i : ℕ) → WithinMaximum h i → overScheduled h i ≡ false
+  fails-when i within = split (overScheduled h i) (λ t. let a = tested-above i t in clashℤ (a .1) (within (a .0))) (λ f. f)
 
   pub first-above : (i : ℕ) → (aboveMaximum h ≡ some i) ↔ FirstAbove h i
   unfolding aboveMaximum
-  first-above i = let first = first-some test (h .count) i in (
+  first-above i = let first = first-some (overScheduled h) (h .count) i in (
     λ e. let f = first .0 e in let a = tested-above i (f .1) in record {
       there = f .0;
       is-generator = a .0;
@@ -72,12 +70,12 @@ module _ (h : Hour) where
 
   pub all-within : aboveMaximum h ≡ none → AllWithin h
   unfolding aboveMaximum
-  all-within e i l = tested-within i (first-none test (h .count) e i l)
+  all-within e i l = tested-within i (first-none (overScheduled h) (h .count) e i l)
 
 -- ---- where the row stands in its table
 
-module _ (h : Hour) (before after : List Row) (numbered : Numbered before) (none-before : named 14 before ≡ false)
-    (none-after : named 14 after ≡ false) where
+module _ (h : Hour) (before after : List Row) (numbered : Numbered before) (none-before : hasRow 14 before ≡ false)
+    (none-after : hasRow 14 after ≡ false) where
   answers-14 : {v : Verdict} → v ≡ verdict (before ++ row 14 (aboveMaximum h) ∷ after) → (i : ℕ) →
       (v ≡ refusedAt 14 i) ↔ ((verdict before ≡ accepted) × FirstAbove h i)
   answers-14 e i = let answers = only-row 13 i (aboveMaximum h) after none-after before numbered none-before in (
@@ -95,13 +93,13 @@ module _ (s : List ℕ) where
 
   above-refused : (b : Buffers) (i : ℕ) →
       (settle s b .verdict ≡ refusedAt 14 i) ↔ ((verdict (take 5 (fileRows s)) ≡ accepted) × FirstAbove h i)
-  unfolding tableRows fileRows named
+  unfolding tableRows fileRows hasRow
   above-refused b =
       answers-14 h (take 5 (fileRows s)) (behind (row 11 (shortOf h b))) (omega arith) refl refl (settle-verdict s b)
 
   above-unexplained : (m i : ℕ) →
       (explain s m .verdict ≡ refusedAt 14 i) ↔ ((verdict (take 5 (fileRows s)) ≡ accepted) × FirstAbove h i)
-  unfolding tableRows fileRows hourRows explainRows named
+  unfolding tableRows fileRows hourRows explainRows hasRow
   above-unexplained m =
       answers-14 h (take 5 (fileRows s)) (behind (row 13 (noMember h m))) (omega arith) refl refl (explain-verdict s m)
 
@@ -112,7 +110,7 @@ module _ (s : List ℕ) where
 
 above-unwritten : (head records file : List ℕ) (i : ℕ) → (writeHour head records file .verdict ≡ refusedAt 14 i)
     ↔ ((verdict (take 3 (writerRows head records (length file))) ≡ accepted) × FirstAbove (hourFrom hourly head records) i)
-unfolding writerRows named
+unfolding writerRows hasRow
 above-unwritten head records file =
     let h = hourFrom hourly head records in
     answers-14 h (take 3 (writerRows head records (length file))) (row 11 (noRoom h (length file)) ∷ []) (omega arith) refl refl

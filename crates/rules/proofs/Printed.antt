@@ -27,9 +27,10 @@ unfolding Below.countBelow Below.sumBelow Below.totalBelow Below.valuesBelow Bel
     Text.amountText Text.amountField HourFile.word HourFile.blocks HourFile.blockWord HourFile.blockSum HourFile.lengthBad
     HourFile.recordCount HourFile.recordWord HourFile.hourOf Ranges.keeps Ranges.firstBroken Ranges.countRule Ranges.pastRule
     Ranges.blockRule Ranges.areaRule Ranges.headRule Ranges.rulesOf Ranges.recordRule Refusals.verdict Refusals.badLength Refusals.badSum
-    Refusals.badBlock Refusals.badHead Refusals.badWord Refusals.badRecord Refusals.scheduledAbove Refusals.aboveMaximum Refusals.badArea Refusals.badAmount Neutrality.neutrality
-    Neutrality.memberDemand Neutrality.hourDemand Neutrality.neutralityShare Neutrality.final Refusals.noDemand Refusals.tooShort
-    Refusals.outOfRange Refusals.tooNarrow Refusals.tableRows Refusals.hourRows Refusals.writeRows Settling.lineOf Settling.filled
-    Settling.ufeFigures Settling.settle Settling.write Statement.firstLine Statement.column Statement.memberLine Statement.memberLines
-    Statement.acceptedLines Statement.statement wordBytes printedFile usedBuffers printedSettlement
+    Refusals.badBlock Refusals.badHead Refusals.badWord Refusals.badRecord Refusals.scheduledAbove Refusals.aboveMaximum Refusals.badArea
+    Refusals.badAmount Neutrality.neutrality Neutrality.memberDemand Neutrality.hourDemand Neutrality.neutralityShare Neutrality.final
+    Refusals.noDemand Refusals.tooShort Refusals.outOfRange Refusals.tooNarrow Refusals.tableRows Refusals.hourRows Refusals.writeRows
+    Settling.lineOf Settling.filled Settling.ufeFigures Settling.settle Settling.write Statement.firstLine Statement.column
+    Statement.memberLine Statement.memberLines Statement.acceptedLines Statement.statement wordBytes printedFile usedBuffers
+    printedSettlement
 printed-right = record { settled = refl; stated = refl }

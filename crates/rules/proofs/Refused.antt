@@ -20,9 +20,9 @@ unfolding Below.sumBelow Below.totalBelow Below.firstBelow orElse Record.signed 
     Ufe.areaSum Ufe.losses Ufe.ufe Ufe.demands Share.allDemand Charge.amount HourFile.word HourFile.blocks HourFile.blockWord
     HourFile.blockSum HourFile.lengthBad HourFile.recordCount HourFile.recordWord HourFile.hourOf Ranges.keeps Ranges.firstBroken
     Ranges.countRule Ranges.pastRule Ranges.blockRule Ranges.areaRule Ranges.headRule Ranges.rulesOf Ranges.recordRule Refusals.verdict
-    Refusals.badLength Refusals.badSum Refusals.badBlock Refusals.badHead Refusals.badWord Refusals.badRecord Refusals.scheduledAbove Refusals.aboveMaximum Refusals.badArea
-    Refusals.badAmount Record.actual Record.entry Record.memberOf Record.areaOf Record.entryOf Record.price Record.zonePrice
-    Deviation.deviation Deviation.exportDeviation Ufe.inArea Share.shareSize Share.share Charge.entering Charge.shareOf Charge.grains
-    Charge.nearestCent Charge.cents Charge.charge Neutrality.neutrality Neutrality.memberDemand Neutrality.hourDemand Refusals.noDemand
-    Refusals.tooShort Refusals.tableRows Settling.settle wordBytes usedBuffers sealed refusals
+    Refusals.badLength Refusals.badSum Refusals.badBlock Refusals.badHead Refusals.badWord Refusals.badRecord Refusals.scheduledAbove
+    Refusals.aboveMaximum Refusals.badArea Refusals.badAmount Record.actual Record.entry Record.memberOf Record.areaOf Record.entryOf
+    Record.price Record.zonePrice Deviation.deviation Deviation.exportDeviation Ufe.inArea Share.shareSize Share.share Charge.entering
+    Charge.shareOf Charge.grains Charge.nearestCent Charge.cents Charge.charge Neutrality.neutrality Neutrality.memberDemand
+    Neutrality.hourDemand Refusals.noDemand Refusals.tooShort Refusals.tableRows Settling.settle wordBytes usedBuffers sealed refusals
 refused-right = (refl, (refl, (refl, (refl, (refl, (refl, (refl, (refl, (refl, (refl, (refl, tt)))))))))))

@@ -99,33 +99,33 @@ passed-on [] more w = refl
 passed-on (row n none ∷ rows) more w = passed-on rows more (w .1)
 passed-on (row n (some p) ∷ rows) more w = absurd (let z : _≡_ {A = ℕ} 0 1 = cc (w .0) in omega arith)
 
--- whether a row has this number
-unfoldable pub named : ℕ → List Row → Bool
-named n [] = false
-named n (row k broken ∷ rows) = eqb k n || named n rows
+-- whether there is a row of this number
+unfoldable pub hasRow : ℕ → List Row → Bool
+hasRow n [] = false
+hasRow n (row k broken ∷ rows) = eqb k n || hasRow n rows
 
-not-answered : (rows : List Row) (n p : ℕ) → named (suc n) rows ≡ false → verdict rows ≡ refusedAt (suc n) p → ⊥
-unfolding verdict named
+not-answered : (rows : List Row) (n p : ℕ) → hasRow (suc n) rows ≡ false → verdict rows ≡ refusedAt (suc n) p → ⊥
+unfolding verdict hasRow
 not-answered [] n p other e = zero-never n (sym (ap (λ (v : Verdict). v .number) e))
-not-answered (row k none ∷ rows) n p other e = not-answered rows n p (neither (eqb k (suc n)) (named (suc n) rows) other .1) e
+not-answered (row k none ∷ rows) n p other e = not-answered rows n p (neither (eqb k (suc n)) (hasRow (suc n) rows) other .1) e
 not-answered (row k (some q) ∷ rows) n p other e =
-    eqb-false k (suc n) (neither (eqb k (suc n)) (named (suc n) rows) other .0) (ap (λ (v : Verdict). v .number) e)
+    eqb-false k (suc n) (neither (eqb k (suc n)) (hasRow (suc n) rows) other .0) (ap (λ (v : Verdict). v .number) e)
 
 -- the only row of its number answers exactly when it is broken and every row before it is passed
-module _ (n p : ℕ) (broken : Option ℕ) (after : List Row) (none-after : named (suc n) after ≡ false) where
-  only-broken : (before : List Row) → named (suc n) before ≡ false → verdict (before ++ row (suc n) broken ∷ after) ≡ refusedAt (suc n) p →
+module _ (n p : ℕ) (broken : Option ℕ) (after : List Row) (none-after : hasRow (suc n) after ≡ false) where
+  only-broken : (before : List Row) → hasRow (suc n) before ≡ false → verdict (before ++ row (suc n) broken ∷ after) ≡ refusedAt (suc n) p →
       (verdict before ≡ accepted) × (broken ≡ some p)
-  unfolding verdict named
+  unfolding verdict hasRow
   only-broken [] other e = (refl, at broken e)
     where
       at : (o : Option ℕ) → verdict (row (suc n) o ∷ after) ≡ refusedAt (suc n) p → o ≡ some p
       at none e = absurd (not-answered after n p none-after e)
       at (some q) e = ap (λ (v : Verdict). some (v .place)) e
-  only-broken (row k none ∷ before) other e = only-broken before (neither (eqb k (suc n)) (named (suc n) before) other .1) e
+  only-broken (row k none ∷ before) other e = only-broken before (neither (eqb k (suc n)) (hasRow (suc n) before) other .1) e
   only-broken (row k (some q) ∷ before) other e =
-      absurd (eqb-false k (suc n) (neither (eqb k (suc n)) (named (suc n) before) other .0) (ap (λ (v : Verdict). v .number) e))
+      absurd (eqb-false k (suc n) (neither (eqb k (suc n)) (hasRow (suc n) before) other .0) (ap (λ (v : Verdict). v .number) e))
 
-  pub only-row : (before : List Row) → Numbered before → named (suc n) before ≡ false →
+  pub only-row : (before : List Row) → Numbered before → hasRow (suc n) before ≡ false →
       (verdict (before ++ row (suc n) broken ∷ after) ≡ refusedAt (suc n) p) ↔ ((verdict before ≡ accepted) × (broken ≡ some p))
   only-row before numbered other = (
     only-broken before other,

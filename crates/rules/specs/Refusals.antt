@@ -95,7 +95,7 @@ badSum s = firstBelow (λ b. not (eqb (blockSum s b) 0)) (blocks s)
 unfoldable pub badBlock : Layout → List ℕ → Option ℕ
 badBlock l s = firstBelow (λ b. isBroken (firstBroken (blockRule l (blocks s) (blockWord s b 2) b) (blockWord s b) 128)) (blocks s)
 
--- 14, of one record by its words 0, 3 and 8: a generator's scheduled energy is above its maximum; equal is allowed
+-- of one record by its words 0, 3 and 8: a generator's scheduled energy is above its maximum; equal is allowed
 unfoldable pub scheduledAbove : (kind scheduled maximum : ℕ) → Bool
 scheduledAbove kind scheduled maximum = isGenerator (kindOf kind) && ltb maximum scheduled
 
@@ -119,9 +119,12 @@ module _ (h : Hour) where
   unfoldable pub firstFault : Option (ℕ × ℕ)
   firstFault = bind badRecord (λ i. bind (badWord i) (λ w. some (i, w)))
 
-  -- 14: a generator is scheduled above its maximum; the first such record
+  abbrev pub overScheduled : ℕ → Bool
+  overScheduled i = scheduledAbove (h .rec i 0) (h .rec i 3) (h .rec i 8)
+
+  -- 14: the first record that is a generator, scheduled above its maximum
   unfoldable pub aboveMaximum : Option ℕ
-  aboveMaximum = firstBelow (λ i. scheduledAbove (h .rec i 0) (h .rec i 3) (h .rec i 8)) (h .count)
+  aboveMaximum = firstBelow overScheduled (h .count)
 
   -- 6: T is 0 and U isn't; the first such area
   unfoldable pub badArea : Option ℕ

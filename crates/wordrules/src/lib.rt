@@ -1,6 +1,7 @@
 // What each word of an hour file may be, as code: whether a word keeps a rule, the rule of every word of a block and of the head, whether
-// a word of a record keeps its rule, and whether a generator is scheduled above its maximum. Each equals its definition for every input. A rule is chosen by tests and not from a stored
-// table: the compiler then folds it into the search that asks for it, where an array of rules would be laid down on the stack at each word.
+// a word of a record keeps its rule, and whether a generator is scheduled above its maximum. Each equals its definition for every input. A
+// rule is chosen by tests and not from a stored table: the compiler then folds it into the search that asks for it, where an array of rules
+// would be laid down on the stack at each word.
 ghost use mathlib.Core.Path.{_≡_};
 ghost use mathlib.Core.Bool.{cond};
 ghost use Prim.Native.Nat.{_-_};

@@ -17,7 +17,7 @@ use Rattle.rules.specs.Record.{Hour, members, zones, areas}
 use Rattle.rules.specs.HourFile.{hourly}
 use Rattle.rules.specs.HourWords.{hourFrom, blocksFor, fileLength}
 use Rattle.rules.specs.Ranges.{keeps, headRule, firstBroken}
-use Rattle.rules.specs.Refusals.{isBroken, badLists, badHead, badWord, scheduledAbove, noRoom}
+use Rattle.rules.specs.Refusals.{isBroken, badLists, badHead, badWord, scheduledAbove, overScheduled, noRoom}
 use Rattle.rules.proofs.Faults.{head-any}
 use Rattle.rules.proofs.Writing.{lists-whole as lists-pass}
 use Rattle.writer.specs.Lists.{hourOfLists, ListsWhole, recordBad}
@@ -73,7 +73,7 @@ module _ (head records : List ℕ) where
   -- record i, by three words of the list
   pub above-row : (i : ℕ) → i < length records / 12 →
       scheduledAbove (getD records (12 * i) 0) (getD records (12 * i + 3) 0) (getD records (12 * i + 8) 0)
-      ≡ scheduledAbove (h .rec i 0) (h .rec i 3) (h .rec i 8)
+      ≡ overScheduled h i
   above-row i l =
       rw (said-word i 0 l (omega arith), add-zero (12 * i), said-word i 3 l (omega arith), said-word i 8 l (omega arith)) refl
 

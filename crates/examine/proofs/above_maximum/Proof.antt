@@ -18,7 +18,8 @@ scheduled-above-requires c κs = tt
 returns : tie.Need-returns
 returns c =
     let read = c .before in
-    c .scheduled-above .ensures ∙ ap₂ (scheduledAbove (read .before .before .before .args .kind)) (read .before .word .ensures) (read .word2 .ensures)
+    let kind = read .before .before .before .args .kind in
+    c .scheduled-above .ensures ∙ ap₂ (scheduledAbove kind) (read .before .word .ensures) (read .word2 .ensures)
 
 pub above-maximum-spec : {M : Type 1} → statement M
 above-maximum-spec = tie.close (tie.spec word-requires word-requires-2 scheduled-above-requires returns)

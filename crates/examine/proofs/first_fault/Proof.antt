@@ -13,7 +13,7 @@ use Rattle.whole.proofs.Search.{first-next, first-hit, first-less, first-so-far
 use Rattle.rules.specs.Record.{Hour, members, areas}
 use Rattle.rules.specs.HourFile.{hourly, word, lengthBad, blocks, hourOf}
 use Rattle.rules.specs.Ranges.{keeps, recordRule, firstBroken}
-use Rattle.rules.specs.Refusals.{isBroken, badWord, badRecord, firstFault, scheduledAbove, aboveMaximum}
+use Rattle.rules.specs.Refusals.{isBroken, badWord, badRecord, firstFault, scheduledAbove, overScheduled, aboveMaximum}
 use Rattle.rules.specs.Inner.Searched.{foundAt}
 use Rattle.rules.proofs.Words.{record-count}
 use Rattle.rules.proofs.Faults.{fault-at, no-fault}
@@ -28,9 +28,6 @@ word-bad s i w = let h = hourOf hourly s in not (keeps (recordRule (members h) (
 abbrev record-bad : (s : List ℕ) (i : ℕ) → Bool
 record-bad s i = isBroken (badWord (hourOf hourly s) i)
 
-abbrev engine-above : (s : List ℕ) (i : ℕ) → Bool
-engine-above s i = let h = hourOf hourly s in scheduledAbove (h .rec i 0) (h .rec i 3) (h .rec i 8)
-
 abbrev Inv-loop : tie.InvT-loop
 Inv-loop file members areas n i w₀ above words kind w = firstBelow (word-bad file i) w ≡ none
 
@@ -39,7 +36,7 @@ abbrev μ-loop : tie.MeasureT-loop
 
 abbrev Inv-rows : tie.InvT-rows
 Inv-rows file members areas n i₀ w₀ above₀ i w above =
-    (i ≤ n) × (firstBelow (record-bad file) i ≡ none) × (foundAt above ≡ firstBelow (engine-above file) i)
+    (i ≤ n) × (firstBelow (record-bad file) i ≡ none) × (foundAt above ≡ firstBelow (overScheduled (hourOf hourly file)) i)
 
 abbrev μ-rows : tie.MeasureT-rows
 μ-rows file members areas n i₀ w₀ above₀ i w above = n - i
@@ -89,7 +86,7 @@ module _ (turn : tie.At-rows Inv-loop μ-loop Inv-rows μ-rows) where
         let areas-read = turn .before .before in
         alike file at w _ _ _ _ (areas-read .before .head-word .ensures) (areas-read .head-word2 .ensures) kind-is (says w m)
 
-    above-told : scheduledAbove kind (word words 3) (word words 8) ≡ engine-above file at
+    above-told : scheduledAbove kind (word words 3) (word words 8) ≡ overScheduled (hourOf hourly file) at
     above-told = rw (kind-is, says 3 (omega arith), says 8 (omega arith))
 
     -- a word that breaks its rule, with none before it, is the first fault
@@ -173,7 +170,7 @@ rows-again c =
     let whole = first-less (word-bad (file turn) (at turn)) _ 12 (inner .loop .inv) (omega arith) in
     let above = above-told turn (row-read .before .before .rows-test .taken) (row-read .before .record .ensures) (row-read .word .ensures) in
     let here = kept .before .above-maximum .ensures ∙ above in
-    let so-far = first-so-far (engine-above (file turn)) (at turn) _ _ (turn .rows .inv .2) here in (
+    let so-far = first-so-far (overScheduled (hourOf hourly (file turn))) (at turn) _ _ (turn .rows .inv .2) here in (
       omega arith,
       first-next (record-bad (file turn)) (at turn) (turn .rows .inv .1) (ap isBroken whole),
       kept .or-at .ensures ∙ so-far,
@@ -219,7 +216,7 @@ module _ (c : tie.Else2 Inv-loop μ-loop Inv-rows μ-rows) where
 
   kept-above : foundAt (c .before .rows-test .above) ≡ aboveMaximum hour
   unfolding aboveMaximum
-  kept-above = ap foundAt as-left ∙ last .rows .inv .2 ∙ ap (firstBelow (engine-above (file last))) all-passed
+  kept-above = ap foundAt as-left ∙ last .rows .inv .2 ∙ ap (firstBelow (overScheduled hour)) all-passed
 
 -- Found::At(first) = above
 enum-known-above : tie.Need-enum-known-above Inv-loop μ-loop Inv-rows μ-rows

@@ -7,14 +7,14 @@ use Prim.Native.Nat.{ℕ, _-_, _≤_}
 use native.Mathlib.Omega.{arith}
 use Rattle.whole.specs.Below.{firstBelow}
 use Rattle.whole.proofs.Search.{first-next, first-hit, first-less}
-use Rattle.rules.specs.Refusals.{scheduledAbove, aboveMaximum}
+use Rattle.rules.specs.Refusals.{overScheduled, aboveMaximum}
 use Rattle.writer.specs.Lists.{hourOfLists}
 use Rattle.writer.proofs.Said.{said-count, above-row}
 use Rattle.writer.proofs.lists.above_maximum.Statement.{statement}
 use Rattle.writer.proofs.lists.above_maximum.Tie as tie
 
 abbrev above : (head records : List ℕ) (i : ℕ) → Bool
-above head records i = let h = hourOfLists head records in scheduledAbove (h .rec i 0) (h .rec i 3) (h .rec i 8)
+above head records = overScheduled (hourOfLists head records)
 
 -- whatever the head
 abbrev Inv-loop : tie.InvT-loop
