@@ -34,4 +34,4 @@ unfolding Below.sumBelow Below.totalBelow Below.firstBelow orElse minℤ maxℤ 
     Refusals.explainRows Statement.refusedLine Explanation.pricedSum Explanation.heads Explanation.sameSign Explanation.decidedBy
     Explanation.decided Explanation.explain Explanation.signedDecimal Explanation.headLine Explanation.decidedLine
     Explanation.explanationLines Explanation.askedRows Explanation.explanation sealed everyKind explanations Neutrality.neutralityShare
-explained-right = (refl, (refl, (refl, (refl, (refl, (refl, (refl, (refl, tt))))))))
+explained-right = (refl, (refl, (refl, (refl, (refl, (refl, (refl, tt)))))))

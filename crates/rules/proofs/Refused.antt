@@ -25,4 +25,4 @@ unfolding Below.sumBelow Below.totalBelow Below.firstBelow orElse Record.signed 
     Record.price Record.zonePrice Deviation.deviation Deviation.exportDeviation Ufe.inArea Share.shareSize Share.share Charge.entering
     Charge.shareOf Charge.grains Charge.nearestCent Charge.cents Charge.charge Neutrality.neutrality Neutrality.memberDemand
     Neutrality.hourDemand Refusals.noDemand Refusals.tooShort Refusals.tableRows Settling.settle wordBytes usedBuffers sealed refusals
-refused-right = (refl, (refl, (refl, (refl, (refl, (refl, (refl, (refl, (refl, (refl, (refl, tt)))))))))))
+refused-right = (refl, (refl, (refl, (refl, (refl, (refl, (refl, (refl, (refl, (refl, tt))))))))))

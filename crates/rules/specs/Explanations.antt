@@ -1,5 +1,5 @@
 -- Explanations as figures: an hour in which a member has every kind of record, who decides on ties and signs, and refusals in their order.
--- Document 02, A5 and A6.
+-- Document 02, A5.
 use Prim.Native.Nat.{ℕ}
 use mathlib.Core.Option.{none, some}
 use mathlib.Core.List.{List, [], _∷_, _++_}
@@ -10,7 +10,7 @@ use Rattle.rules.specs.Refusals.{refusedAt}
 use Rattle.rules.specs.Explanation.{Explanation, noHeads, decidedBy, explain, explanation}
 use Rattle.rules.specs.Figures.{Case, _is_, AllRight}
 use Rattle.rules.specs.Printed.{wordBytes}
-use Rattle.rules.specs.Refused.{first, plainHead, withRecords, aboveEngine}
+use Rattle.rules.specs.Refused.{first, plainHead, withRecords}
 
 -- the records of the printed case, and of member 1 an import, an export and a generator with losses: UFE is 10,780,000 units, all of it member 1's
 unfoldable pub everyKind : List ℕ
@@ -35,11 +35,9 @@ explanations =
     ∷ decidedBy (pos 1) (grainsOf (pos 3) (pos 7) (negℤ (pos 9)) (pos 7) (pos 0)) is some 1
     ∷ decidedBy (negℤ (pos 1)) (grainsOf (pos 9) (negℤ (pos 4)) (pos 0) (negℤ (pos 5)) (negℤ (pos 5))) is some 3
     ∷ decidedBy (pos 0) (grainsOf (pos 4999999) (pos 0) (pos 0) (pos 0) (pos 0)) is none
-    -- three bytes; an hour with a price of 1,000,001, and one with an engine scheduled above its maximum, to a member that isn't there; an
-    -- hour that is accepted, to such a member
+    -- three bytes; an hour with a price of 1,000,001, to a member that isn't there; an hour that is accepted, to such a member
     ∷ explanation (replicate 3 0) is bytes "refused 1 at 0\n"
     ∷ explain (first 0 (7 ∷ 2 ∷ 1 ∷ 1 ∷ 1000001 ∷ [])) 2 is unexplained 4 12
-    ∷ explain aboveEngine 2 is unexplained 14 1
     ∷ explain (first 0 (plainHead 2)) 2 is unexplained 13 0
     ∷ []
 

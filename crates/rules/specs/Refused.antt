@@ -32,10 +32,6 @@ engine scheduled = 1 ∷ 0 ∷ 0 ∷ scheduled ∷ 1 ∷ 0 ∷ 0 ∷ 0 ∷ 1 ∷
 abbrev pub withRecords : (count : ℕ) → List ℕ → List ℕ
 withRecords count records = first 1 (plainHead 2) ++ sealed (2 ∷ 1 ∷ count ∷ 0 ∷ 0 ∷ 0 ∷ 0 ∷ records)
 
--- an export of nothing, and an engine scheduled above its maximum; there is no load, so that row 6 is broken too
-abbrev pub aboveEngine : List ℕ
-aboveEngine = withRecords 2 (5 ∷ replicate 11 0 ++ engine 2)
-
 -- all figures are 0, and the buffers, with three places each, are as they were
 abbrev pub refused : (number place : ℕ) → List ℕ → Case
 refused number place s = settle s usedBuffers is record { verdict = refusedAt number place; ufe = noFigures; buffers = usedBuffers }
@@ -53,9 +49,8 @@ refusals =
     ∷ refused 4 12 (first 0 (7 ∷ 2 ∷ 1 ∷ 1 ∷ 1000001 ∷ []))
     -- two records: an engine scheduled above its maximum, and one of kind 6: 5 is looked for in the whole file before 14
     ∷ refused 5 1 (withRecords 2 (engine 2 ++ 6 ∷ []))
-    ∷ refused 14 1 aboveEngine
-    -- at its maximum an engine may be scheduled
-    ∷ refused 6 0 (withRecords 1 (engine 1))
+    -- an engine scheduled at its maximum, and one above; without a load row 6 is broken too
+    ∷ refused 14 1 (withRecords 2 (engine 1 ++ engine 2))
     -- two areas: one without ties, and one with a kWh coming in and no load
     ∷ refused 6 1 (first 0 (7 ∷ 2 ∷ 1 ∷ 2 ∷ 5000 ∷ replicate 8 0 ++ 1 ∷ []))
     -- an export of a kWh, scheduled and not taken, no load, and four members for three places: 12 is looked for before 11
