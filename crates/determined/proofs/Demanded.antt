@@ -55,8 +55,7 @@ keeps {s} {b} v u a = record {
   fair = λ e. rw (u, a) (demand3 s b (sym v ∙ e));
   neutral = λ e. rw a (neutrality-shared .settled s b (sym v ∙ e));
   metered-import = λ i passed m. v ∙ imports .refused s b i passed m;
-  above-engine = λ i. rw v (engines .refused s b i);
-  all-within = λ e. engines .settled-within s b (sym v ∙ e);
+  held-to-maximum = rw v (engines .settled s b);
 }
 
 pub settle-keeps-demands : (κs : Lfts 6) → Gives (settle.Post κs) (λ a x s. KeepsDemands (now (a .0))

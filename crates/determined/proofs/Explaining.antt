@@ -74,8 +74,7 @@ keeps {s} {m} e = subst (KeepsExplaining s m) (sym e) (record {
   explained = λ b. explaining .explained s b m;
   no-member = λ b. explaining .no-member s b m;
   refused-alike = explaining .refused-alike s m;
-  above-engine = engines .unexplained s m;
-  all-within = engines .explained-within s m;
+  held-to-maximum = engines .explained s m;
 })
 
 pub explain-keeps : (κs : Lfts 1) → Gives (explain.Post κs) (λ a x s. KeepsExplaining (now (a .0)) (a .1 .0) (answered x))

@@ -40,8 +40,7 @@ module _ (head records before : List ℕ) where
     past-file = writing .past-file head records before;
     same-bytes = own-bytes;
     metered-import = imports .unwritten head records before;
-    above-engine = engines .unwritten head records before;
-    all-within = engines .written-within head records before;
+    held-to-maximum = engines .written head records before;
   }
 
   keeps-as : {w : HourWritten} → w ≡ writeHour head records before → AreWords head → AreWords records → KeepsWriting head records before w

@@ -1,7 +1,6 @@
 -- When a promise leaves no second result, and what it gives. A promise is a function's contract as its callers read it: a claim about the
 -- arguments, the result and what the arguments are at exit.
 use mathlib.Core.Path.{_≡_}
-use mathlib.Core.Logic.{_↔_}
 use mathlib.Core.List.{List}
 use Prim.Native.Nat.{ℕ, _≤_, _<_}
 use mathlib.Core.Option.{none}
@@ -17,7 +16,7 @@ use Rattle.rules.specs.Promises.{Accepts, ByFormula, FairOutcome}
 use Rattle.rules.specs.Finals.{NeutralOutcome, AreBytes}
 use Rattle.rules.specs.Writing.{fileIn}
 use Rattle.rules.specs.Imports.{FirstMetered}
-use Rattle.rules.specs.Engines.{AllWithin, FirstAbove}
+use Rattle.rules.specs.Engines.{HeldToMaximum}
 use Rattle.rules.specs.Explaining.{Explains}
 
 module _ {A X S : Type 0} (promise : A → X → S → Type 0) where
@@ -51,8 +50,7 @@ pub record KeepsDemands (file : List ℕ) (before : Buffers) (told : Verdict) (u
   -- A3: an import that says what was metered, where no row before 5 and no record before it is broken
   pub metered-import : (i : ℕ) → verdict (take 4 (fileRows file)) ≡ accepted → FirstMetered (hourOf hourly file) i → told ≡ refusedAt 5 i
   -- A6: 14 exactly where rows 1 to 5 are passed and a generator is scheduled above its maximum, at the first; accepted, none is
-  pub above-engine : (i : ℕ) → (told ≡ refusedAt 14 i) ↔ ((verdict (take 5 (fileRows file)) ≡ accepted) × FirstAbove (hourOf hourly file) i)
-  pub all-within : told ≡ accepted → AllWithin (hourOf hourly file)
+  pub held-to-maximum : HeldToMaximum (take 5 (fileRows file)) (hourOf hourly file) told
 
 -- what document 02 asks of the writer (A2), of imports (A3) and of schedules (A6), by its head, records and buffer before, and by what was
 -- answered and left
@@ -71,9 +69,7 @@ pub record KeepsWriting (head records before : List ℕ) (w : HourWritten) : Typ
   pub metered-import : (i : ℕ) → verdict (take 2 (writerRows head records (length before))) ≡ accepted →
       FirstMetered (hourFrom hourly head records) i → w .verdict ≡ refusedAt 5 i
   -- A6, as of a settling, behind rows 1, 4 and 5
-  pub above-engine : (i : ℕ) → (w .verdict ≡ refusedAt 14 i)
-      ↔ ((verdict (take 3 (writerRows head records (length before))) ≡ accepted) × FirstAbove (hourFrom hourly head records) i)
-  pub all-within : w .verdict ≡ accepted → AllWithin (hourFrom hourly head records)
+  pub held-to-maximum : HeldToMaximum (take 3 (writerRows head records (length before))) (hourFrom hourly head records) (w .verdict)
 
 -- what document 02 asks of an explanation (A5) and of schedules (A6), by its file and member number, and by what was answered
 pub record KeepsExplaining (file : List ℕ) (member : ℕ) (e : Explanation) : Type 0 where
@@ -89,6 +85,4 @@ pub record KeepsExplaining (file : List ℕ) (member : ℕ) (e : Explanation) : 
   pub no-member : (b : Buffers) → Accepts file b → members (hourOf hourly file) ≤ member → e .verdict ≡ refusedAt 13 0
   pub refused-alike : (verdict (hourRows file) ≡ accepted → ⊥) → e .verdict ≡ verdict (hourRows file)
   -- A6, as of a settling
-  pub above-engine : (i : ℕ) →
-      (e .verdict ≡ refusedAt 14 i) ↔ ((verdict (take 5 (fileRows file)) ≡ accepted) × FirstAbove (hourOf hourly file) i)
-  pub all-within : e .verdict ≡ accepted → AllWithin (hourOf hourly file)
+  pub held-to-maximum : HeldToMaximum (take 5 (fileRows file)) (hourOf hourly file) (e .verdict)

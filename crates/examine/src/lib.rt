@@ -69,7 +69,7 @@ fn above_maximum(words: &[u8], kind: u32) -> bool
 }
 
 // The place that was found before, or else this one, if what is looked for is here.
-fn or_at(found: Found, here: bool, at: usize) -> Found
+fn first_found(found: Found, here: bool, at: usize) -> Found
     ensures { λ r. ⌜ foundAt r ≡ orElse (foundAt found) (cond here (some at) none) ⌝ }
 {
     if here {
@@ -97,7 +97,7 @@ fn first_fault(file: &[u8]) -> Fault
     'rows: while i < n {
         let words = hour::record(file, i);
         let kind = blocks::word(words, 0);
-        above = or_at(above, above_maximum(words, kind), i);
+        above = first_found(above, above_maximum(words, kind), i);
         w = 0;
         while w < 12 {
             if record_word_bad(words, members, areas, kind, w) {

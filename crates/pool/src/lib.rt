@@ -93,8 +93,7 @@ fn put_shares(file: &[u8], head: Head, figures: [i64; 8], shares: &mut [i64])
 }
 
 // Settles an hour file: any bytes, any lengths of buffers. Every check runs before the first store, so that "unchanged" is the absence of
-// code; then each figure is worked once, in the caller's buffers. The head is read once, when rows 1 to 5 and 14 are
-// passed.
+// code; then each figure is worked once, in the caller's buffers. The head is read once, when rows 1 to 5 and 14 are passed.
 pub fn settle(
     file: &[u8],
     lines: &mut [Line],

@@ -126,8 +126,8 @@ word-requires c κs = tt
 above-maximum-requires : tie.Need-above-maximum-requires Inv-loop μ-loop Inv-rows μ-rows
 above-maximum-requires c κs = tt
 
-or-at-requires : tie.Need-or-at-requires Inv-loop μ-loop Inv-rows μ-rows
-or-at-requires c κs = tt
+first-found-requires : tie.Need-first-found-requires Inv-loop μ-loop Inv-rows μ-rows
+first-found-requires c κs = tt
 
 loop-holds : tie.Need-loop-holds Inv-loop μ-loop Inv-rows μ-rows
 unfolding firstBelow
@@ -173,7 +173,7 @@ rows-again c =
     let so-far = first-so-far (overScheduled (hourOf hourly (file turn))) (at turn) _ _ (turn .rows .inv .2) here in (
       omega arith,
       first-next (record-bad (file turn)) (at turn) (turn .rows .inv .1) (ap isBroken whole),
-      kept .or-at .ensures ∙ so-far,
+      kept .first-found .ensures ∙ so-far,
     )
 
 -- return Fault::Word(i, w)
@@ -253,7 +253,7 @@ first-fault-spec =
     record-requires
     word-requires
     above-maximum-requires
-    or-at-requires
+    first-found-requires
     loop-holds
     record-word-bad-requires
     add-w

@@ -1,10 +1,10 @@
--- `examine::or_at` meets its contract: what was found, or else what is here.
+-- `examine::first_found` meets its contract: what was found, or else what is here.
 use mathlib.Core.Path.{_≡_, refl}
 use mathlib.Core.Option.{Option, none, some, orElse}
 use Prim.Native.Nat.{ℕ}
 use Rattle.rules.specs.Inner.Searched.{foundAt}
-use Rattle.examine.proofs.or_at.Statement.{statement}
-use Rattle.examine.proofs.or_at.Tie as tie
+use Rattle.examine.proofs.first_found.Statement.{statement}
+use Rattle.examine.proofs.first_found.Tie as tie
 
 as-it-was : (o : Option ℕ) → o ≡ orElse o none
 unfolding orElse
@@ -33,5 +33,5 @@ returns-2 c = rw (c .enum-told .given .1, c .before .before .if1 .taken)
 returns-3 : tie.Need-returns-3
 returns-3 c = rw (c .if1 .left) (as-it-was (foundAt (c .before .args .found)))
 
-pub or-at-spec : {M : Type 1} → statement M
-or-at-spec = tie.close (tie.spec enum-known-found returns enum-told returns-2 returns-3)
+pub first-found-spec : {M : Type 1} → statement M
+first-found-spec = tie.close (tie.spec enum-known-found returns enum-told returns-2 returns-3)
