@@ -1,9 +1,8 @@
--- The theorems about the definitions: figures first, then forms of the sums, then what each demand rests on, then the demands.
+-- The theorems about the definitions: figures first, then forms of the sums, then what each demand rests on, then the demands. Figures of
+-- whole files stand in the crate `figures`.
 pub mod Starred
-pub mod Printed
-pub mod Refused
+pub mod MissingBlock
 pub mod Unwritten
-pub mod Explanations
 pub mod Tariff
 pub mod Posting
 pub mod Shares

@@ -1,4 +1,5 @@
--- Documents 01 and 02 as definitions, in the order in which a reader wants them.
+-- Documents 01 and 02 as definitions, in the order in which a reader wants them. What is stated here is proved in proofs/; but `Printed`,
+-- `Refused` and `Explanations`, whole files computed, are proved in the crate `figures`, which takes three times as long.
 pub mod Record
 pub mod Deviation
 pub mod Ufe

@@ -1,0 +1,4 @@
+-- Figures of whole files, computed. What they state stands in specs/ of `rules`, in modules of the same names.
+pub mod Printed
+pub mod Refused
+pub mod Explanations
