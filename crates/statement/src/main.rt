@@ -1,4 +1,5 @@
-// Reads an hour file from standard input and prints its statement.
+// Reads an hour file from standard input and prints its statement. With an argument, whatever it says, it reads hours one behind the
+// other, each with its length in front, and prints a statement for each.
 use libc::STDIN_FILENO;
 
 fn print_statement(file: &[u8]) {
@@ -7,13 +8,47 @@ fn print_statement(file: &[u8]) {
     streams::print(&text[..length]);
 }
 
+// Settles what comes, up to as many bytes as there is room; false where a read failed.
+fn print_read(room: &mut [u8]) -> bool {
+    let got = streams::read_all(STDIN_FILENO, b"standard input", room);
+    if got < 0 {
+        return false;
+    }
+    let length = io::count(got, room);
+    print_statement(&room[..length]);
+    true
+}
+
+// The next hour behind its length, a word. False where nothing comes any more, a read failed, or the hour is longer than the room: it is
+// refused for its length then, and where the next one begins isn't looked for.
+fn print_next(room: &mut [u8]) -> bool {
+    let mut front = [0u8; 4];
+    let got = streams::read_all(STDIN_FILENO, b"standard input", &mut front);
+    if got <= 0 {
+        return false;
+    }
+    let length = blocks::word(&front, 0) as usize;
+    if length > room.len() {
+        print_read(room);
+        return false;
+    }
+    print_read(&mut room[..length])
+}
+
+// A proved loop has to end, and nothing says that the input does. So it counts down from a number that no run uses up.
+fn print_each(room: &mut [u8]) {
+    let mut turns = u64::MAX;
+    while turns > 0 && print_next(room) {
+        turns -= 1;
+    }
+}
+
 // One byte more than the longest file has, so that a longer input is seen.
 fn main() {
-    let mut file = [0u8; 13313];
-    let got = streams::read_all(STDIN_FILENO, b"standard input", &mut file);
-    if got < 0 {
-        return;
+    let mut room = [0u8; 13313];
+    if os::arg_count() > 1 {
+        print_each(&mut room);
+    } else {
+        print_read(&mut room);
     }
-    let length = io::count(got, &file);
-    print_statement(&file[..length]);
 }
