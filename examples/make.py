@@ -1,5 +1,5 @@
 #!/usr/bin/env python3
-"""Writes the example hours beside this file, and the printed case's head and records as words for ./write_hour: python3 examples/make.py
+"""Writes the example hours beside this file, their sheets, and the printed case's head and records as words: python3 examples/make.py
 
 What each hour holds is worked out by hand on the page of its name.
 """
@@ -12,6 +12,9 @@ sys.path.insert(0, str(HERE.parent / "tests"))
 sys.dont_write_bytecode = True
 from hours import EXPORT, GENERATOR, IMPORT, PROFILE_LOAD, REAL_TIME_LOAD, Hour, printed_case, record  # noqa: E402
 from to_write import taken_apart  # noqa: E402
+
+sys.path.insert(0, str(HERE.parent / "office"))
+from sheets import sheet_of  # noqa: E402
 
 
 def two_zones():
@@ -67,7 +70,9 @@ def printed_words():
 
 def main():
     for name, hour in EXAMPLES.items():
-        (HERE / f"{name}.hour").write_bytes(hour().encode())
+        file = hour().encode()
+        (HERE / f"{name}.hour").write_bytes(file)
+        (HERE / f"{name}.csv").write_bytes(sheet_of(file))
     (HERE / "printed.words").write_bytes(printed_words())
 
 
