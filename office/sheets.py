@@ -31,8 +31,13 @@ Place = namedtuple("Place", "row column name", defaults=(None,))
 
 
 def text_of(place):
-    letter = chr(ord("A") + place.column) if place.column < 26 else f"number {place.column + 1}"
-    return f"row {place.row}, column {letter}" + (f" ({place.name})" if place.name else "")
+    return f"row {place.row}, column {letters_of(place.column)}" + (f" ({place.name})" if place.name else "")
+
+
+def letters_of(column):
+    """A column as spreadsheets call it: A to Z, then AA."""
+    before, last = divmod(column, 26)
+    return (letters_of(before - 1) if before else "") + chr(ord("A") + last)
 
 
 def unclear(place, what):
@@ -106,22 +111,25 @@ def delimiter_of(text):
 class Table:
     """A part with columns: its titles' row, and its rows as (number, {column's name: field})."""
 
-    def __init__(self, columns, number, titles):
+    def __init__(self, columns, number, fields):
         self.columns, self.number, self.rows = columns, number, []
         self.at = {}
-        known = {name: field.name for field in columns for name in (field.name, f"{field.name} ({field.unit.lower()})")}
-        for column, title in enumerate(titles):
-            if not title:
-                continue
-            place, name = Place(number, column), known.get(folded(title))
-            if name is None:
-                raise unclear(place, f"there is no column {shown(title)} here; there are {', '.join(field.name for field in columns)}")
-            if name in self.at:
-                raise unclear(place, f"column {name!r} is there twice")
-            self.at[name] = column
+        for column, title in enumerate(fields):
+            if title:
+                self.add_title(Place(number, column), title)
         for field in columns:
             if field.name not in self.at:
                 raise Unclear(f"row {number}: column {field.name!r} is missing")
+
+    def add_title(self, place, title):
+        """A title has its unit, or none."""
+        for field, whole in zip(self.columns, titles(self.columns)):
+            if folded(title) in (field.name, folded(whole)):
+                if field.name in self.at:
+                    raise unclear(place, f"column {field.name!r} is there twice")
+                self.at[field.name] = place.column
+                return
+        raise unclear(place, f"there is no column {shown(title)} here; there are {', '.join(field.name for field in self.columns)}")
 
     def add(self, number, fields):
         for column, field in enumerate(fields):
