@@ -1,9 +1,11 @@
 """Builds and starts the proved programs of target/bin, and reads what they print."""
 
 import os
+import select
 import subprocess
+import time
 
-from streams import Trouble, say
+from streams import PROGRESS, Trouble, say
 
 ROOT = os.path.dirname(os.path.dirname(os.path.abspath(__file__)))
 TARGET = os.path.join(ROOT, "target")
@@ -37,23 +39,39 @@ def newest_source():
 
 
 def build(name):
-    """Proves a program and all that it rests on; each crate that is done is said, so that people see that something happens."""
+    """Proves a program and all that it rests on. Each crate that is done is said, and on a terminal the seconds are shown, so that people
+    see that something happens."""
     say(f"sneupelaar: proving {name} and all that it rests on, once; this takes some minutes")
-    said = []
+    said, began = [], time.monotonic()
     try:
-        with subprocess.Popen(["rt", "check", name], cwd=ROOT, stdin=subprocess.DEVNULL, stdout=subprocess.PIPE, stderr=subprocess.STDOUT,
-                              text=True, errors="replace") as checking:
-            for line in checking.stdout:
+        with subprocess.Popen(["rt", "check", name], cwd=ROOT, stdin=subprocess.DEVNULL, stdout=subprocess.PIPE,
+                              stderr=subprocess.STDOUT) as checking:
+            for line in lines_from(checking.stdout.fileno(), lambda: PROGRESS.show(f"at work for {time.monotonic() - began:.0f} s")):
                 said.append(line)
                 if line.startswith("rt: "):
-                    say(f"sneupelaar: {line[4:].rstrip()}")
+                    say(f"sneupelaar: {line[4:]}")
     except OSError as error:
         raise Trouble(f"rt, the Rattle toolchain, could not be started: {error.strerror}") from error
+    PROGRESS.clear()
     if checking.returncode != 0 or not os.path.exists(built(name)):
-        raise Trouble("".join(said) + f"{name} could not be proved and built")
+        raise Trouble("\n".join([*said, f"{name} could not be proved and built"]))
     os.makedirs(os.path.dirname(mark_of(name)), exist_ok=True)
     with open(mark_of(name), "wb"):
         pass  # opening it to write sets its time
+
+
+def lines_from(descriptor, waiting):
+    """The lines of a pipe as they come; `waiting` is called in each second in which none does."""
+    rest = b""
+    while True:
+        if not select.select([descriptor], [], [], 1)[0]:
+            waiting()
+            continue
+        part = os.read(descriptor, 65536)
+        *lines, rest = (rest + part).split(b"\n")
+        yield from (line.decode(errors="replace") for line in lines)
+        if not part:
+            return
 
 
 # ---- Starting

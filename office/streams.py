@@ -85,10 +85,10 @@ class Progress:
     def __init__(self):
         self.shown, self.due = False, 0
 
-    def show(self, what, done, count):
+    def show(self, text):
         now = time.monotonic()
         if now >= self.due and os.isatty(2):
-            say_bytes(f"\r{what} {done} of {count}".encode())
+            say_bytes(f"\r{text}\033[K".encode())
             self.shown, self.due = True, now + self.EVERY
 
     def clear(self):

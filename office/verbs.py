@@ -48,7 +48,7 @@ def each_hour(asked, what, answer, behind_name):
     with proved.Statements() as statements:
         for done, path in enumerate(files):
             if done > 0:
-                PROGRESS.show(what, done, len(files))
+                PROGRESS.show(f"{what} {done} of {len(files)}")
             try:
                 data = read(path, LONGEST_FILE + 1)
             except Trouble as trouble:
