@@ -76,9 +76,10 @@ def explain(asked):
 
 
 def member_in(word):
-    if not (word.isascii() and word.isdigit() and int(word.lstrip("0")[:11] or 0) < 2**32):
+    digits = word.lstrip("0") or word[-1:]
+    if not (digits.isascii() and digits.isdigit() and len(digits) <= 10 and int(digits) < 2**32):
         raise Trouble(f"{word!r} is no member's number")
-    return int(word)
+    return int(digits)
 
 
 def pack(asked):
