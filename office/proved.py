@@ -48,7 +48,7 @@ def build(name):
                               stderr=subprocess.STDOUT) as checking:
             for line in lines_from(checking.stdout.fileno(), lambda: PROGRESS.show(f"at work for {time.monotonic() - began:.0f} s")):
                 said.append(line)
-                if line.startswith("rt: "):
+                if line.startswith("rt: ") and "(unchanged since" not in line:
                     say(f"sneupelaar: {line[4:]}")
     except OSError as error:
         raise Trouble(f"rt, the Rattle toolchain, could not be started: {error.strerror}") from error
