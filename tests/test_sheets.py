@@ -338,6 +338,8 @@ WHOLE = (
     ("a zone left out", sheet_of(without_rows(5)), "row 5, column A (zone): zone 1 stands where zone 0 is due"),
     ("text before the first part", b"Week 46\n" + SHEET, f"row 1, column A: 'Week 46' {NO_PART}"),
     ("text between parts", sheet_of(with_row(2, "", "of the pool")), f"row 2, column A: '' {NO_PART}"),
+    ("a zone behind the hour's number", sheet_of([*parts()[2][:2], *parts()[0], *parts()[2][2:], *parts()[1], *parts()[3], *parts()[4]]),
+     f"row 4, column A: '1' {NO_PART}"),
     ("titles that are not known to begin a part", sheet_of(with_field(RECORD_TITLES, "A", "type")),
      "row 13, column E: 'actual (kWh)' stands under no title"),
     ("tabs between fields", SHEET.replace(b",", b"\t"), f"row 1, column A: 'hour\\t1400' {NO_PART}"),
@@ -347,7 +349,7 @@ WHOLE = (
     ("UTF-16", SHEET.decode().encode("utf-16"), "the sheet is no UTF-8 text: byte 0"),
     ("nothing", b"", "there is no row that begins with 'hour'"),
     ("a byte-order mark alone", b"\xef\xbb\xbf", "there is no row that begins with 'hour'"),
-    ("blank rows alone", b"\n\r\n,,,\n ; \n", "row 4, column A: ';' is none of hour, members, zone, area, kind"),
+    ("blank rows alone", b"\n\r\n,,,\n ; \n", f"row 4, column A: ';' {NO_PART}"),
     ("a long line", b"h" * 200_000 + SHEET, "row 1: field larger than field limit (131072)"),
     ("more than 1 MiB", SHEET + b"\n" * 2**20, "the sheet has more than 1048576 bytes; an hour has at most 250 records"),
 )
