@@ -324,7 +324,7 @@ WHOLE = (
     ("a field under no title", sheet_of(rows_in(SHEET)[:13] + [rows_in(SHEET)[13] + ["5"]] + rows_in(SHEET)[14:]),
      "row 14, column L: '5' stands under no title"),
     ("a field far to the right", sheet_of([*rows_in(SHEET), ["load", "0"] + [""] * 28 + ["5"]]),
-     "row 22, column number 31: '5' stands under no title"),
+     "row 22, column AE: '5' stands under no title"),
     ("something behind the hour's number", SHEET.replace(b"hour,1400", b"hour,1400,,x"),
      "row 1, column D: 'x' stands behind the number"),
     ("the number in the next column", SHEET.replace(b"hour,1400", b"hour,,1400"), "row 1, column C: '1400' stands behind the number"),
@@ -466,7 +466,7 @@ class DamagedAtRandom(unittest.TestCase):
     """Nothing but Unclear leaves Packed; and what it takes goes to the writer, whose refusal has a row in the sheet."""
 
     COUNT = 4_000
-    SAID = r"row [0-9]+(, column ([A-Z]|number [0-9]+)( \([a-z -]+\))?)?: .|the sheet |there is no row that begins with "
+    SAID = r"row [0-9]+(, column [A-Z]+( \([a-z -]+\))?)?: .|the sheet |there is no row that begins with "
 
     def test_sheets(self):
         bases = [path.read_bytes() for path in sorted((ROOT / "examples").glob("*.csv"))]
