@@ -1,12 +1,18 @@
-"""Starts the built programs, for the tests that look at what they write: those of target/bin, and the C programs of tests/archive."""
+"""Starts the built programs, for the tests that look at what they write: those of target/bin, and the C programs of tests/archive. And
+starts them, or ./sneupelaar, with streams that let them fail."""
 
+import contextlib
+import os
 import subprocess
 import sys
+import tempfile
+from collections import namedtuple
 from pathlib import Path
 
 HERE = Path(__file__).resolve().parent
 BUILT = HERE.parent / "target" / "bin"
 SECONDS = 60
+FULL = "/dev/full"
 sys.path.insert(0, str(HERE.parent / "office"))
 from proved import environment, words_before  # noqa: E402
 
@@ -48,3 +54,40 @@ def run(words, data):
     if ended.returncode != 0 or ended.stderr:
         return ended.stdout + b"status %d, on standard error: %s\n" % (ended.returncode, ended.stderr)
     return ended.stdout
+
+
+# ---- Streams that fail
+
+# The exit status, the bytes on standard output (None where that was no pipe), and the text on standard error.
+Ended = namedtuple("Ended", "status printed said")
+
+
+def ended(words, stdin=subprocess.DEVNULL, stdout=subprocess.PIPE, stderr=subprocess.PIPE, closing=(), env=None, cwd=HERE.parent):
+    """What came of a program that is started with some of its descriptors closed, or none."""
+    def close():
+        for descriptor in closing:
+            os.close(descriptor)
+
+    run = subprocess.run(words, stdin=stdin, stdout=stdout, stderr=stderr, env=env or environment(), timeout=SECONDS,
+                         preexec_fn=close if closing else None, cwd=cwd)
+    return Ended(run.returncode, run.stdout, (run.stderr or b"").decode())
+
+
+@contextlib.contextmanager
+def opened(*paths):
+    """Descriptors that are open for reading, or for writing where the path is a device that is full."""
+    descriptors = [os.open(path, os.O_WRONLY if str(path) == FULL else os.O_RDONLY) for path in paths]
+    try:
+        yield descriptors
+    finally:
+        for descriptor in descriptors:
+            os.close(descriptor)
+
+
+@contextlib.contextmanager
+def given(data):
+    """A file with these bytes, to be read from its start."""
+    with tempfile.TemporaryFile() as file:
+        file.write(data)
+        file.seek(0)
+        yield file

@@ -1,61 +1,32 @@
-"""What the built programs, ./settle, ./explain and ./write_hour do when they cannot read or write, and document 01's figures on lengths and
-prices.
+"""What the built programs do when they cannot read or write, document 01's figures on lengths and prices, and hours one behind the other.
 
     python3 -m unittest tests/test_programs.py       # programs from target/bin
 
-A program cannot set its exit status: it says what failed on standard error, once, and the scripts make 1 of that.
+A program cannot set its exit status: it says what failed on standard error, once. test_office.py asks what ./sneupelaar makes of that.
 """
 
-import contextlib
-import os
 import subprocess
 import sys
-import tempfile
 import unittest
 from pathlib import Path
 
 HERE = Path(__file__).resolve().parent
 ROOT = HERE.parent
 PRINTED = ROOT / "examples" / "printed.hour"
-NOTHING_DECIDED = "generation 0\nload 0\nimport 0\nexport 0\nshare 0\ndecided none\n"
+NOTHING_DECIDED = b"generation 0\nload 0\nimport 0\nexport 0\nshare 0\ndecided none\n"
 sys.path.insert(0, str(HERE))
 import hours  # noqa: E402
+import known  # noqa: E402
 import programs  # noqa: E402
+import second  # noqa: E402
 import to_write  # noqa: E402
-
-
-@contextlib.contextmanager
-def opened(*paths):
-    """Descriptors that are open for reading, or for writing where the path is a device."""
-    descriptors = [os.open(path, os.O_WRONLY if str(path).startswith("/dev/") else os.O_RDONLY) for path in paths]
-    try:
-        yield descriptors
-    finally:
-        for descriptor in descriptors:
-            os.close(descriptor)
-
-
-def ended(words, stdin=subprocess.DEVNULL, stdout=subprocess.PIPE, closing=None):
-    """Status, output and what was said, of a program that is started with a descriptor of its own closed, or none."""
-    close = (lambda: os.close(closing)) if closing is not None else None
-    run = subprocess.run(words, stdin=stdin, stdout=stdout, stderr=subprocess.PIPE, env=programs.environment(),
-                         timeout=programs.SECONDS, preexec_fn=close, cwd=ROOT, text=True)
-    return run.returncode, run.stdout, run.stderr
+from programs import FULL, ended, given, opened  # noqa: E402
 
 
 def ended_of(name, data, **streams):
-    """The same of a built program whose standard input has these bytes."""
+    """What came of a built program whose standard input has these bytes."""
     with given(data) as stdin:
         return ended(programs.command(name), stdin, **streams)
-
-
-@contextlib.contextmanager
-def given(data):
-    """A file with these bytes, to be read from its start."""
-    with tempfile.TemporaryFile() as file:
-        file.write(data)
-        file.seek(0)
-        yield file
 
 
 class CannotRead(unittest.TestCase):
@@ -64,12 +35,12 @@ class CannotRead(unittest.TestCase):
     def test_a_directory_as_standard_input(self):
         for name in self.NAMES:
             with self.subTest(name), opened(ROOT) as (folder,):
-                self.assertEqual(ended(programs.command(name), stdin=folder), (0, "", "standard input: Is a directory\n"))
+                self.assertEqual(ended(programs.command(name), stdin=folder), (0, b"", "standard input: Is a directory\n"))
 
     def test_standard_input_closed(self):
         for name in self.NAMES:
             with self.subTest(name):
-                self.assertEqual(ended(programs.command(name), closing=0), (0, "", "standard input: Bad file descriptor\n"))
+                self.assertEqual(ended(programs.command(name), closing=(0,)), (0, b"", "standard input: Bad file descriptor\n"))
 
 
 class CannotWrite(unittest.TestCase):
@@ -79,15 +50,15 @@ class CannotWrite(unittest.TestCase):
 
     def test_standard_output_full(self):
         for name in self.NAMES:
-            with self.subTest(name), opened(PRINTED, "/dev/full") as (stdin, full):
+            with self.subTest(name), opened(PRINTED, FULL) as (stdin, full):
                 self.assertEqual(ended(programs.command(name), stdin, full),
                                  (0, None, "standard output: No space left on device\n"))
 
     def test_standard_output_closed(self):
         for name in self.NAMES:
             with self.subTest(name), opened(PRINTED) as (stdin,):
-                self.assertEqual(ended(programs.command(name), stdin, closing=1),
-                                 (0, "", "standard output: Bad file descriptor\n"))
+                self.assertEqual(ended(programs.command(name), stdin, closing=(1,)),
+                                 (0, b"", "standard output: Bad file descriptor\n"))
 
 
 class CannotWriteAnHour(unittest.TestCase):
@@ -100,13 +71,13 @@ class CannotWriteAnHour(unittest.TestCase):
 
     def test_standard_output_full(self):
         for data in self.inputs():
-            with self.subTest(len(data)), opened("/dev/full") as (full,):
+            with self.subTest(len(data)), opened(FULL) as (full,):
                 self.assertEqual(ended_of("write_hour", data, stdout=full), (0, None, "standard output: No space left on device\n"))
 
     def test_standard_output_closed(self):
         for data in self.inputs():
             with self.subTest(len(data)):
-                self.assertEqual(ended_of("write_hour", data, closing=1), (0, "", "standard output: Bad file descriptor\n"))
+                self.assertEqual(ended_of("write_hour", data, closing=(1,)), (0, b"", "standard output: Bad file descriptor\n"))
 
 
 class CannotExplain(unittest.TestCase):
@@ -116,13 +87,13 @@ class CannotExplain(unittest.TestCase):
 
     def test_standard_output_full(self):
         for data in self.INPUTS:
-            with self.subTest(len(data)), opened("/dev/full") as (full,):
+            with self.subTest(len(data)), opened(FULL) as (full,):
                 self.assertEqual(ended_of("explanation", data, stdout=full), (0, None, "standard output: No space left on device\n"))
 
     def test_standard_output_closed(self):
         for data in self.INPUTS:
             with self.subTest(len(data)):
-                self.assertEqual(ended_of("explanation", data, closing=1), (0, "", "standard output: Bad file descriptor\n"))
+                self.assertEqual(ended_of("explanation", data, closing=(1,)), (0, b"", "standard output: Bad file descriptor\n"))
 
     def test_the_longest_input(self):
         """13,316 bytes are read; one more, or a block more, is refused."""
@@ -133,7 +104,7 @@ class CannotExplain(unittest.TestCase):
         blocks = hours.question(0, hours.Hour(7, 1, [5_000], [[0, 0, 0]], loads).encode())
         for data in (longest + b"\0", longest + bytes(511), blocks, longest * 9):
             with self.subTest(len(data)):
-                self.assertEqual(ended_of("explanation", data), (0, "refused 1 at 0\n", ""))
+                self.assertEqual(ended_of("explanation", data), (0, b"refused 1 at 0\n", ""))
 
 
 class LengthsAndPrices(unittest.TestCase):
@@ -156,133 +127,103 @@ class LengthsAndPrices(unittest.TestCase):
         self.assertEqual(self.statement(1_000_001, 0), (512, "refused 4 at 12\n"))
 
 
-class Settle(unittest.TestCase):
-    STATEMENT = "hour 7 members 2 records 2\n00          +5.00          +5.00\n01          -5.00          -5.00\n"
+class OneBehindTheOther(unittest.TestCase):
+    """Program `statement` with an argument: hours, each with its length in front, so that one start settles a year."""
 
-    def settle(self, *words, **streams):
-        return ended([ROOT / "settle", *words], **streams)
+    LONGEST, LONGER = 13_312, 13_313  # the longest file, and one byte more, which is the longest hour that is read whole
+    REFUSED = b"refused 1 at 0\n"
+    HOUR = PRINTED.read_bytes()
+    ONE_BLOCK = hours.Hour(7, 1, [5_000], [[0, 0, 0]], []).encode()
 
-    def test_an_hour(self):
-        self.assertEqual(self.settle(PRINTED), (0, self.STATEMENT, ""))
-        with opened(PRINTED) as (stdin,):
-            self.assertEqual(self.settle(stdin=stdin), (0, self.STATEMENT, ""))
+    def words(self):
+        return [*programs.command("statement"), "each"]
 
-    def test_a_refused_hour_is_an_answer(self):
-        self.assertEqual(self.settle(), (0, "refused 1 at 0\n", ""))
+    def printed_of(self, data):
+        """What is printed of an input, all of it there at once, and nothing said."""
+        with given(data) as stdin:
+            status, printed, said = ended(self.words(), stdin)
+        self.assertEqual((status, said), (0, ""))
+        return printed
 
-    def test_what_cannot_be_read(self):
-        """The other files are settled all the same."""
-        missing = ROOT / "nothing.hour"
-        self.assertEqual(self.settle(PRINTED, missing, ROOT, PRINTED),
-                         (1, f"{PRINTED}:\n{self.STATEMENT}{missing}:\n{ROOT}:\n{PRINTED}:\n{self.STATEMENT}",
-                          f"settle: cannot read {missing}\nsettle: {ROOT}: standard input: Is a directory\n"))
-        with opened(ROOT) as (folder,):
-            self.assertEqual(self.settle(stdin=folder), (1, "", "settle: standard input: Is a directory\n"))
+    def with_length(self, data, length=None):
+        return (len(data) if length is None else length).to_bytes(4, "little") + data
 
-    def test_what_cannot_be_written(self):
-        with opened("/dev/full") as (full,):
-            self.assertEqual(self.settle(PRINTED, stdout=full),
-                             (1, None, f"settle: {PRINTED}: standard output: No space left on device\n"))
+    def test_several(self):
+        """Accepted and refused, short and long, and the same again: the room that they are read into keeps nothing of one for the next."""
+        files = [hours.made(1, index).data for index in range(60)] + [data for _, _, data in known.of_blocks()]
+        files = [data for data in files if len(data) <= self.LONGER]
+        files += [self.HOUR, b"", known.hour_of(250).encode(), self.ONE_BLOCK, self.HOUR]
+        self.assertEqual(self.printed_of(b"".join(map(self.with_length, files))), b"".join(map(second.statement, files)))
 
+    def test_none(self):
+        self.assertEqual(self.printed_of(b""), b"")
 
-class Explain(unittest.TestCase):
-    """The script: with a member's number and a file, and as a plain filter."""
+    def test_whatever_the_argument_is(self):
+        for words in ((), ("",), ("x", "y"), ("--help",)):
+            with self.subTest(words), given(self.with_length(self.HOUR)) as stdin:
+                wanted = second.statement(self.HOUR) if words else self.REFUSED
+                self.assertEqual(ended([*programs.command("statement"), *words], stdin), (0, wanted, ""))
 
-    EXPLANATION = "generation 0\nload -6500000000\nimport 0\nexport 0\nshare 1500000000\ndecided load\n"
+    def test_an_hour_is_answered_before_the_next_one_comes(self):
+        """Whoever sends an hour may wait for its statement, and may send it in parts."""
+        with subprocess.Popen(self.words(), stdin=subprocess.PIPE, stdout=subprocess.PIPE, env=programs.environment()) as program:
+            for data in (self.HOUR, self.ONE_BLOCK, b"", self.HOUR):
+                sent, wanted = self.with_length(data), second.statement(data)
+                for at in range(0, len(sent), 300):
+                    program.stdin.write(sent[at:at + 300])
+                    program.stdin.flush()
+                self.assertEqual(program.stdout.read(len(wanted)), wanted)
+            program.stdin.close()
+            self.assertEqual((program.stdout.read(), program.wait()), (b"", 0))
 
-    def explain(self, *words, **streams):
-        return ended([ROOT / "explain", *map(str, words)], **streams)
+    def test_a_length_of_nothing(self):
+        """An hour of no bytes, and the next one is behind it."""
+        self.assertEqual(self.printed_of(bytes(4)), self.REFUSED)
+        self.assertEqual(self.printed_of(bytes(8) + self.with_length(self.HOUR)), 2 * self.REFUSED + second.statement(self.HOUR))
 
-    def not_done(self, ended):
-        """Status 1, nothing printed, and said by the script why."""
-        status, printed, said = ended
-        self.assertEqual((status, printed), (1, ""), said)
-        self.assertTrue(said.startswith("explain: "), said)
+    def test_cut_short(self):
+        """What came is the hour, accepted or refused as a file of that length is."""
+        for came in (0, 1, 511, 512, 1_000, 1_023):
+            with self.subTest(came):
+                self.assertEqual(self.printed_of(self.with_length(self.HOUR[:came], 1_024)), second.statement(self.HOUR[:came]))
+        for length in (513, 1_024, self.LONGER, self.LONGER + 1, 2**32 - 1):
+            with self.subTest(length):
+                self.assertEqual(self.printed_of(self.with_length(self.HOUR) + self.with_length(self.ONE_BLOCK, length)),
+                                 second.statement(self.HOUR) + second.statement(self.ONE_BLOCK))
 
-    def test_a_member(self):
-        self.assertEqual(self.explain(1, PRINTED), (0, self.EXPLANATION, ""))
-        with given(hours.question(1, PRINTED.read_bytes())) as stdin:
-            self.assertEqual(self.explain(stdin=stdin), (0, self.EXPLANATION, ""))
+    def test_a_part_of_a_length(self):
+        """An hour is due behind it, and nothing comes."""
+        for part in (b"\0", b"\0\2", b"\0\4\0", b"\377\377\377"):
+            with self.subTest(part):
+                self.assertEqual(self.printed_of(part), self.REFUSED)
+                self.assertEqual(self.printed_of(self.with_length(self.HOUR) + part), second.statement(self.HOUR) + self.REFUSED)
 
-    def test_every_byte_of_the_number(self):
-        """A number none of whose bytes may be lost on the way to the program, zeros and line feeds among them."""
-        with tempfile.NamedTemporaryFile(suffix=".hour") as file:
-            file.write(hours.Hour(7, 32, [5_000], [[0, 0, 0]], [hours.record(hours.EXPORT, 31, 0)]).encode())
-            file.flush()
-            for member in (0, 10, 13, 31):
-                self.assertEqual(self.explain(member, file.name), (0, NOTHING_DECIDED, ""))
-            for member in (32, 2**8, 10 * 2**8, 2**16, 2**24, 10 * 2**24, 2**31, 2**32 - 1):
-                self.assertEqual(self.explain(member, file.name), (0, "refused 13 at 0\n", ""))
+    def test_the_longest(self):
+        """Up to a byte more than a file can have the next hour is found behind it."""
+        longest = known.hour_of(250).encode()
+        self.assertEqual(len(longest), self.LONGEST)
+        for data in (longest, longest + bytes(1)):
+            with self.subTest(len(data)):
+                self.assertEqual(self.printed_of(self.with_length(data) + self.with_length(self.HOUR)),
+                                 second.statement(data) + second.statement(self.HOUR))
 
-    def test_a_refusal_is_an_answer(self):
-        self.assertEqual(self.explain(), (0, "refused 1 at 0\n", ""))
-        self.assertEqual(self.explain(2, PRINTED), (0, "refused 13 at 0\n", ""))
-        self.assertEqual(self.explain(0, "/dev/null"), (0, "refused 1 at 0\n", ""))
-
-    def test_what_cannot_be_read(self):
-        self.not_done(self.explain(1, ROOT / "nothing.hour"))
-        self.not_done(self.explain(1, ROOT))
-        with opened(ROOT) as (folder,):
-            self.assertEqual(self.explain(stdin=folder), (1, "", "explain: standard input: Is a directory\n"))
-
-    def test_what_is_no_number(self):
-        for word in ("", "-1", "one", "1x", "0x1", "1.0", "4294967296", "18446744073709551616", "99999999999999999999"):
-            with self.subTest(word):
-                self.not_done(self.explain(word, PRINTED))
-
-    def test_a_word_too_few_or_too_many(self):
-        for words in ((1,), (1, PRINTED, PRINTED)):
-            with self.subTest(words):
-                status, printed, said = self.explain(*words)
-                self.assertNotEqual((status, said), (0, ""))
-                self.assertEqual(printed, "")
-
-    def test_what_cannot_be_written(self):
-        with opened("/dev/full") as (full,):
-            status, _, said = self.explain(1, PRINTED, stdout=full)
-            self.assertEqual(status, 1)
-            self.assertTrue(said.startswith("explain: ") and said.endswith("standard output: No space left on device\n"), said)
-
-
-class WriteHour(unittest.TestCase):
-    """The script; its output is bytes, so that it goes to a file or on to ./settle."""
-
-    WORDS = ROOT / "examples" / "printed.words"
-
-    def test_an_hour(self):
-        with opened(self.WORDS) as (stdin,), tempfile.TemporaryFile() as file:
-            self.assertEqual(ended([ROOT / "write_hour"], stdin, file), (0, None, ""))
-            file.seek(0)
-            self.assertEqual(file.read(), PRINTED.read_bytes())
-
-    def test_an_hour_that_is_settled_at_once(self):
-        with opened(self.WORDS) as (stdin,):
-            self.assertEqual(ended(["bash", "-c", "./write_hour | ./settle"], stdin), (0, Settle.STATEMENT, ""))
-
-    def test_refused_words_are_an_answer(self):
-        self.assertEqual(ended([ROOT / "write_hour"]), (0, "refused 1 at 0\n", ""))
+    def test_too_long(self):
+        """It is refused, and where the next hour begins isn't looked for."""
+        for length in (self.LONGER + 1, 13_824, 2**16, 2**24):
+            with self.subTest(length):
+                data = (known.hour_of(250).encode() + bytes(length))[:length]
+                before, behind = self.with_length(self.HOUR), self.with_length(self.HOUR)
+                self.assertEqual(self.printed_of(before + self.with_length(data) + behind), second.statement(self.HOUR) + self.REFUSED)
 
     def test_what_cannot_be_read_or_written(self):
+        """It is said once, of however many hours."""
         with opened(ROOT) as (folder,):
-            self.assertEqual(ended([ROOT / "write_hour"], folder), (1, "", "write_hour: standard input: Is a directory\n"))
-        with opened(self.WORDS, "/dev/full") as (stdin, full):
-            self.assertEqual(ended([ROOT / "write_hour"], stdin, full),
-                             (1, None, "write_hour: standard output: No space left on device\n"))
-
-
-class NothingBuilt(unittest.TestCase):
-    def test_a_program_that_is_not_there_cannot_be_built(self):
-        """Copies of the scripts elsewhere, with nothing to prove."""
-        for name in ("settle", "explain", "write_hour"):
-            with self.subTest(name), tempfile.TemporaryDirectory() as folder:
-                for part in (name, "tools/program.sh"):
-                    copy = Path(folder, part)
-                    copy.parent.mkdir(exist_ok=True)
-                    copy.write_bytes((ROOT / part).read_bytes())
-                    copy.chmod(0o755)
-                status, printed, said = ended([Path(folder, name)])
-                self.assertEqual((status, printed), (1, ""))
-                self.assertTrue(said.endswith(f"{name}: the program could not be proved and built\n"), said)
+            self.assertEqual(ended(self.words(), folder), (0, b"", "standard input: Is a directory\n"))
+        self.assertEqual(ended(self.words(), closing=(0,)), (0, b"", "standard input: Bad file descriptor\n"))
+        with opened(FULL) as (full,), given(3 * self.with_length(self.HOUR)) as stdin:
+            self.assertEqual(ended(self.words(), stdin, full), (0, None, "standard output: No space left on device\n"))
+        with given(3 * self.with_length(self.HOUR)) as stdin:
+            self.assertEqual(ended(self.words(), stdin, closing=(1,)), (0, b"", "standard output: Bad file descriptor\n"))
 
 
 if __name__ == "__main__":
