@@ -10,6 +10,7 @@ import functools
 import os
 import pty
 import re
+import resource
 import shutil
 import subprocess
 import sys
@@ -251,7 +252,8 @@ class Statuses(Case):
         """The worst of them, wherever it stands, and each other file is answered all the same."""
         empty, statement = "/dev/null", {PRINTED: answers()["settle"], "/dev/null": b"refused 1 at 0\n"}
         for status, files in ((ANSWERED, [PRINTED, PRINTED]), (REFUSED, [PRINTED, empty]), (REFUSED, [empty, PRINTED]),
-                              (TROUBLE, [PRINTED, empty, MISSING]), (TROUBLE, [empty, MISSING, PRINTED]), (TROUBLE, [MISSING, ROOT, empty])):
+                              (TROUBLE, [PRINTED, empty, MISSING]), (TROUBLE, [MISSING, ROOT, empty]),
+                              (TROUBLE, [empty, MISSING, PRINTED])):
             there = [file for file in files if file in statement]
             for verb, printed in (("settle", under_names), ("check", checked)):
                 with self.subTest(verb, files=files):
@@ -507,12 +509,18 @@ class CannotRead(Case):
 
 # ---- Long inputs and many files
 
+ROOM = 2**31  # bytes of addresses: far above what a call may take, and too few to bring the machine down
+
+
 def measured(*words, stdin=subprocess.DEVNULL, seconds=15):
     """What comes of a call, its seconds, and the most memory in MB that it or a program that it started took. Where it takes longer than
     so many seconds it is ended."""
+    def hold():
+        resource.setrlimit(resource.RLIMIT_AS, (ROOM, ROOM))
+
     with tempfile.TemporaryFile() as printed, tempfile.TemporaryFile() as said:
         begun = time.monotonic()
-        command = subprocess.Popen([COMMAND, *words], stdin=stdin, stdout=printed, stderr=said)
+        command = subprocess.Popen([COMMAND, *words], stdin=stdin, stdout=printed, stderr=said, preexec_fn=hold)
         timer = threading.Timer(seconds, command.kill)
         timer.start()
         _, status, usage = os.wait4(command.pid, 0)
@@ -582,7 +590,7 @@ YEAR = 8_760
 
 
 class Year(Case):
-    """A year's hours, each with a number and a price of its own, and some that are refused; settled in one call."""
+    """A year's hours, each with a number of its own and at a price of its hour of the day, and some that are cut short; in one call."""
 
     # Runs the command in a Python that writes a line for each program that is started, in whatever way, to the file that is named first.
     STARTS = """if True:
@@ -599,18 +607,21 @@ class Year(Case):
     def setUpClass(cls):
         folder = tempfile.TemporaryDirectory()
         cls.addClassCleanup(folder.cleanup)
-        files = [cls.hour(number) for number in range(YEAR)]
-        cls.paths, cls.statements = written(folder.name, files), [second.statement(data) for data in files]
+        behind_number = [second.statement(cls.hour(0, of_day)).split(b" ", 2)[2] for of_day in range(24)]
+        files = [cls.hour(number, number % 24) for number in range(YEAR)]
+        cls.statements = [b"hour %d %s" % (number, behind_number[number % 24]) for number in range(YEAR)]
+        for number in range(999, YEAR, 1_000):
+            files[number], cls.statements[number] = files[number][:-1], b"refused 1 at 0\n"
+        cls.paths = written(folder.name, files)
         cls.printed = under_names(cls.paths, cls.statements)
         cls.refusals = [pair for pair in zip(cls.paths, cls.statements) if is_refused(pair[1])]
         cls.single = [measured("settle", path)[1] for path in cls.paths[:10]]
 
     @staticmethod
-    def hour(number):
+    def hour(number, of_day):
         hour = hours.printed_case()
-        hour.number, hour.prices = number, [number - 4_000]
-        data = hour.encode()
-        return data[:-1] if number % 1_000 == 999 else data
+        hour.number, hour.prices = number, [1_000 * of_day - 5_000]
+        return hour.encode()
 
     def test_seconds(self):
         """At most a tenth of what the hours take one by one."""
