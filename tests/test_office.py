@@ -394,9 +394,9 @@ class CannotWrite(Case):
     """It is said once, however much there is to write, and the status tells."""
 
     # Each verb, several hours, and help.
-    CALLS = [*([*words, file] for words, file in CALLS.values()), ["settle", *[PRINTED] * 9], ["check", *[PRINTED] * 9], ["--help"]]
+    PRINTING = [*([*words, file] for words, file in CALLS.values()), ["settle", *[PRINTED] * 9], ["check", *[PRINTED] * 9], ["--help"]]
 
-    def assert_said(self, why, calls=CALLS, **streams):
+    def assert_said(self, why, calls=PRINTING, **streams):
         for words in calls:
             with self.subTest(words):
                 status, _, said = asked(*words, **streams)
@@ -408,7 +408,7 @@ class CannotWrite(Case):
             file.write(refused("pack")[0])
             file.flush()
             refusing = [[*words, file.name] for words, _ in CALLS.values()]
-            self.assert_said("No space left on device", [*self.CALLS, *refusing], stdout=full)
+            self.assert_said("No space left on device", [*self.PRINTING, *refusing], stdout=full)
 
     def test_closed(self):
         self.assert_said("Bad file descriptor", closing=(1,))
