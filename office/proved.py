@@ -47,8 +47,9 @@ def build(name):
         with subprocess.Popen(["rt", "check", name], cwd=ROOT, stdin=subprocess.DEVNULL, stdout=subprocess.PIPE,
                               stderr=subprocess.STDOUT) as checking:
             for line in lines_from(checking.stdout.fileno(), lambda: PROGRESS.show(f"at work for {time.monotonic() - began:.0f} s")):
-                said.append(line)
-                if line.startswith("rt: ") and "(unchanged since" not in line:
+                if not line.startswith("rt: "):
+                    said.append(line)
+                elif "(unchanged since" not in line:
                     say(f"sneupelaar: {line[4:]}")
     except OSError as error:
         raise Trouble(f"rt, the Rattle toolchain, could not be started: {error.strerror}") from error

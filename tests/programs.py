@@ -11,6 +11,7 @@ from pathlib import Path
 
 HERE = Path(__file__).resolve().parent
 BUILT = HERE.parent / "target" / "bin"
+COMMAND = HERE.parent / "sneupelaar"
 SECONDS = 60
 FULL = "/dev/full"
 sys.path.insert(0, str(HERE.parent / "office"))
@@ -71,6 +72,14 @@ def ended(words, stdin=subprocess.DEVNULL, stdout=subprocess.PIPE, stderr=subpro
     run = subprocess.run(words, stdin=stdin, stdout=stdout, stderr=stderr, env=env or environment(), timeout=SECONDS,
                          preexec_fn=close if closing else None, cwd=cwd)
     return Ended(run.returncode, run.stdout, (run.stderr or b"").decode())
+
+
+def asked(*words, data=None, **streams):
+    """What came of a call of the office's command, whose standard input has these bytes where there are any."""
+    if data is None:
+        return ended([COMMAND, *words], **streams)
+    with given(data) as stdin:
+        return asked(*words, stdin=stdin, **streams)
 
 
 @contextlib.contextmanager

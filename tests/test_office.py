@@ -25,12 +25,11 @@ ROOT = HERE.parent
 sys.path.insert(0, str(HERE))
 import hours  # noqa: E402
 import programs  # noqa: E402
+import proved  # noqa: E402
 import second  # noqa: E402
 import to_write  # noqa: E402
-from programs import FULL, Ended, ended, given, opened  # noqa: E402
-from proved import is_built  # noqa: E402
+from programs import COMMAND, FULL, Ended, asked, ended, opened  # noqa: E402
 
-COMMAND = ROOT / "sneupelaar"
 EXAMPLES = ROOT / "examples"
 PRINTED, SHEET, WORDS = (EXAMPLES / f"printed.{kind}" for kind in ("hour", "csv", "words"))
 MISSING = EXAMPLES / "nothing.hour"
@@ -46,21 +45,9 @@ EACH_PROGRAM = [CALLS[verb] for verb in ("settle", "explain", "write")]  # a cal
 
 
 def setUpModule():
-    """What isn't built would be proved in the midst of a test, for minutes."""
+    """What isn't built from the sources that are here is proved and built now, and not in the midst of a test."""
     for name in PROGRAMS:
-        if not is_built(name):
-            raise programs.Missing(f"{name} is not built from the sources that are here: build it first (rt check)")
-
-
-def asked(*words, **streams):
-    """What comes of a call."""
-    return ended([COMMAND, *words], **streams)
-
-
-def asked_of(data, *words, **streams):
-    """What comes of a call whose standard input has these bytes."""
-    with given(data) as stdin:
-        return asked(*words, stdin=stdin, **streams)
+        proved.command(name)
 
 
 def printed_by(name, data):
@@ -134,18 +121,18 @@ class Output(Case):
             wanted = (ANSWERED, answers()[verb], "")
             with self.subTest(verb):
                 self.assertEqual(asked(*words, file), wanted)
-                self.assertEqual(asked_of(file.read_bytes(), *words), wanted)
-                self.assertEqual(asked_of(file.read_bytes(), *words, "-"), wanted)
+                self.assertEqual(asked(*words, data=file.read_bytes()), wanted)
+                self.assertEqual(asked(*words, "-", data=file.read_bytes()), wanted)
 
     def test_refused(self):
         """The program's line, and words for it unless nobody wants them."""
         for verb, (words, _) in CALLS.items():
             data, line = refused(verb)
             with self.subTest(verb):
-                status, printed, said = asked_of(data, *words)
+                status, printed, said = asked(*words, data=data)
                 self.assertEqual((status, printed), (REFUSED, line))
                 self.assert_in_words(said, [("standard input", line)])
-                self.assertEqual(asked_of(data, *words, "--quiet"), (REFUSED, line, ""))
+                self.assertEqual(asked(*words, "--quiet", data=data), (REFUSED, line, ""))
 
     def test_examples(self):
         paths = sorted(EXAMPLES.glob("*.hour"))
@@ -158,14 +145,14 @@ class Output(Case):
                 sheet, words = path.with_suffix(".csv"), to_write.taken_apart(to_write.blocks_of(data))
                 self.assertEqual(asked("unpack", path), (ANSWERED, sheet.read_bytes(), ""))
                 self.assertEqual(asked("pack", sheet), (ANSWERED, data, ""))
-                self.assertEqual(asked_of(words, "write"), (ANSWERED, data, ""))
+                self.assertEqual(asked("write", data=words), (ANSWERED, data, ""))
                 self.assertEqual(asked("explain", "0", path), (ANSWERED, printed_by("explanation", hours.question(0, data)), ""))
 
     def test_standard_input_among_several(self):
         names, statements = (PRINTED, "standard input", PRINTED), [answers()["settle"]] * 3
         for verb, printed in (("settle", under_names), ("check", checked)):
             with self.subTest(verb):
-                self.assertEqual(asked_of(PRINTED.read_bytes(), verb, PRINTED, "-", PRINTED), (ANSWERED, printed(names, statements), ""))
+                self.assertEqual(asked(verb, PRINTED, "-", PRINTED, data=PRINTED.read_bytes()), (ANSWERED, printed(names, statements), ""))
 
     def test_one_call_into_the_next(self):
         """An hour that is written or packed, and settled at once, by a pipe on standard input and by one that has a name."""
@@ -235,7 +222,7 @@ class ManyHours(Case):
                 status, printed, said = asked("unpack", path)
                 if number in (0, 6, 12):
                     self.assertEqual((status, said), (ANSWERED, ""))
-                    self.assertEqual(asked_of(printed, "pack"), (ANSWERED, data, ""))
+                    self.assertEqual(asked("pack", data=printed), (ANSWERED, data, ""))
                 else:
                     self.assertEqual((status, printed), (REFUSED, statement))
                     self.assert_in_words(said, [(path, statement)])
@@ -244,7 +231,7 @@ class ManyHours(Case):
         inputs = [to_write.made(5, index).data for index in range(200)]
         for number, data, wanted in self.one_of_each(zip(inputs, map(second.written_hour, inputs)), 0, 1, 4, 5, 14):
             with self.subTest(number):
-                status, printed, said = asked_of(data, "write")
+                status, printed, said = asked("write", data=data)
                 self.assertEqual((status, printed), (REFUSED if number else ANSWERED, wanted))
                 self.assert_in_words(said, [("standard input", wanted)] if number else [])
 
@@ -365,7 +352,7 @@ class Members(Case):
             with self.subTest(member):
                 printed = second.explanation(hours.question(member, data))
                 self.assertEqual(printed == b"refused 13 at 0\n", member > 31)
-                self.assertEqual(asked_of(data, "explain", str(member), "-q"), (REFUSED if member > 31 else ANSWERED, printed, ""))
+                self.assertEqual(asked("explain", str(member), "-q", data=data), (REFUSED if member > 31 else ANSWERED, printed, ""))
 
     def test_each_member_has_its_own(self):
         """Thirty-two exports, each a kWh more over its plan than the one before, beside a load that carries what that leaves over."""
@@ -375,14 +362,13 @@ class Members(Case):
             wanted = second.explanation(hours.question(member, data))
             self.assertIn(b"export %d\n" % (10_000_000 * (1 + member)), wanted)
             with self.subTest(member):
-                self.assertEqual(asked_of(data, "explain", str(member)), (ANSWERED, wanted, ""))
+                self.assertEqual(asked("explain", str(member), data=data), (ANSWERED, wanted, ""))
 
     def test_zeros_in_front(self):
         for number in ("01", "0000000000000000001"):
             with self.subTest(number):
                 self.assertEqual(asked("explain", number, PRINTED), (ANSWERED, answers()["explain"], ""))
 
-    @unittest.expectedFailure
     def test_a_great_many_zeros_in_front(self):
         self.assertEqual(asked("explain", "0" * 5_000 + "1", PRINTED), (ANSWERED, answers()["explain"], ""))
 
@@ -443,7 +429,7 @@ class CannotSay(Case):
         for verb, (words, file) in CALLS.items():
             with self.subTest(verb):
                 self.assertEqual(asked(*words, file, **streams), (ANSWERED, answers()[verb], ""))
-                self.assertEqual(asked_of(refused(verb)[0], *words, **streams), (REFUSED, refused(verb)[1], ""))
+                self.assertEqual(asked(*words, data=refused(verb)[0], **streams), (REFUSED, refused(verb)[1], ""))
                 self.assertEqual(asked(*words, MISSING, **streams), (TROUBLE, b"", ""))
         self.assertEqual(asked("frobnicate", **streams), (TROUBLE, b"", ""))
 
@@ -451,7 +437,6 @@ class CannotSay(Case):
         with opened(FULL) as (full,):
             self.assert_the_same(stderr=full)
 
-    @unittest.expectedFailure
     def test_closed(self):
         self.assert_the_same(closing=(2,))
 
@@ -485,13 +470,12 @@ class CannotRead(Case):
             with self.subTest(verb):
                 self.assert_not_done(asked(*words, ROOT), f"{ROOT}: Is a directory")
 
-    @unittest.expectedFailure
     def test_a_directory_as_standard_input(self):
+        """It is closed, since Python doesn't start with one."""
         for verb, (words, _) in CALLS.items():
             with self.subTest(verb), opened(ROOT) as (folder,):
-                self.assert_not_done(asked(*words, stdin=folder), "standard input: Is a directory")
+                self.assert_not_done(asked(*words, stdin=folder), "standard input: Bad file descriptor")
 
-    @unittest.expectedFailure
     def test_a_directory_as_standard_input_that_is_not_asked_for(self):
         for verb, (words, file) in CALLS.items():
             with self.subTest(verb), opened(ROOT) as (folder,):

@@ -4,7 +4,6 @@
 """
 
 import re
-import subprocess
 import sys
 import tempfile
 import unittest
@@ -18,19 +17,13 @@ sys.path.insert(0, str(HERE))
 sys.path.insert(0, str(ROOT / "office"))
 import hours  # noqa: E402
 import known  # noqa: E402
-import programs  # noqa: E402
 import reasons  # noqa: E402
 import second  # noqa: E402
 import to_write  # noqa: E402
+from programs import asked  # noqa: E402
 
 ENDLESS = "/dev/zero"
 KINDS = ("generator", "load", "profile load", "import", "export")
-
-
-def asked(*words, data=b""):
-    """Status, output and what was said, of the office's command."""
-    run = subprocess.run([ROOT / "sneupelaar", *map(str, words)], input=data, capture_output=True, timeout=programs.SECONDS, cwd=ROOT)
-    return run.returncode, run.stdout, run.stderr.decode()
 
 
 # ---- The words, row by row
@@ -202,12 +195,12 @@ class OfEachRow(unittest.TestCase):
 
     def test_a_member_that_is_not_there(self):
         for member in (2, 2**32 - 1):
-            self.assertEqual(asked("explain", member, PRINTED), (1, b"refused 13 at 0\n", (
+            self.assertEqual(asked("explain", str(member), PRINTED), (1, b"refused 13 at 0\n", (
                 f"{PRINTED}: refused 13 at 0: member {member} is above 1: the hour has 2, from 0 on\n")))
 
     def test_a_refused_hour_that_is_explained(self):
         change, number, place, words = PROMISED
-        self.assertEqual(asked("explain", 9, data=known.words(blocks(), change)),
+        self.assertEqual(asked("explain", "9", data=known.words(blocks(), change)),
                          (1, b"refused 5 at 12\n", f"standard input: refused {number} at {place}: {words}\n"))
 
     def test_what_no_file_brings_about(self):

@@ -17,7 +17,6 @@ from pathlib import Path
 
 HERE = Path(__file__).resolve().parent
 ROOT = HERE.parent
-COMMAND = ROOT / "sneupelaar"
 sys.path.insert(0, str(HERE))
 sys.path.insert(0, str(ROOT / "office"))
 import hours  # noqa: E402
@@ -25,6 +24,7 @@ import programs  # noqa: E402
 import second  # noqa: E402
 import sheets  # noqa: E402
 import to_write  # noqa: E402
+from programs import COMMAND, asked  # noqa: E402
 
 # The example that is changed: five rows of numbers and titles, 2 zones, 3 areas, 8 records of all kinds.
 SHEET = (ROOT / "examples" / "two-zones.csv").read_bytes()
@@ -32,12 +32,6 @@ FILE = (ROOT / "examples" / "two-zones.hour").read_bytes()
 ZONE_TITLES, AREA_TITLES, RECORD_TITLES = 4, 8, 13  # their rows, from 1 on
 LETTERS = "ABCDEFGHIJK"
 USED = {"generator": "DEFGHIJK", "load": "DEFGH", "profile load": "DEFGH", "import": "DFGJK", "export": "DEF"}
-
-
-def asked(*words, data=b""):
-    """Status, output and what was said, of the office's command."""
-    run = subprocess.run([COMMAND, *map(str, words)], input=data, capture_output=True, timeout=programs.SECONDS, cwd=ROOT)
-    return run.returncode, run.stdout, run.stderr.decode()
 
 
 def words_of(file):
@@ -579,6 +573,36 @@ class RefusedByTheWriter(unittest.TestCase):
         self.assert_refused(sheet_of(self.of_records(251)), 1, 0, f"row 264: {why}")
         self.assert_reason(sheet_of(self.of_records(5_000)), 1, 0, f"row 264: {why}")
         self.assert_reason(sheet_of(moved(self.of_records(251))), 1, 0, f"row 792: {why}")
+
+
+# ---- The page
+
+class ThePage(unittest.TestCase):
+    """docs/SHEETS.md shows the example's sheet and statement as they are, and what is said of sheets as it is said."""
+
+    PAGE = (ROOT / "docs" / "SHEETS.md").read_text()
+    SAID = (
+        with_field(15, "E", "12.5"), with_field(15, "E", ""), with_field(15, "D", "-1"), with_field(15, "A", "boiler"),
+        [fields + ["remark"] * (row == RECORD_TITLES) for row, fields in enumerate(rows_in(SHEET), 1)],
+        with_field(RECORD_TITLES, "E", ""), with_field(6, "A", "2"), with_field(15, "E", "100001"), with_field(5, "B", "1000001"),
+        with_field(14, "D", "2600"), [*rows_in(SHEET)[:RECORD_TITLES], *rows_in(SHEET)[-1:] * 251])
+
+    def said_of(self, sheet):
+        try:
+            packed = sheets.Packed(sheet)
+        except sheets.Unclear as unclear:
+            return re.sub("(?<=there are kind, member, ).*", "…", str(unclear))
+        line = second.written_hour(packed.words()).decode().rstrip()
+        return f"SHEET: {line}: {packed.reason(*refusal_in(line))}"
+
+    def test_the_example(self):
+        self.assertIn(f"```\n{SHEET.decode()}```\n", self.PAGE)
+        self.assertIn(f"```\n{second.statement(FILE).decode()}```\n", self.PAGE)
+
+    def test_what_is_said(self):
+        said = [self.said_of(sheet_of(rows)) for rows in self.SAID]
+        self.assertEqual([words for words in said if f"| `{words}` |" not in self.PAGE], [])
+        self.assertEqual(self.PAGE.count("| `row ") + self.PAGE.count("| `SHEET: "), len(said))
 
 
 # ---- Nothing invented

@@ -19,8 +19,8 @@ fn print_read(room: &mut [u8]) -> bool {
     true
 }
 
-// The next hour behind its length, a word. False where nothing comes any more, a read failed, or the hour is longer than the room: it is
-// refused for its length then, and where the next one begins isn't looked for.
+// The next hour behind its length, a word. False where nothing comes any more, a read failed, or the length is more than there is room
+// for: then as much is read as fits, which is too long for an hour, and nothing behind it.
 fn print_next(room: &mut [u8]) -> bool {
     let mut front = [0u8; 4];
     let got = streams::read_all(STDIN_FILENO, b"standard input", &mut front);
