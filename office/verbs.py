@@ -34,14 +34,14 @@ def status_of(asked, path, printed, why):
 # ---- Several hours
 
 def settle(asked):
-    return each_hour(asked, "settled", lambda statement: statement, b":\n")
+    return each_hour(asked, "settled", b":\n", lambda statement: statement)
 
 
 def check(asked):
-    return each_hour(asked, "checked", lambda statement: statement if proved.is_refused(statement) else b"accepted\n", b": ")
+    return each_hour(asked, "checked", b": ", lambda statement: statement if proved.is_refused(statement) else b"accepted\n")
 
 
-def each_hour(asked, what, answer, behind_name):
+def each_hour(asked, what, behind_name, shown):
     """One program is started for all of them, and each is answered, whatever is wrong with another. Of several each answer has its file's
     name before it."""
     files, status = files_of(asked), ANSWERED
@@ -56,7 +56,7 @@ def each_hour(asked, what, answer, behind_name):
                 status = TROUBLE
                 continue
             statement = statements.of(data)
-            write((os.fsencode(name_of(path)) + behind_name if len(files) > 1 else b"") + answer(statement))
+            write((os.fsencode(name_of(path)) + behind_name if len(files) > 1 else b"") + shown(statement))
             status = max(status, status_of(asked, path, statement, lambda *refusal: reasons.of_file(*refusal, data)))
     PROGRESS.clear()
     return status
@@ -64,15 +64,21 @@ def each_hour(asked, what, answer, behind_name):
 
 # ---- One hour
 
+def answer(asked, path, program, data, why):
+    """What the program prints of these bytes."""
+    printed = proved.printed_by(program, data)
+    write(printed)
+    return status_of(asked, path, printed, why)
+
+
 def explain(asked):
     if not asked.words:
         raise Trouble("explain takes a member's number and a file: see ./sneupelaar explain --help")
     member = member_in(asked.words.pop(0))
     path = file_of(asked)
     data = read(path, LONGEST_FILE + 1)
-    printed = proved.printed_by("explanation", member.to_bytes(4, "little") + data)
-    write(printed)
-    return status_of(asked, path, printed, lambda *refusal: reasons.of_file(*refusal, data, member))
+    question = member.to_bytes(4, "little") + data
+    return answer(asked, path, "explanation", question, lambda *refusal: reasons.of_file(*refusal, data, member))
 
 
 def member_in(word):
@@ -89,9 +95,7 @@ def pack(asked):
         packed = sheets.Packed(read(path, sheets.MOST_BYTES + 1))
     except sheets.Unclear as unclear:
         raise Trouble(f"{name_of(path)}: {unclear}") from unclear
-    printed = proved.printed_by("write_hour", packed.words())
-    write(printed)
-    return status_of(asked, path, printed, packed.reason)
+    return answer(asked, path, "write_hour", packed.words(), packed.reason)
 
 
 def unpack(asked):
@@ -114,9 +118,7 @@ def unpack(asked):
 def write_words(asked):
     path = file_of(asked)
     data = read(path, LONGEST_WORDS + 1)
-    printed = proved.printed_by("write_hour", data)
-    write(printed)
-    return status_of(asked, path, printed, lambda *refusal: reasons.of_raw(*refusal, data))
+    return answer(asked, path, "write_hour", data, lambda *refusal: reasons.of_raw(*refusal, data))
 
 
 VERBS = {"settle": settle, "check": check, "explain": explain, "pack": pack, "unpack": unpack, "write": write_words}
