@@ -114,6 +114,23 @@ SIDES = {
 }
 
 
+# The columns of a record by document 01's letters.
+NAMED = {"scheduled (kWh)": "S", "actual (kWh)": "A", "adjustment (kWh)": "J", "ancillary (kWh)": "N", "obligation (kWh)": "O",
+         "maximum (kWh)": "M", "scheduled multiplier (ten-thousandths)": "F", "hour-ahead multiplier (ten-thousandths)": "H"}
+
+
+def named_fields(record):
+    """A record of the second program as a sheet has it; what its kind doesn't use is empty."""
+    letters = {title: str(record[letter]) if letter in hours.USED[record["kind"]] else "" for title, letter in NAMED.items()}
+    return {"kind": [*USED][record["kind"] - 1], "member": str(record["member"]), "area": str(record["area"]), **letters}
+
+
+def under_titles(rows):
+    """The rows of a part, each field by its title."""
+    titles, *others = rows
+    return [dict(zip(titles, fields)) for fields in others]
+
+
 class ThereAndBack(unittest.TestCase):
     COUNT = 1_200
     SEED = "sheets"
@@ -130,6 +147,21 @@ class ThereAndBack(unittest.TestCase):
             reached.update(name for name, shows in SIDES.items() if shows(hour, number))
         print(f"\nsheets: {self.COUNT} there and back: " + ", ".join(f"{name}: {reached[name]}" for name in SIDES))
         self.assertEqual([name for name in SIDES if not reached[name]], [], "never occurred")
+
+    def test_under_their_names(self):
+        """What stands under each title is what the second program reads under document 01's letter: there and back alone would not notice
+        two columns that are exchanged both ways."""
+        for index, made in enumerate(kept(f"{self.SEED} named", 100)):
+            with self.subTest(index=index, name=made.name):
+                rows, hour = rows_in(sheets.sheet_of(made.data)), second.read_hour(made.data)
+                zones, areas = 4 + len(hour["prices"]), 6 + len(hour["prices"]) + len(hour["areas"])
+                self.assertEqual(rows[:2], [["hour", str(hour["number"])], ["members", str(hour["members"])]])
+                self.assertEqual(under_titles(rows[3:zones]), [
+                    {"zone": str(zone), "price (cents/MWh)": str(price)} for zone, price in enumerate(hour["prices"])])
+                self.assertEqual(under_titles(rows[zones + 1:areas]), [
+                    {"area": str(area), "zone": str(each["zone"]), "tie in (kWh)": str(each["in"]), "tie out (kWh)": str(each["out"])}
+                    for area, each in enumerate(hour["areas"])])
+                self.assertEqual(under_titles(rows[areas + 1:]), [*map(named_fields, hour["records"])])
 
     def test_through_the_command(self):
         """Unpacked and packed again it is the same file, also one that a row of the sums refuses."""
