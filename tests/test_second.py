@@ -1299,19 +1299,21 @@ class Noticing(unittest.TestCase):
 
     @unittest.skipUnless(shutil.which("rt"), "asks rt where the kit is")
     def test_built_programs_run_under_the_emulator_on_arm(self):
+        """A script, as those of examples/c are on Arm, runs as it is."""
+        def words_on(machine):
+            with mock.patch("os.uname", return_value=mock.Mock(machine=machine)):
+                return programs.command("statement", Path(folder))
+
         with tempfile.TemporaryDirectory() as folder:
-            program = Path(folder, "statement")
+            program = Path(folder).resolve() / "statement"
             program.write_bytes(b"\x7fELF")
-            with mock.patch("platform.machine", return_value="aarch64"):
-                emulator, loader, option, libraries = programs.words_before(program)
-            self.assertEqual((emulator.name, option), ("qemu-x86_64", "--library-path"))
+            emulator, loader, option, libraries, last = words_on("aarch64")
+            self.assertEqual((Path(emulator).name, option, last), ("qemu-x86_64", "--library-path", program))
             for path in (loader, libraries):
-                self.assertIn("aarch64", str(path))
-            with mock.patch("platform.machine", return_value="x86_64"):
-                self.assertEqual(programs.words_before(program), [])
+                self.assertIn("aarch64", path)
+            self.assertEqual(words_on("x86_64"), [program])
             program.write_text("#!/bin/sh\n")
-            with mock.patch("platform.machine", return_value="aarch64"):
-                self.assertEqual(programs.words_before(program), [])
+            self.assertEqual(words_on("aarch64"), [program])
 
 
 class Pages(unittest.TestCase):
