@@ -1,57 +1,72 @@
-"""What `--help` prints."""
+"""What `--help` prints, in lines that fit a terminal of 80 columns."""
 
 STATUS = """
-Exit status: 0 all was answered, 1 something was refused, 2 something could not be read, written or understood.
+Exit status:
+  0  all was answered
+  1  something was refused
+  2  something could not be read, written or understood
 """
 
-HELP = """./sneupelaar settle [FILE...]        settles hour files and prints their statements
-./sneupelaar check [FILE...]         tells whether hour files are accepted, or the refusal
+HELP = """./sneupelaar settle [FILE...]        settles hour files, prints their statements
+./sneupelaar check [FILE...]         tells whether hour files are accepted
 ./sneupelaar explain MEMBER [FILE]   tells why a member's charge is what it is
-./sneupelaar pack [SHEET] > FILE     makes an hour file of a sheet, CSV as spreadsheets write it
-./sneupelaar unpack [FILE] > SHEET   makes a sheet of an hour file
-./sneupelaar write [WORDS] > FILE    makes an hour file of a head and records given as raw words
+./sneupelaar pack [SHEET] > FILE     makes an hour file of a spreadsheet's CSV
+./sneupelaar unpack [FILE] > SHEET   makes CSV of an hour file
+./sneupelaar write [WORDS] > FILE    makes an hour file of raw words
 
-Where no file is named, or -, standard input is read. What is printed on standard output is what the proved programs print. A refusal
-prints `refused NUMBER at PLACE` there, and on standard error says in words what is wrong.
+Where no file is named, or -, standard input is read. Standard output has what
+the proved programs print; a refusal is `refused NUMBER at PLACE` there, and
+standard error says in words what is wrong.
 
-  -q, --quiet   no words for a refusal
-  -h, --help    this, or after a verb more about it
-""" + STATUS + """
-The first run proves and builds the programs that it needs, which takes some minutes and is said.
-"""
+  -q, --quiet  no words for a refusal
+  -h, --help   this, or with a verb more about it
+
+The first run proves and builds the programs that it needs. This takes some
+minutes, and is said.
+""" + STATUS
 
 HELPS = {
     "settle": """./sneupelaar settle [--quiet] [FILE...]
 
-Settles hour files and prints their statements: a line for the hour, and for each member its charge and its final amount. Of several
-files each statement stands behind its file's name. All are settled by one program, whatever is wrong with one of them; where standard
-error is a terminal, a line there shows how many are done.
+Settles hour files and prints their statements: a line for the hour, and for
+each member its charge and its final amount. Of several files each statement
+stands under its file's name.
 
-A file is read up to the length that an hour file can have, and no further.
+All are settled by one program, whatever is wrong with one of them; where
+standard error is a terminal, a line there shows how many are done. Of a file
+no more is read than the longest hour file has, and a byte.
 """ + STATUS,
     "check": """./sneupelaar check [--quiet] [FILE...]
 
-Tells of each hour file `accepted`, where settling would settle it, or the refusal. Of several files the answers stand behind their names.
+Tells of each hour file `accepted`, where settling settles it, or the refusal.
+Of several files the answers stand behind their names.
 """ + STATUS,
     "explain": """./sneupelaar explain [--quiet] MEMBER [FILE]
 
-Tells why a member's charge is what it is: what it is made of under five heads, in grains (10,000,000 are a cent), and the head that
-decided. Members are numbered from 0.
+Tells why a member's charge is what it is: what it is made of under five heads,
+in grains (10,000,000 are a cent), and the head that decided. Members are
+numbered from 0.
 """ + STATUS,
     "pack": """./sneupelaar pack [--quiet] [SHEET] > FILE
 
-Makes an hour file of a sheet (docs/SHEETS.md): CSV in UTF-8, with commas or semicolons. What is no whole number, or has no column, is said
-with its row and column, and nothing is written. What the sheet says is written by the proved writer; if that refuses, its line stands in
-the file's place, and row and column are said.
+Makes an hour file of a sheet, as docs/SHEETS.md has it: CSV in UTF-8, with
+commas or semicolons. What is no whole number, or stands in no column, is said
+with its row and column, and nothing is written.
+
+What the sheet says is written by the proved writer. If that refuses, its line
+stands in the file's place, and standard error has the row and the column.
 """ + STATUS,
     "unpack": """./sneupelaar unpack [--quiet] [--semicolons] [FILE] > SHEET
 
-Makes a sheet of an hour file (docs/SHEETS.md). Packed again, it is the same file: that is tried before anything is written.
+Makes a sheet of an hour file, as docs/SHEETS.md has it. Packed again, it is
+the same file: that is tried before anything is written.
 
-  --semicolons   between the fields, for spreadsheets that write decimals with a comma
+  --semicolons  between the fields, for spreadsheets that write decimals with a
+                comma
 """ + STATUS,
     "write": """./sneupelaar write [--quiet] [WORDS] > FILE
 
-Makes an hour file of a head and records, given as words of 32 bits (docs/FORMAT.md, "Writing a file"). If they are refused, the refusal's
-line stands in the file's place.
+Makes an hour file of a head and records, given as words of 32 bits
+(docs/FORMAT.md, "Writing a file"). If they are refused, the refusal's line
+stands in the file's place.
 """ + STATUS}

@@ -109,7 +109,7 @@ def delimiter_of(text):
 # ---- Parts from rows
 
 class Table:
-    """A part with columns: its titles' row, and its rows as (number, {column's name: field})."""
+    """A part with columns: its titles' row, and its rows as (number, fields)."""
 
     def __init__(self, columns, number, fields):
         self.columns, self.number, self.rows = columns, number, []
@@ -131,18 +131,20 @@ class Table:
                 return
         raise unclear(place, f"there is no column {shown(title)} here; there are {', '.join(field.name for field in self.columns)}")
 
-    def add(self, number, fields):
+    def place(self, row, name):
+        return Place(row[0], self.at[name], name)
+
+    def field_at(self, row, name):
+        return row[1][self.at[name]] if self.at[name] < len(row[1]) else ""
+
+    def number_at(self, row, field):
+        return number_in(self.field_at(row, field.name), field, self.place(row, field.name))
+
+    def expect_titles(self, row):
+        number, fields = row
         for column, field in enumerate(fields):
             if field and column not in self.at.values():
                 raise unclear(Place(number, column), f"{shown(field)} stands under no title")
-        self.rows.append((number, {name: fields[column] if column < len(fields) else "" for name, column in self.at.items()}))
-
-    def place(self, number, name):
-        return Place(number, self.at[name], name)
-
-    def number_at(self, row, field):
-        number, fields = row
-        return number_in(fields[field.name], field, self.place(number, field.name))
 
 
 def parts_of(rows):
@@ -159,7 +161,7 @@ def parts_of(rows):
             else:
                 parts[name] = number_part(number, fields)
         elif table is not None:
-            table.add(number, fields)
+            table.rows.append((number, fields))
         else:
             raise unclear(Place(number, 0), f"{shown(fields[0])} is none of {', '.join((*NUMBERS, *TABLES))}")
     for name in (*NUMBERS, *TABLES):
@@ -219,46 +221,47 @@ class Packed:
         self.places[word] = place
 
     def put_count(self, word, table):
-        """How many rows a table has. It stands at the last of them."""
-        number = table.rows[-1][0] if table.rows else table.number
-        self.put(word, len(table.rows), table.place(number, table.columns[0].name))
+        """How many rows a table has. It stands at the last of them, or at the titles."""
+        last = table.rows[-1] if table.rows else (table.number, [])
+        self.put(word, len(table.rows), table.place(last, table.columns[0].name))
 
     def put_zones(self, table):
         for zone, row in enumerate(table.rows):
             self.expect(table, row, zone)
-            self.put(PRICES + zone, table.number_at(row, hour.PRICE), table.place(row[0], "price"))
+            self.put(PRICES + zone, table.number_at(row, hour.PRICE), table.place(row, "price"))
         self.put_count(ZONES, table)
 
     def put_areas(self, table):
         for area, row in enumerate(table.rows):
             self.expect(table, row, area)
             for part, field in enumerate(AREA_COLUMNS[1:]):
-                self.put(FIRST_AREA + AREA_WORDS * area + part, table.number_at(row, field), table.place(row[0], field.name))
+                self.put(FIRST_AREA + AREA_WORDS * area + part, table.number_at(row, field), table.place(row, field.name))
         self.put_count(AREAS, table)
 
     def expect(self, table, row, due):
         """Zones and areas stand in order, from 0 on, as many as there is room for."""
         field = table.columns[0]
-        value, place = table.number_at(row, field), table.place(row[0], field.name)
+        value, place = table.number_at(row, field), table.place(row, field.name)
         if value > field.high:
             raise unclear(place, beyond(value, field))
         if value != due:
             raise unclear(place, f"{field.name} {value} stands where {field.name} {due} is due")
+        table.expect_titles(row)
 
     def record(self, row):
         kind = self.kind(row)
+        self.table.expect_titles(row)
         words = [kind, *(self.table.number_at(row, field) for field in RECORD_COLUMNS[1:SCHEDULED])]
         for word, field in enumerate(ENERGIES, SCHEDULED):
-            empty = not row[1][field.name] and not hour.uses(kind, word)
+            empty = not self.table.field_at(row, field.name) and not hour.uses(kind, word)
             words.append(0 if empty else self.table.number_at(row, field) % 2**32)
         return [*words, 0]
 
     def kind(self, row):
-        number, fields = row
-        name = folded(fields["kind"])
-        if name not in KINDS:
-            raise unclear(self.table.place(number, "kind"), f"{shown(fields['kind'])} is none of {', '.join(KINDS)}")
-        return KINDS.index(name) + 1
+        text = self.table.field_at(row, "kind")
+        if folded(text) not in KINDS:
+            raise unclear(self.table.place(row, "kind"), f"{shown(text)} is none of {', '.join(KINDS)}")
+        return KINDS.index(folded(text)) + 1
 
     def words(self):
         """For the writer; a record too many is enough for it to see that there are."""
@@ -269,5 +272,5 @@ class Packed:
         if number == 1:
             return f"row {self.table.rows[hour.MOST_RECORDS][0]}: a record more than the {hour.MOST_RECORDS} that an hour can have"
         word, why = of_words(number, place, Hour(self.head, self.records))
-        at = self.places[word] if number == 4 else self.table.place(self.table.rows[place][0], RECORD_COLUMNS[word].name)
+        at = self.places[word] if number == 4 else self.table.place(self.table.rows[place], RECORD_COLUMNS[word].name)
         return f"{text_of(at)}: {why}"

@@ -271,6 +271,7 @@ class Help(Case):
                     status, printed, said = asked(*words)
                     self.assertEqual((status, said), (ANSWERED, ""))
                     self.assertTrue(printed.startswith(f"./sneupelaar {verb} ".encode()), printed)
+                    self.assertLessEqual(max(map(len, printed.decode().splitlines())), 80)
         self.assertIn(b"--semicolons", asked("unpack", "--help").printed)
 
 

@@ -367,7 +367,7 @@ WHOLE = (
     ("a zone behind the hour's number", sheet_of([*parts()[2][:2], *parts()[0], *parts()[2][2:], *parts()[1], *parts()[3], *parts()[4]]),
      f"row 4, column A: '1' {NO_PART}"),
     ("titles that are not known to begin a part", sheet_of(with_field(RECORD_TITLES, "A", "type")),
-     "row 13, column E: 'actual (kWh)' stands under no title"),
+     "there is no row that begins with 'kind'"),
     ("tabs between fields", SHEET.replace(b",", b"\t"), f"row 1, column A: 'hour\\t1400' {NO_PART}"),
     ("an unclosed quote", SHEET.replace(b"load,1,0", b'"load,1,0', 1), "row 15: unexpected end of data"),
     ("something behind a quote", SHEET.replace(b"load,1,0", b'"load"s,1,0', 1), "row 15: ',' expected after '\"'"),
