@@ -20,8 +20,8 @@ class Asked:
         self.quiet = bool(options & {"-q", "--quiet"})
         self.semicolons = "--semicolons" in options
         known = {"-h", "--help", "-q", "--quiet"} | ({"--semicolons"} if self.verb == "unpack" else set())
-        for option in sorted(options - known):
-            raise Trouble(f"there is no option {option!r} here: see ./sneupelaar --help")
+        if options - known:
+            raise Trouble(f"there is no option {min(options - known)!r} here: see ./sneupelaar --help")
 
 
 def is_option(word):

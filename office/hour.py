@@ -43,7 +43,7 @@ def uses(kind, word):
     return word in USED[kind - 1]
 
 
-def name_of(word):
+def word_name(word):
     """What a record's word is called from word 1 on."""
     return {MEMBER: "member", AREA: "area", RECORD_WORDS - 1: f"word {word}"}.get(word) or ENERGIES[word - SCHEDULED].name
 

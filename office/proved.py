@@ -1,5 +1,6 @@
 """Builds and starts the proved programs of target/bin, and reads what they print."""
 
+import functools
 import os
 import select
 import subprocess
@@ -8,26 +9,20 @@ import time
 from streams import PROGRESS, Trouble, say
 
 ROOT = os.path.dirname(os.path.dirname(os.path.abspath(__file__)))
-TARGET = os.path.join(ROOT, "target")
 
 
-def built(name):
-    return os.path.join(TARGET, "bin", name)
+def path_of(name):
+    return os.path.join(ROOT, "target", "bin", name)
 
 
 # ---- Building
 
 def is_built(name):
-    """Whether the program is there, and was proved and built since a source was changed. rt leaves a program alone that comes out the
-    same, so a mark tells when that was, too."""
-    times = [os.path.getmtime(path) for path in (built(name), mark_of(name)) if os.path.exists(path)]
-    return os.path.exists(built(name)) and max(times) >= newest_source()
+    """Whether the program is there, and was proved and built since a source was changed."""
+    return os.path.exists(path_of(name)) and os.path.getmtime(path_of(name)) >= newest_source()
 
 
-def mark_of(name):
-    return os.path.join(TARGET, "proved", name)
-
-
+@functools.lru_cache(maxsize=None)
 def newest_source():
     """When what the programs are made of was changed last."""
     crates = os.path.join(ROOT, "crates")
@@ -42,11 +37,11 @@ def build(name):
     """Proves a program and all that it rests on. Each crate that is done is said, and on a terminal the seconds are shown, so that people
     see that something happens."""
     say(f"sneupelaar: proving {name} and all that it rests on, once; this takes some minutes")
-    said, began = [], time.monotonic()
+    said, began = [], time.time()
     try:
         with subprocess.Popen(["rt", "check", name], cwd=ROOT, stdin=subprocess.DEVNULL, stdout=subprocess.PIPE,
                               stderr=subprocess.STDOUT) as checking:
-            for line in lines_from(checking.stdout.fileno(), lambda: PROGRESS.show(f"at work for {time.monotonic() - began:.0f} s")):
+            for line in lines_from(checking.stdout.fileno(), lambda: PROGRESS.show(f"at work for {time.time() - began:.0f} s")):
                 if not line.startswith("rt: "):
                     said.append(line)
                 elif "(unchanged since" not in line:
@@ -54,11 +49,10 @@ def build(name):
     except OSError as error:
         raise Trouble(f"rt, the Rattle toolchain, could not be started: {error.strerror}") from error
     PROGRESS.clear()
-    if checking.returncode != 0 or not os.path.exists(built(name)):
+    if checking.returncode != 0 or not os.path.exists(path_of(name)):
         raise Trouble("\n".join([*said, f"{name} could not be proved and built"]))
-    os.makedirs(os.path.dirname(mark_of(name)), exist_ok=True)
-    with open(mark_of(name), "wb"):
-        pass  # opening it to write sets its time
+    # rt leaves a program alone that comes out the same; and a source that was changed in the meantime must be the newer one.
+    os.utime(path_of(name), (began, began))
 
 
 def lines_from(descriptor, waiting):
@@ -82,8 +76,11 @@ def words_before():
     kit's emulator, loader and C library, the way rt runs them. rt has no command that runs a program, so the kit's folder is taken from
     the guide's path that it prints."""
     machine = os.uname().machine
-    if machine == "x86_64":
-        return []
+    return [] if machine == "x86_64" else emulator_words(machine)
+
+
+@functools.lru_cache(maxsize=None)
+def emulator_words(machine):
     guide = subprocess.run(["rt", "doc"], check=True, stdout=subprocess.PIPE, text=True).stdout.strip()
     kit = os.path.join(os.path.dirname(os.path.dirname(guide)), "on", machine, "toolchain")
     library = os.path.join(kit, "lib")
@@ -100,7 +97,7 @@ def command(name):
     if not is_built(name):
         build(name)
     try:
-        return [*words_before(), built(name)]
+        return [*words_before(), path_of(name)]
     except (OSError, subprocess.CalledProcessError) as error:
         raise Trouble("rt, the Rattle toolchain, does not say where its emulator is") from error
 

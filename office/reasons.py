@@ -2,14 +2,13 @@
 only looked up again, to say what stands there."""
 
 from hour import (ACTUAL, AREA, BLOCK_BYTES, BLOCK_RECORDS, BLOCK_WORDS, FIRST_WORD, HEAD_BYTES, KIND, KINDS, LOADS, LONGEST_FILE,
-                  LONGEST_WORDS, MAXIMUM, MEMBER, MEMBERS, MOST_RECORDS, RECORD_BYTES, RECORD_WORDS, SCHEDULED, Hour, name_of, value_of,
+                  LONGEST_WORDS, MAXIMUM, MEMBER, MEMBERS, MOST_RECORDS, RECORD_BYTES, RECORD_WORDS, SCHEDULED, Hour, value_of, word_name,
                   words_in)
 
-# What no hour file, question or sheet brings about.
+# The rows of text amounts and of buffers, which no file, question or sheet brings about.
 ELSEWHERE = {
-    7: "a member's amount is beyond 4000000000000000000 grains", 8: "an amount to be written is out of its range",
-    9: "a field is shorter than the amount's text", 10: "a field holds no amount's text",
-    11: "a buffer lent for the results is too short"}
+    8: "an amount to be written is out of its range", 9: "a field is shorter than the amount's text",
+    10: "a field holds no amount's text", 11: "a buffer lent for the results is too short"}
 
 
 def beyond(value, field):
@@ -73,7 +72,7 @@ def of_record(hour, index):
     if not 1 <= record[KIND] <= len(KINDS):
         return KIND, f"record {index}: kind {record[KIND]} is none of 1 to {len(KINDS)} ({', '.join(KINDS)})"
     for word in range(MEMBER, RECORD_WORDS):
-        field, name = hour.record_field(index, word), name_of(word)
+        field, name = hour.record_field(index, word), word_name(word)
         value = value_of(record[word], field) if field else record[word]
         if field is None and value != 0:
             return word, f"record {index} ({whose(record)}): {name} is {value} and must be 0"
@@ -100,6 +99,11 @@ def of_area(hour, area):
     return f"area {area}: nobody can be given its unaccounted for energy; its loads' actual adds up to {taken}, and must to 1 or more"
 
 
+def of_amount(member):
+    """No amount of a file gets there: its ranges are too small."""
+    return f"member {member}: its amount is beyond 4000000000000000000 grains"
+
+
 def of_demand(hour):
     taken = sum(record[ACTUAL] for record in hour.records if record[KIND] in LOADS)
     return f"nobody can be given what the charges leave over; the loads' actual adds up to {taken}, and must to 1 or more"
@@ -122,13 +126,19 @@ def of_file(number, place, data, member=None):
         return ELSEWHERE[number]
     if number == 1:
         return of_length(data)
-    if number in (2, 3):
-        return (of_sum if number == 2 else of_layout)(data, place)
+    if number == 2:
+        return of_sum(data, place)
+    if number == 3:
+        return of_layout(data, place)
+    if number == 7:
+        return of_amount(place)
     hour = Hour.of_file(data)
     if number == 6:
         return of_area(hour, place)
-    if number in (12, 13):
-        return of_demand(hour) if number == 12 else of_member(hour, member)
+    if number == 12:
+        return of_demand(hour)
+    if number == 13:
+        return of_member(hour, member)
     return of_words(number, place, hour)[1]
 
 

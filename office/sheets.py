@@ -13,10 +13,11 @@ from reasons import beyond, of_words
 MOST_BYTES = 2**20  # many times what an hour's sheet has
 SHOWN = 40  # characters of a field, in a message
 
-ZONE, AREA = Field("zone", "", 0, hour.MOST_ZONES - 1), Field("area", "", 0, hour.MOST_AREAS - 1)
-ZONE_COLUMNS = (ZONE, hour.PRICE)
-AREA_COLUMNS = (AREA, ZONE, hour.TIE_IN, hour.TIE_OUT)
-RECORD_COLUMNS = (Field("kind", "", 1, len(KINDS)), Field("member", "", 0, hour.MOST_MEMBERS - 1), AREA, *ENERGIES)
+KIND_NAME, MEMBER_NUMBER = Field("kind", "", 1, len(KINDS)), Field("member", "", 0, hour.MOST_MEMBERS - 1)
+ZONE_NUMBER, AREA_NUMBER = Field("zone", "", 0, hour.MOST_ZONES - 1), Field("area", "", 0, hour.MOST_AREAS - 1)
+ZONE_COLUMNS = (ZONE_NUMBER, hour.PRICE)
+AREA_COLUMNS = (AREA_NUMBER, ZONE_NUMBER, hour.TIE_IN, hour.TIE_OUT)
+RECORD_COLUMNS = (KIND_NAME, MEMBER_NUMBER, AREA_NUMBER, *ENERGIES)
 # What stands in the first field of a row that begins a part: a single number behind it, or columns.
 NUMBERS = {field.name: field for field in (hour.HOUR, hour.MEMBER_COUNT)}
 TABLES = {columns[0].name: columns for columns in (ZONE_COLUMNS, AREA_COLUMNS, RECORD_COLUMNS)}

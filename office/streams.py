@@ -51,7 +51,7 @@ def name_of(path):
 
 def write(data):
     """On standard output."""
-    if os.isatty(1):
+    if PROGRESS.in_its_way:
         PROGRESS.clear()
     try:
         write_to(1, data)
@@ -83,11 +83,12 @@ class Progress:
     EVERY = 0.1  # seconds
 
     def __init__(self):
+        self.wanted, self.in_its_way = os.isatty(2), os.isatty(1)
         self.shown, self.due = False, 0
 
     def show(self, text):
         now = time.monotonic()
-        if now >= self.due and os.isatty(2):
+        if self.wanted and now >= self.due:
             say_bytes(f"\r{text}\033[K".encode())
             self.shown, self.due = True, now + self.EVERY
 

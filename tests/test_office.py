@@ -817,15 +817,24 @@ class FirstRun(Case):
         """Also where the program comes out the same, so that rt leaves it alone, and where a file was added."""
         self.ended("settle", PRINTED)
         self.proved()
-        built = self.root / "target/bin/statement"
-        before = built.stat().st_mtime_ns
         for source in ("crates/amount/src/lib.rt", "crates.txt", "crates/amount/src/new/more.rt"):
             with self.subTest(source):
                 (self.root / source).parent.mkdir(exist_ok=True)
                 (self.root / source).touch()
                 self.assert_first(self.ended("settle", PRINTED), "statement", answers()["settle"])
                 self.assert_not_first(self.ended("settle", PRINTED), answers()["settle"])
-        self.assertEqual(built.stat().st_mtime_ns, before)
+
+    def test_a_source_that_was_changed_while_it_was_proved(self):
+        (self.folder / "waits").touch()
+        with self.start("settle", PRINTED) as command:
+            command.stderr.readline()
+            command.stderr.readline()
+            time.sleep(0.05)  # a file's time may be some milliseconds behind the clock
+            (self.root / "crates/amount/src/lib.rt").touch()
+            (self.folder / "waits").unlink()
+            command.communicate(timeout=programs.SECONDS)
+        self.proved()
+        self.assert_first(self.ended("settle", PRINTED), "statement", answers()["settle"])
 
     def test_a_program_that_was_removed(self):
         self.ended("settle", PRINTED)

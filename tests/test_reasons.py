@@ -204,8 +204,11 @@ class OfEachRow(unittest.TestCase):
                          (1, b"refused 5 at 12\n", f"standard input: refused {number} at {place}: {words}\n"))
 
     def test_what_no_file_brings_about(self):
-        for number, words in ((7, "a member's amount is beyond 4000000000000000000 grains"),
-                              (8, "an amount to be written is out of its range"), (9, "a field is shorter than the amount's text"),
+        """And of a block or a record that has nothing wrong in it."""
+        for number, place, words in ((7, 3, "member 3: its amount is beyond 4000000000000000000 grains"),
+                                     (3, 1, "block 1 is not as its place in the file asks"), (5, 0, "record 0 is not as its kind asks")):
+            self.assertEqual(reasons.of_file(number, place, PRINTED.read_bytes()), words)
+        for number, words in ((8, "an amount to be written is out of its range"), (9, "a field is shorter than the amount's text"),
                               (10, "a field holds no amount's text"), (11, "a buffer lent for the results is too short")):
             with self.subTest(number):
                 self.assertEqual(reasons.of_file(number, 0, PRINTED.read_bytes()), words)

@@ -1,7 +1,7 @@
 # shellcheck shell=sh
 # python.sh: sourced. The system's own Python 3, before one that the path has.
-#   python_ready    puts its name into `python`. Where it is missing it is installed from Debian's packages, on whose words standard output
-#                   is not spent, or said to be missing
+#   python_ready    puts its name into `python`. Where it is missing it is installed from Debian's packages, with all words on standard
+#                   error, or said to be missing
 python_ready() {
     python=/usr/bin/python3
     [ -x "$python" ] || python=$(command -v python3) && return
