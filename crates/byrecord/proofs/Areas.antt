@@ -30,7 +30,7 @@ use Rattle.rules.proofs.Fair.{share-in}
 use Rattle.rules.proofs.Bounds.{ufe-under}
 use Rattle.share.specs.Shareable.{at, everyone, Shareable, sharesIn}
 use Rattle.share.proofs.Uses.{ufe-shareable}
-use Rattle.hour.specs.Hour.{hourIn}
+use Rattle.rules.specs.HourFile.{hourIn}
 use Rattle.byrecord.specs.Shared.{loadsBefore, sharesBelow, withSizes, SharedUpTo, Sized}
 
 -- ---- a record's share before and after its area's turn

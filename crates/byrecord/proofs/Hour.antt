@@ -10,7 +10,7 @@ use Rattle.whole.specs.Below.{valuesBelow, replacingFirst}
 use Rattle.whole.proofs.Buffers.{getD-replacing, length-replacing, replacing-all, replacing-ext, replacing-same, replacing-twice}
 use Rattle.rules.specs.Record.{Hour, areas, areaOf}
 use Rattle.rules.specs.Charge.{shareOf}
-use Rattle.hour.specs.Hour.{hourIn}
+use Rattle.rules.specs.HourFile.{hourIn}
 use Rattle.hour.proofs.Figures.{figure-at}
 use Rattle.byrecord.specs.Shared.{sharesBelow, Sharing, Cleared, SharedUpTo}
 

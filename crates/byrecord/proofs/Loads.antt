@@ -16,9 +16,8 @@ use Rattle.whole.proofs.Gathering.{count-none, count-add-one, gathered-none, ga
 use Rattle.whole.proofs.Filling.{Filled, none-filled, next-filled, passed-over}
 use Rattle.rules.specs.Record.{Hour, areaOf, entry, entryOf, isLoad}
 use Rattle.rules.specs.Ufe.{inArea, demand}
-use Rattle.rules.specs.HourFile.{word}
+use Rattle.rules.specs.HourFile.{word, hourIn}
 use Rattle.rules.specs.Inner.Posting.{demandBy, demandOf}
-use Rattle.hour.specs.Hour.{hourIn}
 use Rattle.hour.proofs.Rows.{PartOf, part-area}
 use Rattle.byrecord.specs.Shared.{loadsBefore, withSizes}
 

@@ -13,7 +13,7 @@ use Rattle.rules.specs.Ufe.{inArea, ufe}
 use Rattle.rules.specs.Charge.{shareOf}
 use Rattle.rules.specs.Settling.{ufeFigures}
 use Rattle.rules.specs.Inner.Kept.{FileKept}
-use Rattle.hour.specs.Hour.{hourIn}
+use Rattle.rules.specs.HourFile.{hourIn}
 
 module _ (h : Hour) (a : ℕ) where
   -- how many of area a's loads stand before record i: where a load has its demand and its size

@@ -7,7 +7,8 @@ ghost use Rattle.whole.specs.Below.{replacingFirst};
 ghost use Rattle.rules.specs.Record.{entryOf};
 ghost use Rattle.rules.specs.Deviation.{deviation};
 ghost use Rattle.rules.specs.Inner.Kept.{FileKept};
-ghost use Rattle.hour.specs.Hour.{hourIn, Headed};
+ghost use Rattle.rules.specs.HourFile.{hourIn};
+ghost use Rattle.hour.specs.Hour.{Headed};
 use hour::Head;
 
 // Record `i`'s.

@@ -14,7 +14,8 @@ ghost use Rattle.rules.specs.Record.{isLoad};
 ghost use Rattle.rules.specs.Ufe.{inArea, demand};
 ghost use Rattle.rules.specs.Charge.{shareOf};
 ghost use Rattle.rules.specs.Inner.Kept.{FileKept};
-ghost use Rattle.hour.specs.Hour.{hourIn, Headed};
+ghost use Rattle.rules.specs.HourFile.{hourIn};
+ghost use Rattle.hour.specs.Hour.{Headed};
 ghost use Rattle.byrecord.specs.Shared.{loadsBefore, sharesBelow, withSizes, Sharing, Cleared, SharedUpTo, Sized};
 use hour::Head;
 

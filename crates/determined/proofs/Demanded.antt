@@ -14,7 +14,7 @@ use Rattle.rules.specs.Record.{members}
 use Rattle.rules.specs.Charge.{charge}
 use Rattle.rules.specs.Neutrality.{final}
 use Rattle.rules.specs.Refusals.{Verdict, accepted, refusedAt, verdictOf, verdict, hourRows}
-use Rattle.rules.specs.HourFile.{hourly, hourOf, body}
+use Rattle.rules.specs.HourFile.{hourly, body, hourIn}
 use Rattle.rules.specs.Settling.{Buffers, Settlement, settle as settling, write as writing, read as reading}
 use Rattle.rules.specs.Statement as Statement
 use Rattle.rules.specs.Finals.{chargeColumn, finalColumn, AreBytes, SameSheet}
@@ -128,7 +128,7 @@ statement-is-put κs a x s p = whole-text (statement-promises κs a x s p)
 
 -- read, the columns of a member's line give its charge and its final
 pub statement-is-read-back : (κs : Lfts 2) → Gives (statement.Post κs) (λ a x s. 1095 ≤ length (now (a .1 .0)) →
-    verdict (hourRows (now (a .0))) ≡ accepted → let h = hourOf hourly (now (a .0)) in (m : ℕ) → m < members h →
+    verdict (hourRows (now (a .0))) ≡ accepted → let h = hourIn (now (a .0)) in (m : ℕ) → m < members h →
     (reading (chargeColumn h m (take x (now (s .1 .0)))) ≡ record { verdict = accepted; amount = charge h m })
     × (reading (finalColumn h m (take x (now (s .1 .0)))) ≡ record { verdict = accepted; amount = final h m }))
 statement-is-read-back κs a x s p room accepts m l =

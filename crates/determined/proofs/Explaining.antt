@@ -11,7 +11,7 @@ use Rattle.rules.specs.declared.Answer.{Answer}
 use Rattle.rules.specs.declared.Answer.the-variants.{Accepted}
 use Rattle.rules.specs.declared.Found.{Found}
 use Rattle.rules.specs.Record.{members}
-use Rattle.rules.specs.HourFile.{hourly, hourOf}
+use Rattle.rules.specs.HourFile.{hourIn}
 use Rattle.rules.specs.Refusals.{refusedAt, verdictOf}
 use Rattle.rules.specs.Settling.{Settlement, Buffers, emptyLine}
 use Rattle.rules.specs.Explanation as Explanation
@@ -88,7 +88,7 @@ sneupelaar-explain-keeps κs a x s p = keeps p
 -- that it wrote
 
 pub settled-is-explained : (κs : Lfts 6) (μs : Lfts 1) → Gives (settle.Post κs) (λ a x s. x .answer ≡ Accepted →
-    Gives (explain.Post μs) (λ b y t. now (b .0) ≡ now (a .0) → let h = hourOf hourly (now (a .0)) in b .1 .0 < members h →
+    Gives (explain.Post μs) (λ b y t. now (b .0) ≡ now (a .0) → let h = hourIn (now (a .0)) in b .1 .0 < members h →
     Explains h (b .1 .0) (getD (now (s .1 .0)) (b .1 .0) emptyLine .amount) (getD (now (s .1 .1 .0)) (b .1 .0) (pos 0))
     (y .heads) (answered y .decided)))
 settled-is-explained κs μs a x s p accepts b y t q same there =
@@ -98,7 +98,7 @@ settled-is-explained κs μs a x s p accepts b y t q same there =
 
 -- the same for C
 pub sneupelaar-settled-is-explained : (κs : Lfts 6) (μs : Lfts 1) → Gives (sneupelaar-settle.Post κs) (λ a x s. x .number ≡ 0 → x .place ≡ 0 →
-    Gives (sneupelaar-explain.Post μs) (λ b y t. now (b .0) ≡ now (a .0) → let h = hourOf hourly (now (a .0)) in b .1 .0 < members h →
+    Gives (sneupelaar-explain.Post μs) (λ b y t. now (b .0) ≡ now (a .0) → let h = hourIn (now (a .0)) in b .1 .0 < members h →
     Explains h (b .1 .0) (getD (now (s .1 .0)) (b .1 .0) emptyLine .amount) (getD (now (s .1 .1 .0)) (b .1 .0) (pos 0))
     (y .heads) (headCounted (y .decided))))
 sneupelaar-settled-is-explained κs μs a x s p number place b y t q same there =

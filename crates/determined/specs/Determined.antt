@@ -7,7 +7,7 @@ use mathlib.Core.Option.{none}
 use lib.IntN.{ℤ, pos}
 use lib.ListN.{length, take, drop, getD}
 use Rattle.rules.specs.Record.{members}
-use Rattle.rules.specs.HourFile.{hourly, hourOf}
+use Rattle.rules.specs.HourFile.{hourly, hourIn}
 use Rattle.rules.specs.HourWords.{hourFrom, headWords, recordWords}
 use Rattle.rules.specs.Refusals.{Verdict, accepted, refusedAt, verdict, fileRows, hourRows, writerRows, explainRows}
 use Rattle.rules.specs.Settling.{Buffers, settleRows, settle, noFigures, emptyLine, HourWritten}
@@ -43,14 +43,14 @@ pub record KeepsDemands (file : List ℕ) (before : Buffers) (told : Verdict) (u
   pub by-the-table : told ≡ verdict (settleRows file before)
   pub unchanged : (told ≡ accepted → ⊥) → (after ≡ before) × (ufes ≡ noFigures)
   -- 2 and 3
-  pub by-formula : told ≡ accepted → ByFormula (hourOf hourly file) before ufes after
-  pub fair : told ≡ accepted → FairOutcome (hourOf hourly file) ufes after
+  pub by-formula : told ≡ accepted → ByFormula (hourIn file) before ufes after
+  pub fair : told ≡ accepted → FairOutcome (hourIn file) ufes after
   -- A1
-  pub neutral : told ≡ accepted → NeutralOutcome (hourOf hourly file) before after
+  pub neutral : told ≡ accepted → NeutralOutcome (hourIn file) before after
   -- A3: an import that says what was metered, where no row before 5 and no record before it is broken
-  pub metered-import : (i : ℕ) → verdict (take 4 (fileRows file)) ≡ accepted → FirstMetered (hourOf hourly file) i → told ≡ refusedAt 5 i
+  pub metered-import : (i : ℕ) → verdict (take 4 (fileRows file)) ≡ accepted → FirstMetered (hourIn file) i → told ≡ refusedAt 5 i
   -- A6: 14 exactly where rows 1 to 5 are passed and a generator is scheduled above its maximum, at the first; accepted, none is
-  pub held-to-maximum : HeldToMaximum (take 5 (fileRows file)) (hourOf hourly file) told
+  pub held-to-maximum : HeldToMaximum (take 5 (fileRows file)) (hourIn file) told
 
 -- what document 02 asks of the writer (A2), of imports (A3) and of schedules (A6), by its head, records and buffer before, and by what was
 -- answered and left
@@ -60,7 +60,7 @@ pub record KeepsWriting (head records before : List ℕ) (w : HourWritten) : Typ
   pub unchanged : (w .verdict ≡ accepted → ⊥) → (w .length ≡ 0) × (w .file ≡ before)
   -- what was written passes rows 1 to 5 and 14 and is read back as the same hour
   pub read-back : w .verdict ≡ accepted →
-      (verdict (fileRows (fileIn w)) ≡ accepted) × (hourOf hourly (fileIn w) ≡ hourFrom hourly head records)
+      (verdict (fileRows (fileIn w)) ≡ accepted) × (hourIn (fileIn w) ≡ hourFrom hourly head records)
   pub past-file : w .verdict ≡ accepted → (drop (w .length) (w .file) ≡ drop (w .length) before) × (length (w .file) ≡ length before)
   -- the head and records of a file that passes rows 1 to 5 and 14 give its bytes again, whatever the buffer held
   pub same-bytes : (s : List ℕ) → AreBytes s → verdict (fileRows s) ≡ accepted → head ≡ headWords s → records ≡ recordWords hourly s →
@@ -77,12 +77,12 @@ pub record KeepsExplaining (file : List ℕ) (member : ℕ) (e : Explanation) : 
   pub by-the-table : e .verdict ≡ verdict (explainRows file member)
   pub nothing-said : (e .verdict ≡ accepted → ⊥) → (e .heads ≡ noHeads) × (e .decided ≡ none)
   -- to each member of an hour that settling accepts, by the line and the charge that settling writes
-  pub explained : (b : Buffers) → Accepts file b → member < members (hourOf hourly file) → (e .verdict ≡ accepted)
-      × Explains (hourOf hourly file) member
+  pub explained : (b : Buffers) → Accepts file b → member < members (hourIn file) → (e .verdict ≡ accepted)
+      × Explains (hourIn file) member
       (getD (settle file b .buffers .lines) member emptyLine .amount) (getD (settle file b .buffers .charges) member (pos 0))
       (e .heads) (e .decided)
   -- and to nobody else: 13 comes last
-  pub no-member : (b : Buffers) → Accepts file b → members (hourOf hourly file) ≤ member → e .verdict ≡ refusedAt 13 0
+  pub no-member : (b : Buffers) → Accepts file b → members (hourIn file) ≤ member → e .verdict ≡ refusedAt 13 0
   pub refused-alike : (verdict (hourRows file) ≡ accepted → ⊥) → e .verdict ≡ verdict (hourRows file)
   -- A6, as of a settling
-  pub held-to-maximum : HeldToMaximum (take 5 (fileRows file)) (hourOf hourly file) (e .verdict)
+  pub held-to-maximum : HeldToMaximum (take 5 (fileRows file)) (hourIn file) (e .verdict)

@@ -30,7 +30,7 @@ fn head_word_bad(block: &[u8], zones: u32, areas: u32, w: usize) -> bool
 // The first word of the head that breaks layout or range; from word 48 on all are zero.
 fn bad_head(file: &[u8]) -> Found
     requires { ⌜ 512 ≤ length (now file) ⌝ }
-    ensures { λ r. ⌜ foundAt r ≡ Refusals.badHead (HourFile.hourOf hourly (now (file .entry))) ⌝ }
+    ensures { λ r. ⌜ foundAt r ≡ Refusals.badHead (HourFile.hourIn (now (file .entry))) ⌝ }
 {
     let head = blocks::block(file, 0);
     let zones = blocks::word(head, 10);
@@ -85,8 +85,8 @@ fn first_found(found: Found, here: bool, at: usize) -> Found
 // that is scheduled above its maximum, which counts only where no record of the whole file breaks a rule.
 fn first_fault(file: &[u8]) -> Fault
     requires { ⌜ BlocksWhole (now file) ⌝ }
-    ensures fault { λ r. ⌜ faultAt r ≡ Refusals.firstFault (HourFile.hourOf hourly (now (file .entry))) ⌝ }
-    ensures above { λ r. ⌜ (faultAt r ≡ none → aboveAt r ≡ Refusals.aboveMaximum (HourFile.hourOf hourly (now (file .entry)))) ⌝ }
+    ensures fault { λ r. ⌜ faultAt r ≡ Refusals.firstFault (HourFile.hourIn (now (file .entry))) ⌝ }
+    ensures above { λ r. ⌜ (faultAt r ≡ none → aboveAt r ≡ Refusals.aboveMaximum (HourFile.hourIn (now (file .entry)))) ⌝ }
 {
     let members = hour::head_word(file, 9);
     let areas = hour::head_word(file, 11);

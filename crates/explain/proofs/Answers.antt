@@ -23,7 +23,7 @@ use Rattle.rules.proofs.Rows.{accepts-when-whole, zero-accepts, hour-numbered}
 use Rattle.rules.proofs.Explaining.{explain-numbered, rows-refused-alike, rows-member, rows-no-member, explain-accepted, explain-refused}
 use Rattle.rules.proofs.Worded.{explanation-accepted, explanation-refused, four-bytes}
 use Rattle.answer.proofs.Refusing.{numbered}
-use Rattle.hour.specs.Hour.{hourIn}
+use Rattle.rules.specs.HourFile.{hourIn}
 use Rattle.rules.specs.declared.Settled.{Settled as Settlement}
 use Rattle.pool.specs.Unlined.{Unlined, FitsUnlined}
 use Rattle.pool.proofs.Rooms.{Rooms, same-verdict, figured}

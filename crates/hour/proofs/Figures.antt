@@ -16,7 +16,8 @@ use Rattle.rules.specs.Record.{Hour, members, areas, price}
 use Rattle.rules.specs.Ufe.{ufe}
 use Rattle.rules.specs.Settling.{ufeFigures}
 use Rattle.hour.specs.declared.Head.{Head}
-use Rattle.hour.specs.Hour.{hourIn, pricesOf, headOf, Headed}
+use Rattle.rules.specs.HourFile.{hourIn}
+use Rattle.hour.specs.Hour.{pricesOf, headOf, Headed}
 
 module _ (f : ℕ → ℤ) (n : ℕ) (few : n ≤ 8) where
   abbrev zeros : List ℤ

@@ -5,12 +5,11 @@ use Prim.Native.Nat.{ℕ, _<_}
 use native.Mathlib.Omega.{arith}
 use lib.ListN.{length}
 use Rattle.rules.specs.Record.{memberOf, areaOf, entry, entryOf, kindOf}
-use Rattle.rules.specs.HourFile.{hourly, word}
+use Rattle.rules.specs.HourFile.{hourly, word, hourIn}
 use Rattle.rules.specs.Inner.Posting.{demandBy, demandOf}
 use Rattle.rules.specs.Inner.Kept.{FileKept, EntryKept}
 use Rattle.blocks.specs.Part.{recordPart}
 use Rattle.hour.proofs.Inside.{record-length, record-says}
-use Rattle.hour.specs.Hour.{hourIn}
 
 -- row is record i's part of a file that keeps its ranges
 pub record PartOf (s : List ℕ) (i : ℕ) (words : List ℕ) : Type 0 where

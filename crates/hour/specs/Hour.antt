@@ -7,13 +7,9 @@ use lib.IntN.{ℤ, pos}
 use lib.Dec.{ltb}
 use Rattle.whole.specs.Below.{valuesBelow}
 use Rattle.rules.specs.Record.{Hour, members, areas, price}
-use Rattle.rules.specs.HourFile.{hourly, hourOf}
+use Rattle.rules.specs.HourFile.{hourIn}
 use Rattle.rules.specs.Inner.Kept.{FileKept}
 use Rattle.hour.specs.declared.Head.{Head}
-
--- a file as an hour, in the first release's layout
-abbrev pub hourIn : List ℕ → Hour
-hourIn s = hourOf hourly s
 
 -- eight zone prices, 0 for areas past the count
 unfoldable pub pricesOf : Hour → List ℤ

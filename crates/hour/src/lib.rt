@@ -6,12 +6,12 @@ ghost use Prim.Native.Nat.{_<_};
 ghost use lib.ListN.{length};
 ghost use Rattle.rules.specs.Record as Record;
 ghost use Rattle.rules.specs.HourFile as HourFile;
-ghost use Rattle.rules.specs.HourFile.{hourly, word};
+ghost use Rattle.rules.specs.HourFile.{hourly, word, hourIn};
 ghost use Rattle.rules.specs.Inner.Posting.{demandBy, demandOf};
 ghost use Rattle.rules.specs.Inner.Kept.{FileKept};
 ghost use Rattle.blocks.specs.Part.{recordPart, RecordThere};
 ghost use Rattle.formula.specs.Meant.{meant};
-ghost use Rattle.hour.specs.Hour.{hourIn, pricesOf, headOf};
+ghost use Rattle.hour.specs.Hour.{pricesOf, headOf};
 use formula::entry::Entry;
 use rules::Kind;
 
@@ -26,14 +26,14 @@ pub fn body(file: &[u8], b: usize) -> &[u8]
 
 // Word `w` of the head.
 pub fn head_word(file: &[u8], w: usize) -> u32
-    ensures { λ r. ⌜ r ≡ HourFile.hourOf hourly (now (file .entry)) .head w ⌝ }
+    ensures { λ r. ⌜ r ≡ HourFile.hourIn (now (file .entry)) .head w ⌝ }
 {
     blocks::head_word(file, w)
 }
 
 // How many records the file says it holds, by the count of its last block.
 pub fn records(file: &[u8]) -> usize
-    ensures { λ r. ⌜ r ≡ HourFile.hourOf hourly (now (file .entry)) .count ⌝ }
+    ensures { λ r. ⌜ r ≡ HourFile.hourIn (now (file .entry)) .count ⌝ }
 {
     blocks::records(rules::hourly(), file)
 }

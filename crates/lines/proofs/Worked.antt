@@ -11,7 +11,7 @@ use Rattle.rules.specs.Record.{Hour, entryOf}
 use Rattle.rules.specs.Deviation.{deviation}
 use Rattle.rules.specs.Charge.{shareOf}
 use Rattle.rules.specs.Inner.Kept.{FileKept}
-use Rattle.hour.specs.Hour.{hourIn}
+use Rattle.rules.specs.HourFile.{hourIn}
 use Rattle.lines.specs.Lined.{AllWorked}
 
 module _ {s : List ℕ} (kept : FileKept s) where

@@ -9,7 +9,7 @@ use Rattle.rules.specs.Record.{areaOf, entryOf}
 use Rattle.rules.specs.Deviation as Deviation
 use Rattle.rules.specs.Charge.{shareOf}
 use Rattle.rules.specs.Inner.Kept.{FileKept}
-use Rattle.hour.specs.Hour.{hourIn}
+use Rattle.rules.specs.HourFile.{hourIn}
 
 -- record i is there, its price is its area's, and its deviation and share are worked
 pub record Worked (s : List ℕ) (i : ℕ) (price deviation share : ℤ) : Type 0 where

@@ -20,7 +20,7 @@ use Rattle.rules.specs.Inner.Kept.{HourKept, FileKept}
 use Rattle.rules.proofs.Fair.{none-to-share}
 use Rattle.rules.proofs.Bounds.{grains-under, amount-running}
 use Rattle.rules.proofs.Neutral.{no-area-demands}
-use Rattle.hour.specs.Hour.{hourIn}
+use Rattle.rules.specs.HourFile.{hourIn}
 use Rattle.neutrality.specs.Charged.{Deviated, Empty, Amounts}
 
 module _ {h : Hour} (kept : HourKept h) where

@@ -28,7 +28,7 @@ use Rattle.rules.proofs.Bounds.{charge-under}
 use Rattle.rules.proofs.Neutral.{member-demand-by-record, hour-demand-most, charges-running, neutrality-under, neutrality-share-under}
 use Rattle.share.specs.Shareable.{at, everyone, demanded, Shareable, sharesIn}
 use Rattle.share.proofs.Uses.{neutrality-shareable}
-use Rattle.hour.specs.Hour.{hourIn}
+use Rattle.rules.specs.HourFile.{hourIn}
 use Rattle.neutrality.specs.Charged.{sizeOf, Sized}
 
 module _ {h : Hour} (kept : HourKept h) where

@@ -10,7 +10,7 @@ use Rattle.rules.specs.Share.{shareSize}
 use Rattle.rules.specs.Charge.{amount, charge}
 use Rattle.rules.specs.Neutrality.{everyMember, memberDemand, neutrality}
 use Rattle.rules.specs.Inner.Kept.{FileKept}
-use Rattle.hour.specs.Hour.{hourIn}
+use Rattle.rules.specs.HourFile.{hourIn}
 
 -- the file keeps its ranges, and its hour's charges stand in the first places
 pub record Charged (s : List ℕ) (charges : List ℤ) : Type 0 where

@@ -34,7 +34,8 @@ use Rattle.rules.proofs.Bounds.{amount-under, row-7-never}
 use Rattle.rules.proofs.Demands.{Room, buffers-room}
 use Rattle.rules.proofs.Posting.{lines-are}
 use Rattle.hour.specs.declared.Head.{Head}
-use Rattle.hour.specs.Hour.{hourIn, Headed}
+use Rattle.rules.specs.HourFile.{hourIn}
+use Rattle.hour.specs.Hour.{Headed}
 use Rattle.hour.proofs.Figures.{head-members, head-records}
 use Rattle.lines.specs.Lined.{AllWorked}
 use Rattle.neutrality.specs.Charged.{Charged}

@@ -19,7 +19,7 @@ use Rattle.rules.specs.Settling.{Buffers, filled}
 use Rattle.rules.specs.Inner.Kept.{FileKept}
 use Rattle.rules.proofs.Rows.{settle-verdict, settle-fills}
 use Rattle.rules.proofs.Stated.{accepted-kept, room-for-all}
-use Rattle.hour.specs.Hour.{hourIn}
+use Rattle.rules.specs.HourFile.{hourIn}
 use Rattle.pool.specs.Unlined.{Unlined, withLines, ownLines, FitsUnlined}
 
 -- room for every hour

@@ -10,7 +10,7 @@ use Rattle.rules.specs.declared.Settled.{Settled}
 use Rattle.rules.specs.Refusals.{verdictOf}
 use Rattle.rules.specs.Statement.{acceptedLines, refusedLine, statement}
 use Rattle.rules.proofs.Stated.{statement-accepted, statement-refused}
-use Rattle.hour.specs.Hour.{hourIn}
+use Rattle.rules.specs.HourFile.{hourIn}
 use Rattle.answer.proofs.Refusing.{numbered}
 use Rattle.pool.specs.Unlined.{Unlined, FitsUnlined}
 use Rattle.pool.proofs.Rooms.{Rooms, same-verdict, figured}

@@ -10,7 +10,7 @@ use Rattle.rules.specs.Record.{members}
 use Rattle.rules.specs.Neutrality.{final}
 use Rattle.rules.specs.Refusals.{verdictOf, verdict, hourRows}
 use Rattle.rules.specs.Statement.{statement}
-use Rattle.hour.specs.Hour.{hourIn}
+use Rattle.rules.specs.HourFile.{hourIn}
 use Rattle.neutrality.specs.Charged.{Charged}
 use Rattle.printing.specs.Shown.{Shown, shown, HasShown}
 

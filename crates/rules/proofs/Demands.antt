@@ -22,7 +22,7 @@ use Rattle.rules.specs.Ufe.{ufe, demands}
 use Rattle.rules.specs.Charge.{shareOf, amount, recordsOf, cents, nearestCent, charge}
 use Rattle.rules.specs.Neutrality.{final}
 use Rattle.rules.specs.Text.{bytes, digitByte, amountText, amountField}
-use Rattle.rules.specs.HourFile.{hourly, hourOf}
+use Rattle.rules.specs.HourFile.{hourIn}
 use Rattle.rules.specs.Refusals.{badArea, tooShort, tableRows, hourRows}
 use Rattle.rules.specs.Settling.{Buffers, Written, settle, filled, ufeFigures, lineOf, emptyLine}
 use Rattle.rules.specs.Statement.{column, memberLine}
@@ -44,7 +44,7 @@ record Passed (h : Hour) : Type 0 where
   kept : HourKept h
   no-bad-area : badArea h ≡ none
 
-hour-passed : (s : List ℕ) → AllWhole (hourRows s) → Passed (hourOf hourly s)
+hour-passed : (s : List ℕ) → AllWhole (hourRows s) → Passed (hourIn s)
 unfolding hourRows tableRows
 hour-passed s w = record { kept = passed-kept s w .hour-kept; no-bad-area = w .1 .1 .1 .1 .1 .1 .0 }
 
@@ -123,9 +123,9 @@ module _ (h : Hour) (kept : HourKept h) where
       }
 
 -- every figure of an accepted settling is the tariff's
-settled-by-formula : (s : List ℕ) (b : Buffers) → Accepts s b → ByFormula (hourOf hourly s) b (settle s b .ufe) (settle s b .buffers)
+settled-by-formula : (s : List ℕ) (b : Buffers) → Accepts s b → ByFormula (hourIn s) b (settle s b .ufe) (settle s b .buffers)
 settled-by-formula s b a =
-    let h = hourOf hourly s in
+    let h = hourIn s in
     let p = settle-whole s b a in
     let f = settle-fills s b a in
     rw (f .0, f .1) (by-formula h (hour-passed s (p .0) .kept) b (buffers-room h b (p .1)))
@@ -169,7 +169,7 @@ demand2 = record {
   settled = settled-by-formula;
   written-read = written-read;
   read-written = read-written;
-  printed = λ s e m l. amounts-printed (hourOf hourly s) (hour-passed s (accepts-when-whole (hourRows s) (hour-numbered s) .0 e) .kept) m l;
+  printed = λ s e m l. amounts-printed (hourIn s) (hour-passed s (accepts-when-whole (hourRows s) (hour-numbered s) .0 e) .kept) m l;
 }
 
 -- ---- demand 3
@@ -196,4 +196,4 @@ filled-fairly h b p = fair-alike h (sound h p)
 pub demand3 : Demand3
 demand3 s b a =
     let f = settle-fills s b a in
-    rw (f .0, f .1) (filled-fairly (hourOf hourly s) b (hour-passed s (settle-whole s b a .0)))
+    rw (f .0, f .1) (filled-fairly (hourIn s) b (hour-passed s (settle-whole s b a .0)))

@@ -16,7 +16,7 @@ use Rattle.whole.proofs.Linear.{zo}
 use Rattle.rules.specs.declared.Kind.{Kind}
 use Rattle.rules.specs.declared.Kind.the-variants.{Generator, RealTimeLoad, ProfileLoad, Import, Export, Unknown}
 use Rattle.rules.specs.Record.{Hour, kindOf, isGenerator, entry, entryOf}
-use Rattle.rules.specs.HourFile.{hourly, hourOf}
+use Rattle.rules.specs.HourFile.{hourly, hourIn}
 use Rattle.rules.specs.HourWords.{hourFrom}
 use Rattle.rules.specs.Refusals.{Row, row, Verdict, verdict, scheduledAbove, overScheduled, aboveMaximum}
 use Rattle.rules.specs.Refusals.{badArea, badAmount, noDemand, noMember, noRoom, tableRows, hourRows, fileRows, explainRows, writerRows}
@@ -90,7 +90,7 @@ module _ (h : Hour) (before after : List Row) (numbered : Numbered before) (numb
 
 module _ (s : List ℕ) where
   abbrev h : Hour
-  h = hourOf hourly s
+  h = hourIn s
 
   -- behind row 14 settling and an explanation have their own last row alone
   abbrev to-last : Row → List Row

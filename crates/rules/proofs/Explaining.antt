@@ -13,7 +13,7 @@ use Rattle.whole.proofs.Buffers.{getD-replacing}
 use Rattle.rules.specs.declared.Line.{Line}
 use Rattle.rules.specs.Record.{Hour, members, zones, areaOf, zoneOf}
 use Rattle.rules.specs.Charge.{amount, charge}
-use Rattle.rules.specs.HourFile.{hourly, hourOf}
+use Rattle.rules.specs.HourFile.{hourIn}
 use Rattle.rules.specs.Refusals.{row, accepted, refusedAt, verdict, noMember, hourRows, explainRows}
 use Rattle.rules.specs.Settling.{Buffers, isAccepted, settle, filled, lineOf, emptyLine}
 use Rattle.rules.specs.Explanation.{heads, noHeads, decided, explain}
@@ -30,7 +30,7 @@ use Rattle.rules.proofs.Decided.{named-decides, always-one, none-for-ze
 
 module _ (s : List ℕ) (m : ℕ) where
   abbrev h : Hour
-  h = hourOf hourly s
+  h = hourIn s
 
   -- what settling refuses, an explanation refuses alike
   pub rows-refused-alike : (verdict (hourRows s) ≡ accepted → ⊥) → verdict (explainRows s m) ≡ verdict (hourRows s)
@@ -105,7 +105,7 @@ explains h m there = record {
 
 module _ (s : List ℕ) (b : Buffers) (m : ℕ) (a : Accepts s b) where
   abbrev g : Hour
-  g = hourOf hourly s
+  g = hourIn s
 
   line-amount : m < members g → getD (settle s b .buffers .lines) m emptyLine .amount ≡ amount g m
   unfolding filled lineOf

@@ -16,7 +16,7 @@ use Rattle.rules.specs.Record.{Hour, members}
 use Rattle.rules.specs.Share.{allDemand}
 use Rattle.rules.specs.Charge.{charge}
 use Rattle.rules.specs.Neutrality.{memberDemand, hourDemand, neutrality, final}
-use Rattle.rules.specs.HourFile.{hourly, hourOf}
+use Rattle.rules.specs.HourFile.{hourIn}
 use Rattle.rules.specs.Refusals.{accepted, verdict, noDemand, tableRows, hourRows, fileRows}
 use Rattle.rules.specs.Settling.{Buffers, filled}
 use Rattle.rules.specs.Promises.{AllWhole}
@@ -34,7 +34,7 @@ shareable h whole z =
     let some = no-place (eqb (hourDemand h) 0 && not (eqb (natAbs (neutrality h)) 0)) whole in
     abs-zero (neutrality h) (eqb-true _ _ (not-false _ (rw (eq-eqb (hourDemand h) 0 z) at some)))
 
-row-12 : (s : List ℕ) → AllWhole (hourRows s) → noDemand (hourOf hourly s) ≡ none
+row-12 : (s : List ℕ) → AllWhole (hourRows s) → noDemand (hourIn s) ≡ none
 unfolding hourRows tableRows
 row-12 s w = w .1 .1 .1 .1 .1 .1 .1 .1 .0
 
@@ -55,13 +55,13 @@ products {h} kept m l =
     let d : memberDemand h m ≤ 25000000 = omega (arith, sum-at (memberDemand h) (members h) m l, hour-demand-most kept) in
     omega (arith, mul-le-mul d (neutrality-under kept .under))
 
-passed : (s : List ℕ) → verdict (fileRows s) ≡ accepted → HourKept (hourOf hourly s)
+passed : (s : List ℕ) → verdict (fileRows s) ≡ accepted → HourKept (hourIn s)
 passed s e = file-kept s (accepts-when-whole (fileRows s) (file-numbered s) .0 e) .hour-kept
 
 pub neutrality-shared : Neutrality
 neutrality-shared = record {
   settled = λ s b a.
-      let h = hourOf hourly s in
+      let h = hourIn s in
       let p = settle-whole s b a in
       rw (settle-fills s b a .0) (filled-neutral h b (buffers-room h b (p .1)) (row-12 s (p .0)));
   all-demand = λ s e. hour-demand-by-area (passed s e);

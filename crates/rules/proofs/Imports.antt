@@ -9,7 +9,7 @@ use lib.ListN.{length, take}
 use Rattle.whole.proofs.Tests.{split}
 use Rattle.whole.proofs.Search.{first-some}
 use Rattle.rules.specs.Record.{Hour, members, areas, kindOf}
-use Rattle.rules.specs.HourFile.{hourly, hourOf}
+use Rattle.rules.specs.HourFile.{hourly, hourIn}
 use Rattle.rules.specs.HourWords.{hourFrom}
 use Rattle.rules.specs.Ranges.{rulesOf, recordRule}
 use Rattle.rules.specs.Refusals.{accepted, refusedAt, verdict, isBroken, badWord, badRecord, tableRows, fileRows, writerRows}
@@ -34,7 +34,7 @@ module _ {h : Hour} {i : ℕ} (m : FirstMetered h i) where
   record-broken = first-some (λ j. isBroken (badWord h j)) (h .count) i .1 (m .there, word-broken, λ j l. rw (m .before j l))
 
 metered-refused : (s : List ℕ) (b : Buffers) (i : ℕ) → verdict (take 4 (fileRows s)) ≡ accepted →
-    FirstMetered (hourOf hourly s) i → settle s b .verdict ≡ refusedAt 5 i
+    FirstMetered (hourIn s) i → settle s b .verdict ≡ refusedAt 5 i
 unfolding verdict tableRows fileRows
 metered-refused s b i passed m =
     let whole = accepts-when-whole (take 4 (fileRows s)) (omega arith) .0 passed in

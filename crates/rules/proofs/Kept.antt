@@ -19,7 +19,7 @@ use Rattle.rules.specs.declared.Layout.{Layout}
 use Rattle.rules.specs.declared.Rule.{Rule}
 use Rattle.rules.specs.Record.{Hour, members, zones, areas, zonePrice, zoneOf, tieIn, tieOut, memberOf, areaOf}
 use Rattle.rules.specs.Record.{kindOf, isGenerator, isImport, signed, actual, entry, entryOf}
-use Rattle.rules.specs.HourFile.{hourly, lengthBad, blocks, blockWord, recordCount, hourOf}
+use Rattle.rules.specs.HourFile.{hourly, lengthBad, blocks, blockWord, recordCount, hourOf, hourIn}
 use Rattle.rules.specs.Ranges.{firstBroken, mustBeZero, countRule, blockRule, areaRule, headRule, rulesOf, recordRule}
 use Rattle.rules.specs.Refusals.{isBroken, badLength, badBlock, badHead, badWord, badRecord, tableRows, fileRows, hourRows}
 use Rattle.rules.specs.Promises.{AllWhole}
@@ -203,7 +203,7 @@ module _ (s : List ℕ) (length-whole : badLength hourly s ≡ none) (blocks-who
   length-good = no-place (lengthBad hourly s) length-whole
 
   -- at most 26 blocks: 24 full ones between the first and the last
-  count-most : hourOf hourly s .count ≤ 250
+  count-most : hourIn s .count ≤ 250
   unfolding hourOf recordCount
   count-most = let n = length-is-whole hourly s length-good in split (leb (blocks s) 1)
       (λ e. rw e zero-le)
@@ -215,7 +215,7 @@ module _ (s : List ℕ) (length-whole : badLength hourly s ≡ none) (blocks-who
 pub file-kept : (s : List ℕ) → AllWhole (fileRows s) → FileKept s
 unfolding fileRows tableRows
 file-kept s e =
-    let h = hourOf hourly s in
+    let h = hourIn s in
     record {
       length-good = length-good s (e .0) (e .1 .1 .0);
       hour-kept = hour-kept h (e .1 .1 .1 .0) (e .1 .1 .1 .1 .0) (count-most s (e .0) (e .1 .1 .0));

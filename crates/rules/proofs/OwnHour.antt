@@ -13,7 +13,7 @@ use Rattle.whole.proofs.Tests.{split}
 use Rattle.whole.proofs.Tables.{at-each}
 use Rattle.whole.proofs.Search.{first-none}
 use Rattle.rules.specs.Record.{Hour}
-use Rattle.rules.specs.HourFile.{hourly, blocks, blockWord, blockSum, recordCount, recordWord, hourOf}
+use Rattle.rules.specs.HourFile.{hourly, blocks, blockWord, blockSum, recordCount, recordWord, hourOf, hourIn}
 use Rattle.rules.specs.HourWords.{closing, blocksFor, heldIn, bodyWord, openWord, fileWord, fileLength}
 use Rattle.rules.specs.Ranges.{firstBroken, countRule, blockRule}
 use Rattle.rules.specs.Refusals.{badSum, badBlock, tableRows, fileRows}
@@ -31,7 +31,7 @@ only-value p = omega (arith, p)
 
 module _ (s : List ℕ) (bytes : AreBytes s) (whole : AllWhole (fileRows s)) where
   abbrev h : Hour
-  h = hourOf hourly s
+  h = hourIn s
 
   abbrev N : ℕ
   N = blocks s

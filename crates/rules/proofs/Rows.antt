@@ -16,7 +16,7 @@ use Rattle.rules.specs.declared.Answer.{Answer}
 use Rattle.rules.specs.declared.Answer.the-variants.{Accepted, BadLength, BadSum, BadBlock, BadHead, BadRecord, BadArea, BadAmount}
 use Rattle.rules.specs.declared.Answer.the-variants.{OutOfRange, TooNarrow, NotAnAmount, TooShort, NoDemand, NoMember, AboveMaximum}
 use Rattle.rules.specs.Record.{Hour}
-use Rattle.rules.specs.HourFile.{hourly, hourOf}
+use Rattle.rules.specs.HourFile.{hourIn}
 use Rattle.rules.specs.Refusals.{Row, row, Verdict, accepted, refusedAt, verdictOf, verdict, placeZeroIf}
 use Rattle.rules.specs.Refusals.{badArea, badAmount, noDemand, tooShort}
 use Rattle.rules.specs.Refusals.{tableRows, fileRows, hourRows, writeRows}
@@ -155,7 +155,7 @@ no-place false e = refl
 
 module _ (s : List ℕ) where
   abbrev h : Hour
-  h = hourOf hourly s
+  h = hourIn s
 
   pub file-numbered : Numbered (fileRows s)
   unfolding fileRows tableRows
@@ -223,7 +223,7 @@ module _ (s : List ℕ) (b : Buffers) where
 
   -- accepted: every row but 11 is whole, and no buffer is too short
   pub settle-whole : Accepts s b → AllWhole (hourRows s)
-      × (shortOf (hourOf hourly s) b ≡ none)
+      × (shortOf (hourIn s) b ≡ none)
   settle-whole a = table-whole s _ _ _ _ _ (settle-accepts .0 a)
 
   pub settle-refuses : (n p : ℕ) → (settle s b .verdict ≡ refusedAt (suc n) p) ↔ FirstBrokenRow (settleRows s b) (suc n) p
@@ -238,7 +238,7 @@ module _ (s : List ℕ) (b : Buffers) where
       (λ e. rw e (refl, refl))
 
   -- accepted: the buffers are filled, and the UFE figures are the areas'
-  pub settle-fills : Accepts s b → (settle s b .buffers ≡ filled (hourOf hourly s) b) × (settle s b .ufe ≡ ufeFigures (hourOf hourly s))
+  pub settle-fills : Accepts s b → (settle s b .buffers ≡ filled (hourIn s) b) × (settle s b .ufe ≡ ufeFigures (hourIn s))
   unfolding settle
   settle-fills a = rw (sym settle-verdict ∙ a) (refl, refl)
 

@@ -17,7 +17,7 @@ use Rattle.whole.proofs.Sums.{sum-ext}
 use Rattle.whole.proofs.Search.{none-below}
 use Rattle.whole.proofs.Buffers.{length-values, getD-values}
 use Rattle.rules.specs.Record.{Hour}
-use Rattle.rules.specs.HourFile.{hourly, blocks, blockWord, blockSum, lengthBad, recordCount, recordWord, hourOf}
+use Rattle.rules.specs.HourFile.{hourly, blocks, blockWord, blockSum, lengthBad, recordCount, recordWord, hourOf, hourIn}
 use Rattle.rules.specs.HourWords.{byteOf, blocksFor, heldIn, bodyWord, openWord, fileWord, fileByte, fileLength, fileOf}
 use Rattle.rules.specs.Ranges.{firstBroken}
 use Rattle.rules.specs.Refusals.{isBroken, badLength, badSum, badBlock}
@@ -144,7 +144,7 @@ same-hour g h heads counts recs =
     ∙ ap (λ (k : ℕ). record { head = h .head; count = k; rec = g .rec }) counts
     ∙ ap (λ (f : ℕ → ℕ → ℕ). record { head = h .head; count = h .count; rec = f }) (fun-ext (λ i. fun-ext (recs i)))
 
-pub says-holds : (s : List ℕ) (h : Hour) → Says s h → OfWords h → hourOf hourly s ≡ h
+pub says-holds : (s : List ℕ) (h : Hour) → Says s h → OfWords h → hourIn s ≡ h
 unfolding hourOf
 says-holds s h says of-words = same-hour _ h
     (λ w. split (leb 8 w && ltb w 128)

@@ -12,7 +12,7 @@ use Rattle.rules.specs.Record.{Hour, hourNumber, members}
 use Rattle.rules.specs.Charge.{charge}
 use Rattle.rules.specs.Neutrality.{final}
 use Rattle.rules.specs.Text.{digitByte, bytes}
-use Rattle.rules.specs.HourFile.{hourly, hourOf}
+use Rattle.rules.specs.HourFile.{hourIn}
 use Rattle.rules.specs.Refusals.{accepted, verdict, hourRows}
 use Rattle.rules.specs.Settling.{Written, read}
 use Rattle.rules.specs.Statement.{firstLine, column, memberLine, memberLines, acceptedLines, statement}
@@ -94,9 +94,9 @@ module _ (h : Hour) where
 
 -- ---- read, each column gives the member's amount
 
-module _ (s : List ℕ) (e : verdict (hourRows s) ≡ accepted) (m : ℕ) (l : m < members (hourOf hourly s)) where
+module _ (s : List ℕ) (e : verdict (hourRows s) ≡ accepted) (m : ℕ) (l : m < members (hourIn s)) where
   abbrev h : Hour
-  h = hourOf hourly s
+  h = hourIn s
 
   pub charge-read : read (chargeColumn h m (statement s)) ≡ record { verdict = accepted; amount = charge h m }
   charge-read = rw (statement-accepted s e, charge-column h m l)

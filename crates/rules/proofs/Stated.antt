@@ -13,7 +13,7 @@ use Rattle.whole.proofs.Tests.{split}
 use Rattle.rules.specs.Record.{Hour, hourNumber, members}
 use Rattle.rules.specs.Charge.{charge}
 use Rattle.rules.specs.Neutrality.{final}
-use Rattle.rules.specs.HourFile.{hourly, lengthBad, hourOf, blockWord}
+use Rattle.rules.specs.HourFile.{lengthBad, hourOf, blockWord, hourIn}
 use Rattle.rules.specs.Refusals.{Verdict, accepted, refusedAt, verdict, badLength, tooShort, tableRows, hourRows}
 use Rattle.rules.specs.Settling.{isAccepted}
 use Rattle.rules.specs.Statement.{firstLine, column, memberLine, memberLines, acceptedLines, refusedLine, statement}
@@ -37,7 +37,7 @@ pub room-for-all : (s : List ℕ) (charges finals lines shares deviations : ℕ)
 unfolding tooShort
 room-for-all s c f l n d pc pf pl pn pd = ap verdict (table-in-parts s c f l n d) ∙ last-decides-nothing (hourRows s) 11 _ (λ whole.
     let k = passed-kept s whole .hour-kept in
-    let h = hourOf hourly s in
+    let h = hourIn s in
     rw (
       le-ltb c (members h) (omega (arith, k .members-most)),
       le-ltb f (members h) (omega (arith, k .members-most)),
@@ -47,7 +47,7 @@ room-for-all s c f l n d pc pf pl pn pd = ap verdict (table-in-parts s c f l n d
     ) refl)
 
 module _ (s : List ℕ) where
-  pub statement-accepted : verdict (hourRows s) ≡ accepted → statement s ≡ acceptedLines (hourOf hourly s)
+  pub statement-accepted : verdict (hourRows s) ≡ accepted → statement s ≡ acceptedLines (hourIn s)
   unfolding statement
   statement-accepted e = rw e
 
@@ -92,7 +92,7 @@ pub refused-line-most : (v : Verdict) → length (refusedLine v) ≤ 53
 unfolding refusedLine
 refused-line-most v = simp length-append (omega (arith, decimal-at-most-20 (v .number), decimal-at-most-20 (v .place)))
 
-pub hour-number-most : (s : List ℕ) → ((i : ℕ) → getD s i 0 < 256) → hourNumber (hourOf hourly s) < 2 ^ 32
+pub hour-number-most : (s : List ℕ) → ((i : ℕ) → getD s i 0 < 256) → hourNumber (hourIn s) < 2 ^ 32
 unfolding hourOf blockWord
 hour-number-most s b = word-most s b 8
 
@@ -100,7 +100,7 @@ hour-number-most s b = word-most s b 8
 pub statement-fits : (s : List ℕ) → ((i : ℕ) → getD s i 0 < 256) → length (statement s) ≤ 1095
 statement-fits s b = split (isAccepted (verdict (hourRows s)))
     (λ t. let a = zero-accepts (hourRows s) (hour-numbered s) (eqb-true _ _ t) in
-    rw (statement-accepted s a) (accepted-lines-most (hourOf hourly s) (accepted-kept s a .hour-kept) (hour-number-most s b)))
+    rw (statement-accepted s a) (accepted-lines-most (hourIn s) (accepted-kept s a .hour-kept) (hour-number-most s b)))
     (λ t. rw (statement-refused s (eqb-false _ _ t)) (omega (arith, refused-line-most (verdict (hourRows s)))))
 
 -- ---- of a cut input

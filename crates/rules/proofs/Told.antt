@@ -19,7 +19,7 @@ use Rattle.rules.specs.Record.{Hour, hourNumber, members, areas}
 use Rattle.rules.specs.Charge.{charge}
 use Rattle.rules.specs.Neutrality.{hourDemand, neutrality, final}
 use Rattle.rules.specs.Text.{bytes, decimal, digitCount, digitsValue}
-use Rattle.rules.specs.HourFile.{hourly, lengthBad, word, blocks, blockWord, recordCount, hourOf}
+use Rattle.rules.specs.HourFile.{hourly, lengthBad, word, blocks, blockWord, recordCount, hourOf, hourIn}
 use Rattle.rules.specs.Ranges.{firstBroken}
 use Rattle.rules.specs.Refusals.{Row, row, Verdict, accepted, refusedAt, verdict, placeZeroIf, tableRows, hourRows}
 use Rattle.rules.specs.Refusals.{badLength, badSum, badBlock, badHead, badRecord, aboveMaximum, badArea, badAmount, noDemand}
@@ -78,14 +78,14 @@ first-small : (q : ℕ → Bool) (n : ℕ) → n ≤ 10 ^ 20 → (p : ℕ) → f
 first-small q n l p e = let f = first-some q n p .0 e in omega (arith, f .0)
 
 module _ (s : List ℕ) (b : AreBytes s) where
-  count-small : length s ≤ 13312 → hourOf hourly s .count ≤ 10 ^ 20
+  count-small : length s ≤ 13312 → hourIn s .count ≤ 10 ^ 20
   unfolding hourOf recordCount blocks blockWord
   count-small l =
       let n = length s / 512 in
       let held = 128 * (n - 1) + 2 in
       cond-ind (leb n 1) 0 (10 * (n - 2) + word s held) (λ k. k ≤ 10 ^ 20) (λ t. omega arith) (λ t. omega (arith, word-most s b held))
 
-  head-small : (w : ℕ) → hourOf hourly s .head w ≤ 10 ^ 20
+  head-small : (w : ℕ) → hourIn s .head w ≤ 10 ^ 20
   unfolding hourOf blockWord
   head-small w = cond-ind (leb 8 w && ltb w 128) (word s (128 * 0 + w)) 0 (λ n. n ≤ 10 ^ 20)
       (λ t. omega (arith, word-most s b (128 * 0 + w)))
@@ -98,7 +98,7 @@ module _ (s : List ℕ) (b : AreBytes s) where
   rows-small : length s ≤ 13312 → SmallRows (hourRows s)
   unfolding hourRows tableRows badLength badSum badBlock badHead badRecord aboveMaximum badArea badAmount noDemand firstBroken
   rows-small l =
-      let h = hourOf hourly s in
+      let h = hourIn s in
       small-row 1 (omega arith) (zero-small (lengthBad hourly s)) (
       small-row 2 (omega arith) (first-small _ (blocks s) (blocks-small l)) (
       small-row 3 (omega arith) (first-small _ (blocks s) (blocks-small l)) (
@@ -173,10 +173,10 @@ accepted-by-number s t = zero-accepts (hourRows s) (hour-numbered s) (eqb-true _
 
 module _ (s t : List ℕ) (same : statement s ≡ statement t) where
   abbrev h : Hour
-  h = hourOf hourly s
+  h = hourIn s
 
   abbrev g : Hour
-  g = hourOf hourly t
+  g = hourIn t
 
   first-letter : getD (statement s) 0 0 ≡ getD (statement t) 0 0
   first-letter = ap (λ (l : List ℕ). getD l 0 0) same

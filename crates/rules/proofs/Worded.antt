@@ -14,7 +14,7 @@ use borrow.Author.Tests.{leb-true, leb-false, lt-ltb, le-ltb, ne-eqb}
 use Rattle.whole.proofs.Tests.{split}
 use Rattle.whole.proofs.Linear.{le↓, lt↓}
 use Rattle.rules.specs.Text.{bytes, decimal}
-use Rattle.rules.specs.HourFile.{hourly, hourOf}
+use Rattle.rules.specs.HourFile.{hourIn}
 use Rattle.rules.specs.Refusals.{Verdict, accepted, refusedAt, verdict, hourRows, explainRows}
 use Rattle.rules.specs.Settling.{isAccepted}
 use Rattle.rules.specs.Statement.{refusedLine}
@@ -72,7 +72,7 @@ explanation-lines-most hs d = simp length-append (omega (
 
 module _ (s : List ℕ) where
   pub explanation-accepted : verdict (askedRows s) ≡ accepted →
-      explanation s ≡ explanationLines (heads (hourOf hourly (hourAsked s)) (memberAsked s)) (decided (hourOf hourly (hourAsked s)) (memberAsked s))
+      explanation s ≡ explanationLines (heads (hourIn (hourAsked s)) (memberAsked s)) (decided (hourIn (hourAsked s)) (memberAsked s))
   unfolding explanation
   explanation-accepted e = rw e refl
 

@@ -14,7 +14,7 @@ use Rattle.whole.specs.Below.{valuesBelow, replacingFirst}
 use Rattle.whole.proofs.Tests.{split, both, neither}
 use Rattle.whole.proofs.Buffers.{length-values, getD-values, length-replacing, drop-replacing}
 use Rattle.rules.specs.Record.{Hour}
-use Rattle.rules.specs.HourFile.{hourly, blockWord, recordCount, recordWord, hourOf}
+use Rattle.rules.specs.HourFile.{hourly, blockWord, recordCount, recordWord, hourOf, hourIn}
 use Rattle.rules.specs.HourWords.{hourFrom, headWords, recordWords, fileByte, fileLength, fileOf}
 use Rattle.rules.specs.Refusals.{Verdict, accepted, refusedAt, verdict, badLists, badHead, badRecord, aboveMaximum, noRoom}
 use Rattle.rules.specs.Refusals.{tableRows, fileRows, writerRows}
@@ -109,7 +109,7 @@ module _ (head records : List ℕ) where
         (fileLength hourly h) (length-values (fileByte hourly h) (fileLength hourly h)))
 
     read-back : AreWords head → AreWords records → w .verdict ≡ accepted →
-        (verdict (fileRows (fileIn w)) ≡ accepted) × (hourOf hourly (fileIn w) ≡ h)
+        (verdict (fileRows (fileIn w)) ≡ accepted) × (hourIn (fileIn w) ≡ h)
     unfolding writerRows fileRows tableRows
     read-back head-words record-words e =
         let whole = accepts .0 e in
@@ -146,7 +146,7 @@ module _ (s : List ℕ) where
   unfolding recordWords
   records-length = length-values (λ k. recordWord hourly s (k / 12) (k % 12)) (12 * recordCount hourly s)
 
-  own-lists : hourFrom hourly (headWords s) (recordWords hourly s) ≡ hourOf hourly s
+  own-lists : hourFrom hourly (headWords s) (recordWords hourly s) ≡ hourIn s
   unfolding hourFrom hourOf headWords recordWords
   own-lists = same-hour _ _ heads count-is recs
     where
@@ -156,13 +156,13 @@ module _ (s : List ℕ) where
       count-is : length (recordWords hourly s) / 12 ≡ c
       count-is = omega (arith, records-length)
 
-      heads : (w : ℕ) → hourFrom hourly (headWords s) (recordWords hourly s) .head w ≡ hourOf hourly s .head w
+      heads : (w : ℕ) → hourFrom hourly (headWords s) (recordWords hourly s) .head w ≡ hourIn s .head w
       heads w = split (leb 8 w && ltb w 128)
           (λ t. let p = both (leb 8 w) (ltb w 128) t in let e : 8 + (w - 8) ≡ w = omega (arith, leb-true 8 w (p .0)) in
           rw t (getD-values _ 120 (w - 8) 0 (omega (arith, leb-true 8 w (p .0), ltb-true w 128 (p .1))) ∙ ap (blockWord s 0) e))
           (λ t. rw t refl)
 
-      recs : (i w : ℕ) → hourFrom hourly (headWords s) (recordWords hourly s) .rec i w ≡ hourOf hourly s .rec i w
+      recs : (i w : ℕ) → hourFrom hourly (headWords s) (recordWords hourly s) .rec i w ≡ hourIn s .rec i w
       recs i w = rw count-is (split (ltb i c && ltb w 12)
           (λ t. let p = both (ltb i c) (ltb w 12) t in
           let there : 12 * i + w < 12 * c = omega (arith, ltb-true i c (p .0), ltb-true w 12 (p .1)) in
@@ -175,8 +175,8 @@ module _ (s : List ℕ) where
     whole : AllWhole (fileRows s)
     whole = accepts-when-whole (fileRows s) (file-numbered s) .0 passes
 
-    own-file : fileOf hourly (hourOf hourly s) ≡ s
-    own-file = only-file s (hourOf hourly s) bytes (own-hour s bytes whole)
+    own-file : fileOf hourly (hourIn s) ≡ s
+    own-file = only-file s (hourIn s) bytes (own-hour s bytes whole)
 
     -- nothing that the writer checks is broken
     own-lists-pass : (room : ℕ) → length s ≤ room → AllWhole (writerRows (headWords s) (recordWords hourly s) room)
@@ -194,7 +194,7 @@ module _ (s : List ℕ) where
           (
             ap aboveMaximum own-lists ∙ whole .1 .1 .1 .1 .1 .0,
             (
-              rw (own-lists, le-ltb room (fileLength hourly (hourOf hourly s)) (omega (arith, own-hour s bytes whole .length-is, enough)))
+              rw (own-lists, le-ltb room (fileLength hourly (hourIn s)) (omega (arith, own-hour s bytes whole .length-is, enough)))
                   refl,
               tt,
             ),
@@ -212,7 +212,7 @@ module _ (s : List ℕ) where
     unfolding replacingFirst fileOf
     same-bytes file enough =
         let passed = accepts (headWords s) (recordWords hourly s) file .1 (own-lists-pass (length file) enough) in
-        let length-is : fileLength hourly (hourOf hourly s) ≡ length s = sym (own-hour s bytes whole .length-is) in
+        let length-is : fileLength hourly (hourIn s) ≡ length s = sym (own-hour s bytes whole .length-is) in
         written (headWords s) (recordWords hourly s) file passed
         ∙ rw (own-lists, length-is) (ap (λ (l : List ℕ). record { verdict = accepted; length = length s; file = l ++ drop (length s) file })
         (rw length-is at own-file))

@@ -7,7 +7,7 @@ use lib.ListN.{length, take}
 use lib.Signed.{_≤ℤ_, _<ℤ_}
 use Rattle.rules.specs.declared.Kind.the-variants.{Generator}
 use Rattle.rules.specs.Record.{Hour, entryOf}
-use Rattle.rules.specs.HourFile.{hourly, hourOf}
+use Rattle.rules.specs.HourFile.{hourly, hourIn}
 use Rattle.rules.specs.HourWords.{hourFrom}
 use Rattle.rules.specs.Refusals.{Row, Verdict, accepted, refusedAt, verdict, fileRows, writerRows}
 use Rattle.rules.specs.Settling.{Buffers, settle, writeHour}
@@ -36,8 +36,8 @@ pub record HeldToMaximum (before : List Row) (h : Hour) (answered : Verdict) : T
 
 pub record Engines : Type 0 where
   -- behind rows 1 to 5, over the whole file
-  pub settled : (s : List ℕ) (b : Buffers) → HeldToMaximum (take 5 (fileRows s)) (hourOf hourly s) (settle s b .verdict)
-  pub explained : (s : List ℕ) (m : ℕ) → HeldToMaximum (take 5 (fileRows s)) (hourOf hourly s) (explain s m .verdict)
+  pub settled : (s : List ℕ) (b : Buffers) → HeldToMaximum (take 5 (fileRows s)) (hourIn s) (settle s b .verdict)
+  pub explained : (s : List ℕ) (m : ℕ) → HeldToMaximum (take 5 (fileRows s)) (hourIn s) (explain s m .verdict)
   -- of the writer, behind rows 1, 4 and 5
   pub written : (head records file : List ℕ) →
       HeldToMaximum (take 3 (writerRows head records (length file))) (hourFrom hourly head records) (writeHour head records file .verdict)

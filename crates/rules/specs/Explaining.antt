@@ -11,7 +11,7 @@ use lib.ListN.{getD}
 use Rattle.whole.specs.Below.{totalBelow}
 use Rattle.rules.specs.Record.{Hour, members, zones, zonePrice, entryOf, isGenerator, isLoad, isImport, isExport}
 use Rattle.rules.specs.Charge.{shareOf}
-use Rattle.rules.specs.HourFile.{hourly, hourOf}
+use Rattle.rules.specs.HourFile.{hourIn}
 use Rattle.rules.specs.Refusals.{accepted, refusedAt, verdict, hourRows, explainRows}
 use Rattle.rules.specs.Settling.{Buffers, settle, emptyLine}
 use Rattle.rules.specs.Explanation.{noHeads, headAt, sameSign, explain}
@@ -54,11 +54,11 @@ pub record Explaining : Type 0 where
   pub nothing-said : (s : List ℕ) (m : ℕ) → (explain s m .verdict ≡ accepted → ⊥) →
       (explain s m .heads ≡ noHeads) × (explain s m .decided ≡ none)
   -- an hour that settling accepts, into any buffers, is explained to each of its members, by the line and the charge that settling wrote
-  pub explained : (s : List ℕ) (b : Buffers) (m : ℕ) → Accepts s b → m < members (hourOf hourly s) →
+  pub explained : (s : List ℕ) (b : Buffers) (m : ℕ) → Accepts s b → m < members (hourIn s) →
       (explain s m .verdict ≡ accepted)
-      × Explains (hourOf hourly s) m
+      × Explains (hourIn s) m
       (getD (settle s b .buffers .lines) m emptyLine .amount) (getD (settle s b .buffers .charges) m (pos 0))
       (explain s m .heads) (explain s m .decided)
   -- and to nobody else; 13 comes last
-  pub no-member : (s : List ℕ) (b : Buffers) (m : ℕ) → Accepts s b → members (hourOf hourly s) ≤ m → explain s m .verdict ≡ refusedAt 13 0
+  pub no-member : (s : List ℕ) (b : Buffers) (m : ℕ) → Accepts s b → members (hourIn s) ≤ m → explain s m .verdict ≡ refusedAt 13 0
   pub refused-alike : (s : List ℕ) (m : ℕ) → (verdict (hourRows s) ≡ accepted → ⊥) → explain s m .verdict ≡ verdict (hourRows s)

@@ -15,7 +15,7 @@ use Rattle.rules.specs.Deviation.{generatorDeviation, loadDeviation, imp
 use Rattle.rules.specs.Share.{firstLargest}
 use Rattle.rules.specs.Charge.{shareOf, charge}
 use Rattle.rules.specs.Text.{bytes, decimal}
-use Rattle.rules.specs.HourFile.{hourly, hourOf, word}
+use Rattle.rules.specs.HourFile.{word, hourIn}
 use Rattle.rules.specs.Refusals.{Row, row, Verdict, verdict, placeZeroIf, explainRows}
 use Rattle.rules.specs.Settling.{isAccepted}
 use Rattle.rules.specs.Statement.{refusedLine}
@@ -66,7 +66,7 @@ pub record Explanation : Type 0 where
   pub decided : Option ℕ
 
 unfoldable pub explain : (file : List ℕ) (member : ℕ) → Explanation
-explain s m = let v = verdict (explainRows s m) in let h = hourOf hourly s in
+explain s m = let v = verdict (explainRows s m) in let h = hourIn s in
     cond (isAccepted v)
     (record { verdict = v; heads = heads h m; decided = decided h m })
     (record { verdict = v; heads = noHeads; decided = none })
@@ -112,5 +112,5 @@ module _ (s : List ℕ) where
 
   -- the six lines, or the refusal's
   unfoldable pub explanation : List ℕ
-  explanation = let v = verdict askedRows in let h = hourOf hourly hourAsked in
+  explanation = let v = verdict askedRows in let h = hourIn hourAsked in
       cond (isAccepted v) (explanationLines (heads h memberAsked) (decided h memberAsked)) (refusedLine v)

@@ -11,7 +11,7 @@ use Rattle.rules.specs.Record.{Hour, hourNumber, members, areas}
 use Rattle.rules.specs.Ufe.{demands}
 use Rattle.rules.specs.Charge.{charge}
 use Rattle.rules.specs.Neutrality.{everyMember, memberDemand, hourDemand, neutrality, final}
-use Rattle.rules.specs.HourFile.{hourly, hourOf}
+use Rattle.rules.specs.HourFile.{hourIn}
 use Rattle.rules.specs.Refusals.{accepted, verdict, hourRows, fileRows}
 use Rattle.rules.specs.Settling.{Buffers, settle, read}
 use Rattle.rules.specs.Statement.{firstLine, statement}
@@ -38,11 +38,11 @@ pub record NeutralOutcome (h : Hour) (before after : Buffers) : Type 0 where
   pub same-length : length (after .finals) ≡ length (before .finals)
 
 pub record Neutrality : Type 0 where
-  pub settled : (s : List ℕ) (b : Buffers) → Accepts s b → NeutralOutcome (hourOf hourly s) b (settle s b .buffers)
+  pub settled : (s : List ℕ) (b : Buffers) → Accepts s b → NeutralOutcome (hourIn s) b (settle s b .buffers)
   -- all loads, all areas: of every file that passes rows 1 to 5 and 14 the members demand together what the areas do
-  pub all-demand : (s : List ℕ) → verdict (fileRows s) ≡ accepted → let h = hourOf hourly s in hourDemand h ≡ sumBelow (demands h) (areas h)
+  pub all-demand : (s : List ℕ) → verdict (fileRows s) ≡ accepted → let h = hourIn s in hourDemand h ≡ sumBelow (demands h) (areas h)
   -- the products stay below 10^19, of every such file
-  pub products : (s : List ℕ) → verdict (fileRows s) ≡ accepted → let h = hourOf hourly s in (m : ℕ) → m < members h →
+  pub products : (s : List ℕ) → verdict (fileRows s) ≡ accepted → let h = hourIn s in (m : ℕ) → m < members h →
       memberDemand h m * natAbs (neutrality h) < 10000000000000000000
 
 -- ---- the sheet tells charges and finals
@@ -62,11 +62,11 @@ module _ (h : Hour) (m : ℕ) where
 -- two files of which the same is to be said: refused alike, or the same hour number and counts, and the same charges and finals
 pub record SameSheet (s t : List ℕ) : Type 0 where
   pub verdict-is : verdict (hourRows s) ≡ verdict (hourRows t)
-  pub head-is : verdict (hourRows s) ≡ accepted → let h = hourOf hourly s in let g = hourOf hourly t in
+  pub head-is : verdict (hourRows s) ≡ accepted → let h = hourIn s in let g = hourIn t in
       (hourNumber h ≡ hourNumber g) × (members h ≡ members g) × (h .count ≡ g .count)
-  pub charge-is : verdict (hourRows s) ≡ accepted → let h = hourOf hourly s in let g = hourOf hourly t in
+  pub charge-is : verdict (hourRows s) ≡ accepted → let h = hourIn s in let g = hourIn t in
       (m : ℕ) → m < members h → charge h m ≡ charge g m
-  pub final-is : verdict (hourRows s) ≡ accepted → let h = hourOf hourly s in let g = hourOf hourly t in
+  pub final-is : verdict (hourRows s) ≡ accepted → let h = hourIn s in let g = hourIn t in
       (m : ℕ) → m < members h → final h m ≡ final g m
 
 abbrev pub AreBytes : List ℕ → Type 0
@@ -74,7 +74,7 @@ AreBytes s = (i : ℕ) → getD s i 0 < 256
 
 pub record Sheet : Type 0 where
   -- read, each column gives the member's amount
-  pub read-back : (s : List ℕ) → verdict (hourRows s) ≡ accepted → let h = hourOf hourly s in (m : ℕ) → m < members h →
+  pub read-back : (s : List ℕ) → verdict (hourRows s) ≡ accepted → let h = hourIn s in (m : ℕ) → m < members h →
       (read (chargeColumn h m (statement s)) ≡ record { verdict = accepted; amount = charge h m })
       × (read (finalColumn h m (statement s)) ≡ record { verdict = accepted; amount = final h m })
   -- no two different settlements print the same sheet

@@ -54,3 +54,7 @@ module _ (l : Layout) (s : List ℕ) where
     count = recordCount;
     rec = λ i w. cond (ltb i recordCount && ltb w (l .words)) (recordWord i w) 0;
   }
+
+-- a file as an hour, in the first release's layout
+abbrev pub hourIn : List ℕ → Hour
+hourIn s = hourOf hourly s

@@ -6,7 +6,7 @@ use mathlib.Core.Option.{none}
 use mathlib.Core.List.{List}
 use lib.ListN.{length, take}
 use Rattle.rules.specs.Record.{Hour}
-use Rattle.rules.specs.HourFile.{hourly, hourOf}
+use Rattle.rules.specs.HourFile.{hourly, hourIn}
 use Rattle.rules.specs.HourWords.{hourFrom}
 use Rattle.rules.specs.Refusals.{accepted, refusedAt, verdict, badWord, fileRows, writerRows}
 use Rattle.rules.specs.Settling.{Buffers, settle, writeHour}
@@ -21,7 +21,7 @@ pub record FirstMetered (h : Hour) (i : ℕ) : Type 0 where
 pub record Imports : Type 0 where
   -- 5, of every file that passes rows 1 to 4, whatever else that record breaks
   pub refused : (s : List ℕ) (b : Buffers) (i : ℕ) → verdict (take 4 (fileRows s)) ≡ accepted →
-      FirstMetered (hourOf hourly s) i → settle s b .verdict ≡ refusedAt 5 i
+      FirstMetered (hourIn s) i → settle s b .verdict ≡ refusedAt 5 i
   -- and of lists that pass the writer's rows 1 and 4
   pub unwritten : (head records file : List ℕ) (i : ℕ) → verdict (take 2 (writerRows head records (length file))) ≡ accepted →
       FirstMetered (hourFrom hourly head records) i → writeHour head records file .verdict ≡ refusedAt 5 i

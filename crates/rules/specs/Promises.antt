@@ -17,7 +17,7 @@ use Rattle.rules.specs.Share.{allDemand, wholePart, remainder, unitsLeft
 use Rattle.rules.specs.Charge.{entering, shareOf, recordsOf, cents, charge, poolTotal}
 use Rattle.rules.specs.Neutrality.{final}
 use Rattle.rules.specs.Text.{bytes, digitByte, amountText, amountField}
-use Rattle.rules.specs.HourFile.{hourly, hourOf}
+use Rattle.rules.specs.HourFile.{hourIn}
 use Rattle.rules.specs.Refusals.{Row, row, accepted, refusedAt, verdictOf, verdict, hourRows, writeRows, readRows}
 use Rattle.rules.specs.Settling.{Buffers, settle, settleRows, noFigures, write, read, emptyLine}
 use Rattle.rules.specs.Statement.{memberLine}
@@ -100,14 +100,14 @@ pub record ByFormula (h : Hour) (before : Buffers) (ufes : List ℤ) (after : Bu
       × (length (after .shares) ≡ length (before .shares)) × (length (after .deviations) ≡ length (before .deviations))
 
 pub record Demand2 : Type 0 where
-  pub settled : (s : List ℕ) (b : Buffers) → Accepts s b → ByFormula (hourOf hourly s) b (settle s b .ufe) (settle s b .buffers)
+  pub settled : (s : List ℕ) (b : Buffers) → Accepts s b → ByFormula (hourIn s) b (settle s b .ufe) (settle s b .buffers)
   -- written, then read; read, then written at the same width
   pub written-read : (f : List ℕ) (z : ℤ) → write f z .verdict ≡ accepted →
       read (write f z .field) ≡ record { verdict = accepted; amount = z }
   pub read-written : (s f : List ℕ) (z : ℤ) → read s ≡ record { verdict = accepted; amount = z } → length f ≡ length s →
       write f z ≡ record { verdict = accepted; field = s }
   -- the statement shows every charge and every final whole
-  pub printed : (s : List ℕ) → verdict (hourRows s) ≡ accepted → let h = hourOf hourly s in (m : ℕ) → m < members h →
+  pub printed : (s : List ℕ) → verdict (hourRows s) ≡ accepted → let h = hourIn s in (m : ℕ) → m < members h →
       (length (amountText (charge h m)) ≤ 14) × (length (amountText (final h m)) ≤ 14)
       × (memberLine m (charge h m) (final h m) ≡
       digitByte (m / 10) ∷ digitByte (m % 10) ∷ bytes " " ++ amountField 14 (charge h m)
@@ -162,7 +162,7 @@ module _ (h : Hour) where
       Fair (λ a. getD ufes a (pos 0)) (λ i. getD (after .shares) i (pos 0)) (λ m. getD (after .charges) m (pos 0))
 
 abbrev pub Demand3 : Type 0
-Demand3 = (s : List ℕ) (b : Buffers) → Accepts s b → FairOutcome (hourOf hourly s) (settle s b .ufe) (settle s b .buffers)
+Demand3 = (s : List ℕ) (b : Buffers) → Accepts s b → FairOutcome (hourIn s) (settle s b .ufe) (settle s b .buffers)
 
 -- ---- no second result fits
 

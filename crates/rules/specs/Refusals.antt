@@ -17,7 +17,7 @@ use Rattle.rules.specs.Charge.{amount}
 use Rattle.rules.specs.Neutrality.{neutrality, hourDemand}
 use Rattle.rules.specs.Text.{amountText, amountIn}
 use Rattle.rules.specs.declared.Layout.{Layout}
-use Rattle.rules.specs.HourFile.{hourly, lengthBad, blocks, blockWord, blockSum, hourOf}
+use Rattle.rules.specs.HourFile.{hourly, lengthBad, blocks, blockWord, blockSum, hourIn}
 use Rattle.rules.specs.HourWords.{hourFrom, fileLength}
 use Rattle.rules.specs.Ranges.{firstBroken, blockRule, headRule, recordRule}
 
@@ -172,7 +172,7 @@ notAnAmount field = nothingRead (amountIn field)
 
 -- settling checks 1 to 5 in number order over the whole file, then 14, 6, 7 and 12, then 11, by the lengths of the five buffers
 unfoldable pub tableRows : List ℕ → (charges finals lines shares deviations : ℕ) → List Row
-tableRows s charges finals lines shares deviations = let h = hourOf hourly s in
+tableRows s charges finals lines shares deviations = let h = hourIn s in
     row 1 (badLength hourly s)
     ∷ row 2 (badSum s)
     ∷ row 3 (badBlock hourly s)
@@ -195,7 +195,7 @@ fileRows s = take 6 (tableRows s 0 0 0 0 0)
 
 -- an explanation checks what settling does, without the buffers' 11, then 13
 unfoldable pub explainRows : List ℕ → (member : ℕ) → List Row
-explainRows s m = hourRows s ++ row 13 (noMember (hourOf hourly s) m) ∷ []
+explainRows s m = hourRows s ++ row 13 (noMember (hourIn s) m) ∷ []
 
 -- the writer of hour files checks 1, then 4, 5 and 14 as the reader, then 11, by the length of the buffer
 unfoldable pub writerRows : (head records : List ℕ) (room : ℕ) → List Row

@@ -15,7 +15,7 @@ use Rattle.rules.specs.Ufe.{ufe}
 use Rattle.rules.specs.Charge.{shareOf, amount, recordsOf, charge}
 use Rattle.rules.specs.Neutrality.{final}
 use Rattle.rules.specs.Text.{amountField, amountIn}
-use Rattle.rules.specs.HourFile.{hourly, hourOf}
+use Rattle.rules.specs.HourFile.{hourly, hourIn}
 use Rattle.rules.specs.HourWords.{hourFrom, fileByte, fileLength}
 use Rattle.rules.specs.Refusals.{Row, Verdict, accepted, refusedAt, verdict, tableRows, writerRows, writeRows}
 
@@ -69,7 +69,7 @@ pub record Settlement : Type 0 where
 
 -- a refusal changes no buffer, and all its UFE figures are 0
 unfoldable pub settle : List ℕ → Buffers → Settlement
-settle s b = let v = verdict (settleRows s b) in let h = hourOf hourly s in
+settle s b = let v = verdict (settleRows s b) in let h = hourIn s in
     cond (isAccepted v)
     (record { verdict = v; ufe = ufeFigures h; buffers = filled h b })
     (record { verdict = v; ufe = noFigures; buffers = b })

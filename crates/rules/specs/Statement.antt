@@ -9,7 +9,7 @@ use Rattle.rules.specs.Record.{Hour, hourNumber, members}
 use Rattle.rules.specs.Charge.{charge}
 use Rattle.rules.specs.Neutrality.{final}
 use Rattle.rules.specs.Text.{bytes, digitByte, decimal}
-use Rattle.rules.specs.HourFile.{hourly, hourOf}
+use Rattle.rules.specs.HourFile.{hourIn}
 use Rattle.rules.specs.Refusals.{Verdict, verdict, hourRows}
 use Rattle.rules.specs.Settling.{isAccepted, write}
 
@@ -41,4 +41,4 @@ unfoldable pub refusedLine : Verdict → List ℕ
 refusedLine v = bytes "refused " ++ decimal (v .number) ++ bytes " at " ++ decimal (v .place) ++ bytes "\n"
 
 unfoldable pub statement : List ℕ → List ℕ
-statement s = let v = verdict (hourRows s) in cond (isAccepted v) (acceptedLines (hourOf hourly s)) (refusedLine v)
+statement s = let v = verdict (hourRows s) in cond (isAccepted v) (acceptedLines (hourIn s)) (refusedLine v)

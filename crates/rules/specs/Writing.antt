@@ -5,7 +5,7 @@ use mathlib.Core.Path.{_≡_}
 use mathlib.Core.Logic.{_↔_}
 use mathlib.Core.List.{List, _++_}
 use lib.ListN.{length, take, drop, getD}
-use Rattle.rules.specs.HourFile.{hourly, hourOf}
+use Rattle.rules.specs.HourFile.{hourly, hourIn}
 use Rattle.rules.specs.HourWords.{hourFrom, headWords, recordWords}
 use Rattle.rules.specs.Refusals.{accepted, refusedAt, verdict, fileRows, writerRows}
 use Rattle.rules.specs.Settling.{HourWritten, writeHour}
@@ -31,7 +31,7 @@ pub record Writing : Type 0 where
       (writeHour head records file .length ≡ 0) × (writeHour head records file .file ≡ file)
   -- what is written passes rows 1 to 5 and 14 and is read back as the same hour
   pub read-back : (head records file : List ℕ) → AreWords head → AreWords records → let w = writeHour head records file in
-      w .verdict ≡ accepted → (verdict (fileRows (fileIn w)) ≡ accepted) × (hourOf hourly (fileIn w) ≡ hourFrom hourly head records)
+      w .verdict ≡ accepted → (verdict (fileRows (fileIn w)) ≡ accepted) × (hourIn (fileIn w) ≡ hourFrom hourly head records)
   -- what stands past it is as it was, and so is the buffer's length
   pub past-file : (head records file : List ℕ) → let w = writeHour head records file in
       w .verdict ≡ accepted → (drop (w .length) (w .file) ≡ drop (w .length) file) × (length (w .file) ≡ length file)

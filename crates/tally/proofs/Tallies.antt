@@ -31,7 +31,7 @@ use Rattle.rules.proofs.Bounds.{energy-running, ufe-under}
 use Rattle.rules.proofs.Neutral.{no-area-demands}
 use Rattle.formula.specs.Room.{TallyRoom}
 use Rattle.formula.proofs.Room.{tally-room}
-use Rattle.hour.specs.Hour.{hourIn}
+use Rattle.rules.specs.HourFile.{hourIn}
 use Rattle.hour.proofs.Figures.{figure-at}
 use Rattle.tally.specs.Posted.{TalliedUpTo, Tallied}
 

@@ -5,7 +5,7 @@ use mathlib.Core.List.{List}
 use Rattle.rules.specs.declared.Tally.{Tally}
 use Rattle.rules.specs.Inner.Posting.{tallyAfter}
 use Rattle.rules.specs.Inner.Kept.{FileKept}
-use Rattle.hour.specs.Hour.{hourIn}
+use Rattle.rules.specs.HourFile.{hourIn}
 
 -- the records before i are in the tally, and record i is there to be posted
 pub record TalliedUpTo (s : List ℕ) (t : Tally) (i : ℕ) : Type 0 where

@@ -11,7 +11,7 @@ use borrow.Author.Tests.{le-leb, lt-leb}
 use Rattle.whole.specs.Below.{firstBelow}
 use Rattle.whole.proofs.Search.{first-next, first-hit, first-less, first-rest, none-below}
 use Rattle.rules.specs.Record.{zones, areas}
-use Rattle.rules.specs.HourFile.{hourly, word, hourOf}
+use Rattle.rules.specs.HourFile.{word, hourIn}
 use Rattle.rules.specs.Ranges.{keeps, headRule, firstBroken}
 use Rattle.rules.specs.Refusals.{badHead}
 use Rattle.rules.proofs.PartWords.{head-part-word}
@@ -20,7 +20,7 @@ use Rattle.examine.proofs.bad_head.Statement.{statement}
 use Rattle.examine.proofs.bad_head.Tie as tie
 
 abbrev bad : List ℕ → ℕ → Bool
-bad s w = let h = hourOf hourly s in not (keeps (headRule (zones h) (areas h) w) (h .head w))
+bad s w = let h = hourIn s in not (keeps (headRule (zones h) (areas h) w) (h .head w))
 
 abbrev Inv-loop : tie.InvT-loop
 Inv-loop file head zones areas w₀ w = (9 ≤ w) × (firstBelow (bad file) w ≡ none)
@@ -30,7 +30,7 @@ abbrev μ-loop : tie.MeasureT-loop
 
 -- what the code has read of the first block is the file's head
 module _ (s head : List ℕ) (e : head ≡ take 512 (drop (512 * 0) s)) where
-  read : (w : ℕ) → 8 ≤ w → w < 128 → word head w ≡ hourOf hourly s .head w
+  read : (w : ℕ) → 8 ≤ w → w < 128 → word head w ≡ hourIn s .head w
   read w l m = ap (λ (l : List ℕ). word l w) e ∙ head-part-word s w l m
 
   told : (z a w : ℕ) → z ≡ word head 10 → a ≡ word head 11 → 8 ≤ w → w < 128

@@ -3,7 +3,7 @@
 use mathlib.Core.Path.{_≡_, sym, _∙_, ap}
 use mathlib.Core.Option.{none}
 use native.Mathlib.Omega.{arith}
-use Rattle.rules.specs.HourFile.{hourly, hourOf}
+use Rattle.rules.specs.HourFile.{hourly, hourIn}
 use Rattle.rules.specs.Refusals.{badHead, verdict, tableRows, fileRows}
 use Rattle.rules.specs.Inner.Searched.{foundAt}
 use Rattle.rules.proofs.Words.{length-is-whole}
@@ -14,7 +14,7 @@ use Rattle.examine.proofs.examine_hour.Tie as tie
 
 -- row 4 passed: the head is whole
 module _ (c : tie.After-enum-told) where
-  head-good : badHead (hourOf hourly (c .before .before .before .before .args .file .now)) ≡ none
+  head-good : badHead (hourIn (c .before .before .before .before .args .file .now)) ≡ none
   head-good = sym (c .before .before .bad-head .ensures) ∙ ap foundAt (c .enum-told .given .1)
 
 bad-head-requires : tie.Need-bad-head-requires

@@ -11,7 +11,7 @@ use Rattle.whole.specs.Below.{firstBelow}
 use Rattle.whole.proofs.Tests.{never-some}
 use Rattle.whole.proofs.Search.{first-next, first-hit, first-less, first-so-far}
 use Rattle.rules.specs.Record.{Hour, members, areas}
-use Rattle.rules.specs.HourFile.{hourly, word, lengthBad, blocks, hourOf}
+use Rattle.rules.specs.HourFile.{hourly, word, lengthBad, blocks, hourIn}
 use Rattle.rules.specs.Ranges.{keeps, recordRule, firstBroken}
 use Rattle.rules.specs.Refusals.{isBroken, badWord, badRecord, firstFault, scheduledAbove, overScheduled, aboveMaximum}
 use Rattle.rules.specs.Inner.Searched.{foundAt}
@@ -23,10 +23,10 @@ use Rattle.examine.proofs.first_fault.Statement.{statement}
 use Rattle.examine.proofs.first_fault.Tie as tie
 
 abbrev word-bad : (s : List ℕ) (i w : ℕ) → Bool
-word-bad s i w = let h = hourOf hourly s in not (keeps (recordRule (members h) (areas h) (h .rec i 0) w) (h .rec i w))
+word-bad s i w = let h = hourIn s in not (keeps (recordRule (members h) (areas h) (h .rec i 0) w) (h .rec i w))
 
 abbrev record-bad : (s : List ℕ) (i : ℕ) → Bool
-record-bad s i = isBroken (badWord (hourOf hourly s) i)
+record-bad s i = isBroken (badWord (hourIn s) i)
 
 abbrev Inv-loop : tie.InvT-loop
 Inv-loop file members areas n i w₀ above words kind w = firstBelow (word-bad file i) w ≡ none
@@ -36,7 +36,7 @@ abbrev μ-loop : tie.MeasureT-loop
 
 abbrev Inv-rows : tie.InvT-rows
 Inv-rows file members areas n i₀ w₀ above₀ i w above =
-    (i ≤ n) × (firstBelow (record-bad file) i ≡ none) × (foundAt above ≡ firstBelow (overScheduled (hourOf hourly file)) i)
+    (i ≤ n) × (firstBelow (record-bad file) i ≡ none) × (foundAt above ≡ firstBelow (overScheduled (hourIn file)) i)
 
 abbrev μ-rows : tie.MeasureT-rows
 μ-rows file members areas n i₀ w₀ above₀ i w above = n - i
@@ -44,7 +44,7 @@ abbrev μ-rows : tie.MeasureT-rows
 -- counts, kind and word that are the file's are judged alike
 module _ (s : List ℕ) (i w : ℕ) where
   abbrev h : Hour
-  h = hourOf hourly s
+  h = hourIn s
 
   alike : (m a k v : ℕ) → m ≡ members h → a ≡ areas h → k ≡ h .rec i 0 → v ≡ h .rec i w
       → not (keeps (recordRule m a k w) v) ≡ word-bad s i w
@@ -70,15 +70,15 @@ module _ (turn : tie.At-rows Inv-loop μ-loop Inv-rows μ-rows) where
   good : lengthBad hourly file ≡ false
   good = turn .before .before .before .before .before .pre .length-good
 
-  there : at < counted → at < hourOf hourly file .count
+  there : at < counted → at < hourIn file .count
   there l = rw (← turn .before .records .ensures) l
 
   -- what the code has read of the record's part is the file's record
   module _ {words : List ℕ} {kind : ℕ} (l : at < counted) (part : words ≡ recordPart hourly file at) (e : kind ≡ word words 0) where
-    says : (w : ℕ) → w < 12 → word words w ≡ hourOf hourly file .rec at w
+    says : (w : ℕ) → w < 12 → word words w ≡ hourIn file .rec at w
     says w m = part-word file at good (there l) part w m
 
-    kind-is : kind ≡ hourOf hourly file .rec at 0
+    kind-is : kind ≡ hourIn file .rec at 0
     kind-is = e ∙ says 0 (omega arith)
 
     told : (w : ℕ) → w < 12 → judged words kind w ≡ word-bad file at w
@@ -86,15 +86,15 @@ module _ (turn : tie.At-rows Inv-loop μ-loop Inv-rows μ-rows) where
         let areas-read = turn .before .before in
         alike file at w _ _ _ _ (areas-read .before .head-word .ensures) (areas-read .head-word2 .ensures) kind-is (says w m)
 
-    above-told : scheduledAbove kind (word words 3) (word words 8) ≡ overScheduled (hourOf hourly file) at
+    above-told : scheduledAbove kind (word words 3) (word words 8) ≡ overScheduled (hourIn file) at
     above-told = rw (kind-is, says 3 (omega arith), says 8 (omega arith))
 
     -- a word that breaks its rule, with none before it, is the first fault
     stops : (w : ℕ) → w < 12 → firstBelow (word-bad file at) w ≡ none → judged words kind w ≡ true
-        → firstFault (hourOf hourly file) ≡ some (at, w)
+        → firstFault (hourIn file) ≡ some (at, w)
     unfolding badRecord badWord firstBroken
     stops w m passed broken =
-        let h = hourOf hourly file in
+        let h = hourIn file in
         let word-first : badWord h at ≡ some w = first-hit (word-bad file at) w 12 passed (sym (told w m) ∙ broken) m in
         fault-at h at w (first-hit (record-bad file) at (h .count) (turn .rows .inv .1) (ap isBroken word-first) (there l)) word-first
 
@@ -170,7 +170,7 @@ rows-again c =
     let whole = first-less (word-bad (file turn) (at turn)) _ 12 (inner .loop .inv) (omega arith) in
     let above = above-told turn (row-read .before .before .rows-test .taken) (row-read .before .record .ensures) (row-read .word .ensures) in
     let here = kept .before .above-maximum .ensures ∙ above in
-    let so-far = first-so-far (overScheduled (hourOf hourly (file turn))) (at turn) _ _ (turn .rows .inv .2) here in (
+    let so-far = first-so-far (overScheduled (hourIn (file turn))) (at turn) _ _ (turn .rows .inv .2) here in (
       omega arith,
       first-next (record-bad (file turn)) (at turn) (turn .rows .inv .1) (ap isBroken whole),
       kept .first-found .ensures ∙ so-far,
@@ -195,7 +195,7 @@ module _ (c : tie.Else2 Inv-loop μ-loop Inv-rows μ-rows) where
   last = c .before .before
 
   abbrev hour : Hour
-  hour = hourOf hourly (file last)
+  hour = hourIn (file last)
 
   all-passed : at last ≡ hour .count
   all-passed = ended ∙ last .before .records .ensures

@@ -8,7 +8,8 @@ use Rattle.whole.proofs.Ranges.{u-fits}
 use Rattle.rules.specs.Record.{members}
 use Rattle.rules.specs.Explanation.{decidedBy, decided}
 use Rattle.rules.proofs.Bounds.{charge-under}
-use Rattle.hour.specs.Hour.{hourIn, Headed}
+use Rattle.rules.specs.HourFile.{hourIn}
+use Rattle.hour.specs.Hour.{Headed}
 use Rattle.hour.proofs.Figures.{head-members}
 use Rattle.explain.proofs.Answers.{no-member, explained-as}
 use Rattle.explain.proofs.explain_settled.Statement.{statement}

@@ -6,7 +6,7 @@ use borrow.Author.Needs.{sfits-of}
 use Rattle.whole.proofs.Machine.{read-back}
 use Rattle.rules.specs.Record.{price, zonePrice, zoneOf, signed}
 use Rattle.hour.proofs.Inside.{head-inside, head-there}
-use Rattle.hour.specs.Hour.{hourIn}
+use Rattle.rules.specs.HourFile.{hourIn}
 use Rattle.hour.proofs.price.Statement.{statement}
 use Rattle.hour.proofs.price.Tie as tie
 

@@ -8,7 +8,8 @@ use borrow.Author.Needs.{sfits-of}
 use Rattle.whole.proofs.Machine.{read-back}
 use Rattle.whole.proofs.Filling.{Filled, none-filled, next-filled, first-filled}
 use Rattle.rules.specs.Record as Record
-use Rattle.hour.specs.Hour.{hourIn, pricesOf}
+use Rattle.rules.specs.HourFile.{hourIn}
+use Rattle.hour.specs.Hour.{pricesOf}
 use Rattle.hour.proofs.Figures.{eight-filled}
 use Rattle.hour.proofs.prices.Statement.{statement}
 use Rattle.hour.proofs.prices.Tie as tie

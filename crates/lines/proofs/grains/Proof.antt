@@ -8,7 +8,7 @@ use Rattle.rules.specs.Charge.{enteringAs, entering, grains}
 use Rattle.rules.specs.Inner.Kept.{RecordKept}
 use Rattle.rules.proofs.Bounds.{deviation-under, entering-under, share-under, price-under}
 use Rattle.hour.proofs.Inside.{record-inside}
-use Rattle.hour.specs.Hour.{hourIn}
+use Rattle.rules.specs.HourFile.{hourIn}
 use Rattle.hour.proofs.Rows.{PartOf, part-length, part-kind}
 use Rattle.lines.proofs.grains.Statement.{statement}
 use Rattle.lines.proofs.grains.Tie as tie

@@ -19,7 +19,7 @@ use Rattle.rules.specs.Inner.Posting.{linesAfter}
 use Rattle.rules.specs.Settling.{emptyLine}
 use Rattle.rules.specs.Inner.Kept.{HourKept}
 use Rattle.hour.specs.declared.Head.{Head}
-use Rattle.hour.specs.Hour.{hourIn}
+use Rattle.rules.specs.HourFile.{hourIn}
 use Rattle.hour.proofs.Figures.{head-members, head-records, head-price}
 use Rattle.lines.specs.Lined.{AllWorked}
 use Rattle.lines.proofs.Lines.{lines-length, can-post, next-lines}

@@ -3,7 +3,7 @@ use mathlib.Core.Path.{_≡_, sym, _∙_}
 use borrow.Author.Tests.{eqb-true}
 use Rattle.rules.specs.Neutrality.{hourDemand}
 use Rattle.rules.specs.Refusals.{noDemand}
-use Rattle.hour.specs.Hour.{hourIn}
+use Rattle.rules.specs.HourFile.{hourIn}
 use Rattle.neutrality.proofs.no_demand.Statement.{statement}
 use Rattle.neutrality.proofs.no_demand.Tie as tie
 

@@ -11,7 +11,7 @@ use Rattle.whole.proofs.Adding.{Added, totalsBy, no-total-added, added-length}
 use Rattle.rules.specs.Record.{Hour, members, areas, price, memberOf, areaOf}
 use Rattle.rules.specs.Charge.{grains}
 use Rattle.rules.specs.Inner.Kept.{HourKept}
-use Rattle.hour.specs.Hour.{hourIn}
+use Rattle.rules.specs.HourFile.{hourIn}
 use Rattle.hour.proofs.Figures.{price-at}
 use Rattle.neutrality.proofs.Amounts.{no-share, grains-fit, grains-added, amounts-are}
 use Rattle.neutrality.proofs.put_amounts.Statement.{statement}

@@ -8,7 +8,7 @@ use Rattle.whole.proofs.Adding.{Added, sumsBy, no-sum-added, next-sum, added-le
 use Rattle.rules.specs.Record.{Hour, members, memberOf}
 use Rattle.rules.specs.Inner.Posting.{demandOf}
 use Rattle.rules.specs.Inner.Kept.{HourKept}
-use Rattle.hour.specs.Hour.{hourIn}
+use Rattle.rules.specs.HourFile.{hourIn}
 use Rattle.neutrality.proofs.Finals.{demand-running, demands-are}
 use Rattle.neutrality.proofs.put_demands.Statement.{statement}
 use Rattle.neutrality.proofs.put_demands.Tie as tie

@@ -8,7 +8,7 @@ use Rattle.whole.proofs.Machine.{back, read-back}
 use Rattle.rules.specs.Record.{Hour}
 use Rattle.rules.specs.Neutrality.{neutrality}
 use Rattle.share.specs.Shareable.{sharesIn}
-use Rattle.hour.specs.Hour.{hourIn}
+use Rattle.rules.specs.HourFile.{hourIn}
 use Rattle.neutrality.proofs.Finals.{Asked, shareable, sized}
 use Rattle.neutrality.proofs.share_out.Statement.{statement}
 use Rattle.neutrality.proofs.share_out.Tie as tie

@@ -11,7 +11,7 @@ use Rattle.whole.proofs.Totals.{total-none}
 use Rattle.rules.specs.Record.{Hour, members}
 use Rattle.rules.specs.Charge.{charge}
 use Rattle.rules.specs.Neutrality.{neutrality}
-use Rattle.hour.specs.Hour.{hourIn}
+use Rattle.rules.specs.HourFile.{hourIn}
 use Rattle.neutrality.proofs.Finals.{charge-fits, charge-added}
 use Rattle.neutrality.proofs.sum_of.Statement.{statement}
 use Rattle.neutrality.proofs.sum_of.Tie as tie

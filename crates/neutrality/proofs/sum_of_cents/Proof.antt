@@ -13,7 +13,7 @@ use Rattle.rules.specs.Charge.{cents, charge}
 use Rattle.rules.specs.Neutrality.{neutrality}
 use Rattle.rules.specs.Refusals.{mostGrains}
 use Rattle.rules.proofs.Bounds.{amount-under}
-use Rattle.hour.specs.Hour.{hourIn}
+use Rattle.rules.specs.HourFile.{hourIn}
 use Rattle.neutrality.proofs.Finals.{charge-fits, charge-added}
 use Rattle.neutrality.proofs.sum_of_cents.Statement.{statement}
 use Rattle.neutrality.proofs.sum_of_cents.Tie as tie

@@ -11,7 +11,7 @@ use Rattle.rules.specs.Record.{Hour, members}
 use Rattle.rules.specs.Charge.{charge}
 use Rattle.rules.specs.Neutrality.{neutrality, final}
 use Rattle.rules.specs.Inner.Kept.{HourKept}
-use Rattle.hour.specs.Hour.{hourIn}
+use Rattle.rules.specs.HourFile.{hourIn}
 use Rattle.neutrality.specs.Charged.{sizeOf}
 use Rattle.neutrality.proofs.Finals.{size-small, final-fits, final-is}
 use Rattle.neutrality.proofs.take_off.Statement.{statement}

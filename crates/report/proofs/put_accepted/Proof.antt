@@ -4,7 +4,8 @@ use borrow.Author.Needs.{needs}
 use Rattle.rules.specs.Record.{hourNumber, members}
 use Rattle.rules.specs.Statement.{firstLine, acceptedLines}
 use Rattle.rules.proofs.Stated.{hour-number-most, first-line-most}
-use Rattle.hour.specs.Hour.{hourIn, Headed}
+use Rattle.rules.specs.HourFile.{hourIn}
+use Rattle.hour.specs.Hour.{Headed}
 use Rattle.hour.proofs.Figures.{head-members, head-records}
 use Rattle.printing.specs.Put.{Put}
 use Rattle.printing.proofs.Putting.{put-on}

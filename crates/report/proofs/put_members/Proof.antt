@@ -17,7 +17,7 @@ use Rattle.rules.specs.Neutrality.{final}
 use Rattle.rules.specs.Statement.{memberLine, memberLines}
 use Rattle.rules.proofs.Bounds.{charge-under}
 use Rattle.rules.proofs.Neutral.{final-under}
-use Rattle.hour.specs.Hour.{hourIn}
+use Rattle.rules.specs.HourFile.{hourIn}
 use Rattle.hour.proofs.Figures.{head-members}
 use Rattle.rules.proofs.Stated.{member-lines-length}
 use Rattle.printing.specs.Put.{Put}

@@ -7,7 +7,7 @@ use Rattle.whole.specs.Signed.{Under, Upto}
 use Rattle.rules.specs.Record.{Hour, Entry, members, zones, areas, zonePrice, zoneOf, tieIn, tieOut, memberOf, areaOf, entryOf}
 use Rattle.rules.specs.Record.{isGenerator, isImport}
 use Rattle.rules.specs.Ufe.{demand}
-use Rattle.rules.specs.HourFile.{hourly, lengthBad, hourOf}
+use Rattle.rules.specs.HourFile.{hourly, lengthBad, hourIn}
 
 -- whatever the kind, no number is above the most that any kind allows
 pub record EntryKept (r : Entry) : Type 0 where
@@ -49,4 +49,4 @@ pub record HourKept (h : Hour) : Type 0 where
 
 pub record FileKept (s : List ℕ) : Type 0 where
   pub length-good : lengthBad hourly s ≡ false
-  pub hour-kept : HourKept (hourOf hourly s)
+  pub hour-kept : HourKept (hourIn s)

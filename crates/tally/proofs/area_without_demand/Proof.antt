@@ -8,7 +8,7 @@ use Rattle.whole.specs.Below.{firstBelow}
 use Rattle.whole.proofs.Search.{first-next, first-hit}
 use Rattle.rules.specs.Refusals.{badArea}
 use Rattle.rules.specs.Record as Record
-use Rattle.hour.specs.Hour.{hourIn}
+use Rattle.rules.specs.HourFile.{hourIn}
 use Rattle.hour.proofs.Figures.{head-areas}
 use Rattle.tally.proofs.Tallies.{nobody-demands, somebody-demands, nothing-to-share, noDemand}
 use Rattle.tally.proofs.area_without_demand.Statement.{statement}

@@ -9,7 +9,7 @@ use Rattle.rules.specs.Record as Record
 use Rattle.rules.specs.Ufe.{demands}
 use Rattle.rules.specs.Neutrality.{hourDemand}
 use Rattle.rules.proofs.Neutral.{hour-demand-by-area}
-use Rattle.hour.specs.Hour.{hourIn}
+use Rattle.rules.specs.HourFile.{hourIn}
 use Rattle.hour.proofs.Figures.{head-areas}
 use Rattle.tally.proofs.Tallies.{nobody-yet, somebody}
 use Rattle.tally.proofs.nobody_demands.Statement.{statement}

@@ -11,7 +11,7 @@ use mir.ValLaws.{toZ-ofZ}
 use borrow.Author.Needs.{sfits-of}
 use Rattle.rules.specs.Record.{entryOf, areaOf}
 use Rattle.rules.specs.Inner.Posting.{accounted, demandOf, tallyAfter}
-use Rattle.hour.specs.Hour.{hourIn}
+use Rattle.rules.specs.HourFile.{hourIn}
 use Rattle.hour.proofs.Figures.{head-records}
 use Rattle.tally.specs.Posted.{TalliedUpTo}
 use Rattle.tally.proofs.Tallies.{has-room, next-tally}

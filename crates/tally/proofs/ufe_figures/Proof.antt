@@ -9,7 +9,7 @@ use Rattle.whole.proofs.Machine.{read-back}
 use Rattle.whole.proofs.Filling.{Filled, none-filled, next-filled, first-filled}
 use Rattle.rules.specs.Record as Record
 use Rattle.rules.specs.Ufe as Ufe
-use Rattle.hour.specs.Hour.{hourIn}
+use Rattle.rules.specs.HourFile.{hourIn}
 use Rattle.rules.specs.Settling.{ufeFigures}
 use Rattle.hour.proofs.Figures.{eight-filled, head-areas}
 use Rattle.tally.proofs.ufe_figures.Statement.{statement}

@@ -8,7 +8,7 @@ use borrow.Author.Needs.{needs}
 use Rattle.whole.proofs.Ranges.{u-upto}
 use Rattle.whole.proofs.Machine.{Num, #, at, local, _:+_, _:-_, _:*_, fits, stored}
 use Rattle.rules.specs.Record.{tieIn, tieOut}
-use Rattle.hour.specs.Hour.{hourIn}
+use Rattle.rules.specs.HourFile.{hourIn}
 use Rattle.hour.proofs.Wide.{word-is}
 use Rattle.tally.proofs.Tallies.{energy-under, ufe-is}
 use Rattle.tally.proofs.ufe_of.Statement.{statement}

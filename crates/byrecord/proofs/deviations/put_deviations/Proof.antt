@@ -7,7 +7,7 @@ use Rattle.whole.proofs.Machine.{read-back}
 use Rattle.whole.proofs.Filling.{Filled, none-filled, filled-length, place-there, next-filled, first-filled}
 use Rattle.rules.specs.Record.{entryOf}
 use Rattle.rules.specs.Deviation.{deviation}
-use Rattle.hour.specs.Hour.{hourIn}
+use Rattle.rules.specs.HourFile.{hourIn}
 use Rattle.hour.proofs.Figures.{head-records}
 use Rattle.byrecord.proofs.deviations.put_deviations.Statement.{statement}
 use Rattle.byrecord.proofs.deviations.put_deviations.Tie as tie

@@ -9,7 +9,7 @@ use mir.Val.{toZ}
 use Rattle.whole.specs.Below.{replacingFirst}
 use Rattle.whole.proofs.Machine.{read-back}
 use Rattle.whole.proofs.Filling.{filled-length, place-there, first-filled}
-use Rattle.hour.specs.Hour.{hourIn}
+use Rattle.rules.specs.HourFile.{hourIn}
 use Rattle.byrecord.specs.Shared.{withSizes}
 use Rattle.byrecord.proofs.Loads.{SharesPut, no-share-put, loads-few, next-share}
 use Rattle.byrecord.proofs.shares.put_area.Statement.{statement}

@@ -6,7 +6,7 @@ use native.Mathlib.Omega.{arith}
 use lib.ListN.{set, length-set}
 use Rattle.rules.specs.Record.{isLoad}
 use Rattle.rules.specs.Ufe.{inArea}
-use Rattle.hour.specs.Hour.{hourIn}
+use Rattle.rules.specs.HourFile.{hourIn}
 use Rattle.byrecord.proofs.Loads.{load-demands}
 use Rattle.byrecord.proofs.shares.put_demand.Statement.{statement}
 use Rattle.byrecord.proofs.shares.put_demand.Tie as tie

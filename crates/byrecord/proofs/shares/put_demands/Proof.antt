@@ -2,7 +2,7 @@
 use Prim.Native.Nat.{_-_, _<_}
 use native.Mathlib.Omega.{arith}
 use lib.ListN.{length}
-use Rattle.hour.specs.Hour.{hourIn}
+use Rattle.rules.specs.HourFile.{hourIn}
 use Rattle.byrecord.proofs.Loads.{DemandsPut, no-demand-put, room-kept, place-next, next-demand, all-demands-put}
 use Rattle.byrecord.proofs.shares.put_demands.Statement.{statement}
 use Rattle.byrecord.proofs.shares.put_demands.Tie as tie

@@ -9,7 +9,7 @@ use Rattle.whole.specs.Signed.{withSignOf}
 use Rattle.whole.proofs.Machine.{read-back}
 use Rattle.rules.specs.Record.{isLoad}
 use Rattle.rules.specs.Ufe.{inArea}
-use Rattle.hour.specs.Hour.{hourIn}
+use Rattle.rules.specs.HourFile.{hourIn}
 use Rattle.byrecord.proofs.shares.put_share.Statement.{statement}
 use Rattle.byrecord.proofs.shares.put_share.Tie as tie
 

@@ -12,7 +12,7 @@ use Rattle.rules.specs.Record.{Hour}
 use Rattle.rules.specs.Ufe.{ufe}
 use Rattle.share.specs.Shareable.{sharesIn}
 use Rattle.share.proofs.Shared.{shared-first}
-use Rattle.hour.specs.Hour.{hourIn}
+use Rattle.rules.specs.HourFile.{hourIn}
 use Rattle.byrecord.specs.Shared.{withSizes}
 use Rattle.byrecord.proofs.Areas.{nothing-to-write, Asked, loads-fit, shareable, sized, area-shared}
 use Rattle.byrecord.proofs.shares.share_area.Statement.{statement}

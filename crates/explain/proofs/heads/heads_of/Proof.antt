@@ -12,7 +12,7 @@ use Rattle.rules.specs.Inner.Kept.{HourKept}
 use Rattle.rules.specs.Inner.Posting.{headsAfter}
 use Rattle.rules.proofs.Bounds.{deviation-under, share-under, price-under}
 use Rattle.rules.proofs.Heads.{heads-posted}
-use Rattle.hour.specs.Hour.{hourIn}
+use Rattle.rules.specs.HourFile.{hourIn}
 use Rattle.hour.proofs.Figures.{head-records, head-price}
 use Rattle.explain.proofs.heads.heads_of.Statement.{statement}
 use Rattle.explain.proofs.heads.heads_of.Tie as tie

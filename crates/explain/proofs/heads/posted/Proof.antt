@@ -12,7 +12,7 @@ use Rattle.rules.specs.Inner.Kept.{RecordKept}
 use Rattle.rules.proofs.Bounds.{deviation-under, entering-under, share-under, price-under}
 use Rattle.rules.proofs.Heads.{heads-running}
 use Rattle.hour.proofs.Inside.{record-inside}
-use Rattle.hour.specs.Hour.{hourIn}
+use Rattle.rules.specs.HourFile.{hourIn}
 use Rattle.hour.proofs.Rows.{PartOf, part-length, part-kind}
 use Rattle.explain.proofs.Posting.{not-posted, is-posted}
 use Rattle.explain.proofs.heads.posted.Statement.{statement}
