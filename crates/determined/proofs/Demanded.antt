@@ -13,9 +13,9 @@ use Rattle.rules.specs.declared.Line.{Line}
 use Rattle.rules.specs.Record.{members}
 use Rattle.rules.specs.Charge.{charge}
 use Rattle.rules.specs.Neutrality.{final}
-use Rattle.rules.specs.Refusals.{Verdict, accepted, refusedAt, verdictOf, verdict, hourRows}
+use Rattle.rules.specs.Refusals.{Verdict, accepted, refusedAt, verdictOf, verdict, hourRows, Buffers}
 use Rattle.rules.specs.HourFile.{hourly, body, hourIn}
-use Rattle.rules.specs.Settling.{Buffers, Settlement, settle as settling, write as writing, read as reading}
+use Rattle.rules.specs.Settling.{Settlement, settle as settling, write as writing, read as reading}
 use Rattle.rules.specs.Statement as Statement
 use Rattle.rules.specs.Finals.{chargeColumn, finalColumn, AreBytes, SameSheet}
 use Rattle.rules.specs.Inner.Kept.{FileKept}

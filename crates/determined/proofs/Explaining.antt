@@ -12,8 +12,8 @@ use Rattle.rules.specs.declared.Answer.the-variants.{Accepted}
 use Rattle.rules.specs.declared.Found.{Found}
 use Rattle.rules.specs.Record.{members}
 use Rattle.rules.specs.HourFile.{hourIn}
-use Rattle.rules.specs.Refusals.{refusedAt, verdictOf}
-use Rattle.rules.specs.Settling.{Settlement, Buffers, emptyLine}
+use Rattle.rules.specs.Refusals.{refusedAt, verdictOf, Buffers}
+use Rattle.rules.specs.Settling.{Settlement, emptyLine}
 use Rattle.rules.specs.Explanation as Explanation
 use Rattle.rules.specs.Explaining.{Explains}
 use Rattle.rules.proofs.Explaining.{explain-verdict, explaining}

@@ -7,7 +7,8 @@ use contract.Lifetimes.{Lfts}
 use denote.Ref.{now}
 use Rattle.amount.proofs.RoundTrips.{one-reading}
 use Rattle.rules.specs.declared.Answer.{Answer}
-use Rattle.rules.specs.Settling.{Buffers, Settlement, HourWritten, Written, ReadAmount}
+use Rattle.rules.specs.Refusals.{Buffers}
+use Rattle.rules.specs.Settling.{Settlement, HourWritten, Written, ReadAmount}
 use Rattle.pool.specs.Buffers.{buffers}
 use Rattle.pool.specs.Unlined.{unlined}
 use Rattle.rules.proofs.Rows.{one-settlement}

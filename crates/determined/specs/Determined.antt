@@ -9,8 +9,9 @@ use lib.ListN.{length, take, drop, getD}
 use Rattle.rules.specs.Record.{members}
 use Rattle.rules.specs.HourFile.{hourly, hourIn}
 use Rattle.rules.specs.HourWords.{hourFrom, headWords, recordWords}
-use Rattle.rules.specs.Refusals.{Verdict, accepted, refusedAt, verdict, fileRows, hourRows, writerRows, explainRows}
-use Rattle.rules.specs.Settling.{Buffers, settleRows, settle, noFigures, emptyLine, HourWritten}
+use Rattle.rules.specs.Refusals.{Verdict, accepted, refusedAt, verdict, Buffers, badLists}
+use Rattle.rules.specs.Refusals.{blockRows, formRows, fileRows, hourRows, settleRows, explainRows, listFormRows, writerRows}
+use Rattle.rules.specs.Settling.{settle, noFigures, emptyLine, HourWritten}
 use Rattle.rules.specs.Explanation.{Explanation, noHeads}
 use Rattle.rules.specs.Promises.{Accepts, ByFormula, FairOutcome}
 use Rattle.rules.specs.Finals.{NeutralOutcome, AreBytes}
@@ -48,9 +49,9 @@ pub record KeepsDemands (file : List ℕ) (before : Buffers) (told : Verdict) (u
   -- A1
   pub neutral : told ≡ accepted → NeutralOutcome (hourIn file) before after
   -- A3: an import that says what was metered, where no row before 5 and no record before it is broken
-  pub metered-import : (i : ℕ) → verdict (take 4 (fileRows file)) ≡ accepted → FirstMetered (hourIn file) i → told ≡ refusedAt 5 i
+  pub metered-import : (i : ℕ) → verdict (blockRows file) ≡ accepted → FirstMetered (hourIn file) i → told ≡ refusedAt 5 i
   -- A6: 14 exactly where rows 1 to 5 are passed and a generator is scheduled above its maximum, at the first; accepted, none is
-  pub held-to-maximum : HeldToMaximum (take 5 (fileRows file)) (hourIn file) told
+  pub held-to-maximum : HeldToMaximum (formRows file) (hourIn file) told
 
 -- what document 02 asks of the writer (A2), of imports (A3) and of schedules (A6), by its head, records and buffer before, and by what was
 -- answered and left
@@ -66,10 +67,10 @@ pub record KeepsWriting (head records before : List ℕ) (w : HourWritten) : Typ
   pub same-bytes : (s : List ℕ) → AreBytes s → verdict (fileRows s) ≡ accepted → head ≡ headWords s → records ≡ recordWords hourly s →
       length s ≤ length before → (w .verdict ≡ accepted) × (fileIn w ≡ s)
   -- A3, as of a settling
-  pub metered-import : (i : ℕ) → verdict (take 2 (writerRows head records (length before))) ≡ accepted →
+  pub metered-import : (i : ℕ) → badLists head records ≡ none →
       FirstMetered (hourFrom hourly head records) i → w .verdict ≡ refusedAt 5 i
   -- A6, as of a settling, behind rows 1, 4 and 5
-  pub held-to-maximum : HeldToMaximum (take 3 (writerRows head records (length before))) (hourFrom hourly head records) (w .verdict)
+  pub held-to-maximum : HeldToMaximum (listFormRows head records) (hourFrom hourly head records) (w .verdict)
 
 -- what document 02 asks of an explanation (A5) and of schedules (A6), by its file and member number, and by what was answered
 pub record KeepsExplaining (file : List ℕ) (member : ℕ) (e : Explanation) : Type 0 where
@@ -85,4 +86,4 @@ pub record KeepsExplaining (file : List ℕ) (member : ℕ) (e : Explanation) : 
   pub no-member : (b : Buffers) → Accepts file b → members (hourIn file) ≤ member → e .verdict ≡ refusedAt 13 0
   pub refused-alike : (verdict (hourRows file) ≡ accepted → ⊥) → e .verdict ≡ verdict (hourRows file)
   -- A6, as of a settling
-  pub held-to-maximum : HeldToMaximum (take 5 (fileRows file)) (hourIn file) (e .verdict)
+  pub held-to-maximum : HeldToMaximum (formRows file) (hourIn file) (e .verdict)

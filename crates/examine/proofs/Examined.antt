@@ -8,7 +8,7 @@ use Rattle.rules.specs.declared.Answer.the-variants.{Accepted}
 use Rattle.rules.specs.Refusals.{verdictOf, verdict, fileRows}
 use Rattle.rules.specs.Promises.{AllWhole}
 use Rattle.rules.specs.Inner.Kept.{FileKept}
-use Rattle.rules.proofs.Rows.{accepts-when-whole, file-numbered, one-answer}
+use Rattle.rules.proofs.Rows.{accepts-when-whole, file-numbered, form-whole, one-answer}
 use Rattle.rules.proofs.Kept.{file-kept}
 
 -- what `examine` promises of its answer
@@ -24,4 +24,4 @@ module _ (s : List ℕ) where
   -- the counts, prices, zones, ties, kinds, members, areas, energies and multipliers of an accepted file lie in their ranges; it has at
   -- most 250 records
   pub accepted-kept : (r : Answer) → Examined s r → r ≡ Accepted → FileKept s
-  accepted-kept r e a = file-kept s (accepted-when-whole r e .0 a)
+  accepted-kept r e a = file-kept s (form-whole s (accepted-when-whole r e .0 a))

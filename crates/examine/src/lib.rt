@@ -5,10 +5,11 @@
 ghost use mathlib.Core.Path.{_≡_};
 ghost use mathlib.Core.Bool.{not, cond};
 ghost use mathlib.Core.Option.{none, some, orElse};
+ghost use mathlib.Core.List.{_++_};
 ghost use Prim.Native.Nat.{_≤_};
-ghost use lib.ListN.{length, drop};
+ghost use lib.ListN.{length};
 ghost use Rattle.rules.specs.HourFile as HourFile;
-ghost use Rattle.rules.specs.HourFile.{hourly};
+ghost use Rattle.rules.specs.HourFile.{hourIn};
 ghost use Rattle.rules.specs.Ranges as Ranges;
 ghost use Rattle.rules.specs.Refusals as Refusals;
 ghost use Rattle.rules.specs.Inner.Searched.{foundAt};
@@ -30,7 +31,7 @@ fn head_word_bad(block: &[u8], zones: u32, areas: u32, w: usize) -> bool
 // The first word of the head that breaks layout or range; from word 48 on all are zero.
 fn bad_head(file: &[u8]) -> Found
     requires { ⌜ 512 ≤ length (now file) ⌝ }
-    ensures { λ r. ⌜ foundAt r ≡ Refusals.badHead (HourFile.hourIn (now (file .entry))) ⌝ }
+    ensures { λ r. ⌜ foundAt r ≡ Refusals.badHead (hourIn (now (file .entry))) ⌝ }
 {
     let head = blocks::block(file, 0);
     let zones = blocks::word(head, 10);
@@ -85,8 +86,8 @@ fn first_found(found: Found, here: bool, at: usize) -> Found
 // that is scheduled above its maximum, which counts only where no record of the whole file breaks a rule.
 fn first_fault(file: &[u8]) -> Fault
     requires { ⌜ BlocksWhole (now file) ⌝ }
-    ensures fault { λ r. ⌜ faultAt r ≡ Refusals.firstFault (HourFile.hourIn (now (file .entry))) ⌝ }
-    ensures above { λ r. ⌜ (faultAt r ≡ none → aboveAt r ≡ Refusals.aboveMaximum (HourFile.hourIn (now (file .entry)))) ⌝ }
+    ensures fault { λ r. ⌜ faultAt r ≡ Refusals.firstFault (hourIn (now (file .entry))) ⌝ }
+    ensures above { λ r. ⌜ (faultAt r ≡ none → aboveAt r ≡ Refusals.aboveMaximum (hourIn (now (file .entry)))) ⌝ }
 {
     let members = hour::head_word(file, 9);
     let areas = hour::head_word(file, 11);
@@ -121,7 +122,7 @@ fn first_fault(file: &[u8]) -> Fault
 // Refusals 4, 5 and 14, of a file whose blocks are whole.
 fn examine_hour(file: &[u8]) -> Answer
     requires { ⌜ BlocksWhole (now file) ⌝ }
-    ensures { λ r. ⌜ Refusals.verdictOf r ≡ Refusals.verdict (drop 3 (Refusals.fileRows (now (file .entry)))) ⌝ }
+    ensures { λ r. ⌜ Refusals.verdictOf r ≡ Refusals.verdict (Refusals.wordRows (hourIn (now (file .entry))) ++ Refusals.recordRows (hourIn (now (file .entry)))) ⌝ }
 {
     if let Found::At(w) = bad_head(file) {
         return Answer::BadHead(w);

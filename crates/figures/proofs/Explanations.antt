@@ -30,7 +30,8 @@ unfolding Below.sumBelow Below.totalBelow Below.firstBelow orElse minℤ maxℤ 
     Ranges.countRule Ranges.pastRule Ranges.blockRule Ranges.areaRule Ranges.headRule Ranges.rulesOf Ranges.recordRule Refusals.verdict
     Refusals.badLength Refusals.badSum Refusals.badBlock Refusals.badHead Refusals.badWord Refusals.badRecord Refusals.scheduledAbove
     Refusals.aboveMaximum Refusals.badArea Refusals.badAmount Neutrality.neutrality Neutrality.memberDemand Neutrality.hourDemand
-    Refusals.noDemand Refusals.tableRows Refusals.hourRows wordBytes Deviation.importDeviation Deviation.exportDeviation Refusals.noMember
+    Refusals.noDemand Refusals.blockRows Refusals.wordRows Refusals.recordRows Refusals.sumRows Refusals.formRows
+    Refusals.fileRows Refusals.hourRows wordBytes Deviation.importDeviation Deviation.exportDeviation Refusals.noMember
     Refusals.explainRows Statement.refusedLine Explanation.pricedSum Explanation.heads Explanation.sameSign Explanation.decidedBy
     Explanation.decided Explanation.explain Explanation.signedDecimal Explanation.headLine Explanation.decidedLine
     Explanation.explanationLines Explanation.askedRows Explanation.explanation sealed everyKind explanations Neutrality.neutralityShare

@@ -21,13 +21,13 @@ use Rattle.rules.specs.Record.{Hour, members, entryOf}
 use Rattle.rules.specs.Deviation.{deviation}
 use Rattle.rules.specs.Charge.{shareOf, cents, charge}
 use Rattle.rules.specs.Neutrality.{final}
-use Rattle.rules.specs.Refusals.{Row, row, accepted, verdictOf, verdict, badArea, badAmount, noDemand, tooShort}
-use Rattle.rules.specs.Refusals.{mostGrains, tableRows, fileRows}
-use Rattle.rules.specs.Settling.{Buffers, lineOf, filled, settleRows, ufeFigures, noFigures, settle, emptyLine}
+use Rattle.rules.specs.Refusals.{row, accepted, verdictOf, verdict, placeZeroIf, Buffers, mostGrains, badArea, noDemand, tooShort}
+use Rattle.rules.specs.Refusals.{sumRows, fileRows, settleRows}
+use Rattle.rules.specs.Settling.{lineOf, filled, ufeFigures, noFigures, settle, emptyLine}
 use Rattle.rules.specs.Inner.Posting.{linesAfter}
 use Rattle.rules.specs.Promises.{Accepts, Fits}
 use Rattle.rules.specs.Inner.Kept.{FileKept}
-use Rattle.rules.proofs.Rows.{shortOf, accepts-when-whole, passed-on, file-numbered, file-decides, one-answer}
+use Rattle.rules.proofs.Rows.{file-decides, file-passed, one-answer}
 use Rattle.rules.proofs.Rows.{settle-verdict, settle-whole, settle-changes-nothing, settle-fills}
 use Rattle.rules.proofs.Kept.{passed-kept}
 use Rattle.rules.proofs.Bounds.{amount-under, row-7-never}
@@ -58,26 +58,17 @@ module _ (s : List ℕ) (b : Buffers) where
   refused-with a e refused = says a noFigures e
       (sym (settle-changes-nothing s b (λ yes. refused (one-answer a Accepted (sym e ∙ sym (settle-verdict s b) ∙ yes))) .1))
 
-  -- row 11, for these buffers
-  abbrev lengthRow : Row
-  lengthRow = row 11 (shortOf h b)
-
-  -- rows 1 to 5 and 14, then 6, 7, 12 and 11
-  in-order : settleRows s b ≡ fileRows s ++ row 6 (badArea h) ∷ row 7 (badAmount h) ∷ row 12 (noDemand h) ∷ lengthRow ∷ []
-  unfolding fileRows tableRows
-  in-order = refl
-
   file-refused : {a : Answer} → verdictOf a ≡ verdict (fileRows s) → (a ≡ Accepted → ⊥) →
       Says s b (record { answer = a; ufe = noFigures })
   file-refused {a} examined refused =
-      refused-with a (file-decides s _ _ _ _ _ (λ e. refused (one-answer a Accepted (examined ∙ e))) ∙ sym examined) refused
+      refused-with a (file-decides s b (λ e. refused (one-answer a Accepted (examined ∙ e))) ∙ sym examined) refused
 
   -- once rows 1 to 5 and 14 are passed; row 7 is then whole
   module _ (passed : verdict (fileRows s) ≡ accepted) (kept : FileKept s) where
-    rest : verdict (settleRows s b) ≡ verdict (row 6 (badArea h) ∷ row 7 none ∷ row 12 (noDemand h) ∷ lengthRow ∷ [])
-    rest = ap verdict in-order
-        ∙ passed-on (fileRows s) _ (accepts-when-whole (fileRows s) (file-numbered s) .0 passed)
-        ∙ ap (λ o. verdict (row 6 (badArea h) ∷ row 7 o ∷ row 12 (noDemand h) ∷ lengthRow ∷ [])) (row-7-never (kept .hour-kept))
+    rest : verdict (settleRows s b) ≡ verdict (row 6 (badArea h) ∷ row 7 none ∷ row 12 (noDemand h) ∷ row 11 (tooShort h b) ∷ [])
+    unfolding sumRows
+    rest = file-passed s b passed
+        ∙ ap (λ o. verdict (row 6 (badArea h) ∷ row 7 o ∷ row 12 (noDemand h) ∷ row 11 (tooShort h b) ∷ [])) (row-7-never (kept .hour-kept))
 
     pub area-refused : {i : ℕ} → badArea h ≡ some i → Says s b (record { answer = BadArea i; ufe = noFigures })
     unfolding verdict
@@ -98,8 +89,9 @@ module _ (s : List ℕ) (b : Buffers) where
           (ltb c (members h) || ltb f (members h) || ltb l (members h) || ltb n (h .count) || ltb d (h .count)) ≡ t
       as-told e = rw (head-members headed, head-records headed) at e
 
-      last : verdict (settleRows s b) ≡ verdict (row 11 (tooShort h c f l n d) ∷ [])
-      unfolding verdict
+      last : verdict (settleRows s b) ≡ verdict (row 11 (placeZeroIf (
+          ltb c (members h) || ltb f (members h) || ltb l (members h) || ltb n (h .count) || ltb d (h .count))) ∷ [])
+      unfolding verdict tooShort
       last = rest ∙ rw (
         areas-pass,
         demand-passes,
@@ -111,11 +103,11 @@ module _ (s : List ℕ) (b : Buffers) where
       )
 
       pub some-short : short ≡ true → Says s b (record { answer = TooShort; ufe = noFigures })
-      unfolding verdict tooShort
+      unfolding verdict
       some-short t = refused-with TooShort (last ∙ rw (as-told t)) (λ z. let n : _≡_ {A = ℕ} 0 1 = cc z in omega arith)
 
       pub all-pass : short ≡ false → {figures : List ℤ} → figures ≡ ufeFigures h → Says s b (record { answer = Accepted; ufe = figures })
-      unfolding verdict tooShort
+      unfolding verdict
       all-pass f {figures} e =
           let passes : verdict (settleRows s b) ≡ accepted = last ∙ rw (as-told f) in
           says Accepted figures passes (e ∙ sym (settle-fills s b (settle-verdict s b ∙ passes) .1))

@@ -14,8 +14,8 @@ use Rattle.rules.specs.Record.{members, entryOf}
 use Rattle.rules.specs.Deviation.{deviation}
 use Rattle.rules.specs.Charge.{shareOf, charge}
 use Rattle.rules.specs.Neutrality.{final}
-use Rattle.rules.specs.Refusals.{verdictOf, verdict, hourRows}
-use Rattle.rules.specs.Settling.{Buffers, filled}
+use Rattle.rules.specs.Refusals.{verdictOf, verdict, hourRows, Buffers}
+use Rattle.rules.specs.Settling.{filled}
 use Rattle.rules.specs.Inner.Kept.{FileKept}
 use Rattle.rules.proofs.Rows.{settle-verdict, settle-fills}
 use Rattle.rules.proofs.Stated.{accepted-kept, room-for-all}
@@ -55,7 +55,7 @@ module _ {s : List ℕ} {b after : Unlined} {r : Settled} (rooms : Rooms b) (set
 
   pub same-verdict : verdictOf (r .answer) ≡ verdict (hourRows s)
   same-verdict = settled .fits .verdict-is ∙ settle-verdict s lent
-      ∙ room-for-all s _ _ _ _ _ (rooms .charges-room) (rooms .finals-room) (omega arith) (rooms .shares-room) (rooms .deviations-room)
+      ∙ room-for-all s lent (rooms .charges-room) (rooms .finals-room) (omega arith) (rooms .shares-room) (rooms .deviations-room)
 
   pub figured : r .answer ≡ Accepted → Figured s after
   unfolding filled

@@ -5,8 +5,8 @@ use mathlib.Core.Path.{_≡_}
 use mathlib.Core.List.{List}
 use lib.ListN.{length}
 use Rattle.rules.specs.declared.Settled.{Settled}
-use Rattle.rules.specs.Refusals.{verdictOf}
-use Rattle.rules.specs.Settling.{Buffers, settle}
+use Rattle.rules.specs.Refusals.{verdictOf, Buffers}
+use Rattle.rules.specs.Settling.{settle}
 
 -- buffers of these lengths
 pub record Lengths (b : Buffers) (charges finals lines shares deviations : ℕ) : Type 0 where

@@ -5,7 +5,8 @@ use lib.IntN.{ℤ}
 use lib.ListN.{replicate}
 use Rattle.rules.specs.declared.Line.{Line}
 use Rattle.rules.specs.declared.Settled.{Settled}
-use Rattle.rules.specs.Settling.{Buffers, emptyLine}
+use Rattle.rules.specs.Refusals.{Buffers}
+use Rattle.rules.specs.Settling.{emptyLine}
 use Rattle.rules.specs.Promises.{Fits}
 use Rattle.pool.specs.Buffers.{buffers}
 

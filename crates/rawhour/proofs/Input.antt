@@ -16,7 +16,7 @@ use Rattle.rules.specs.declared.Filed.{Filed}
 use Rattle.rules.specs.declared.Answer.the-variants.{Accepted}
 use Rattle.rules.specs.HourFile.{hourly, word}
 use Rattle.rules.specs.HourWords.{hourFrom, fileByte, fileOf, fileLength}
-use Rattle.rules.specs.Refusals.{verdictOf, accepted, refusedAt, verdict, badLists, writerRows, listRows}
+use Rattle.rules.specs.Refusals.{verdictOf, accepted, refusedAt, verdict, badLists, listFormRows, listRows}
 use Rattle.rules.specs.Settling.{isAccepted, writeHour}
 use Rattle.rules.specs.Statement.{refusedLine}
 use Rattle.rules.specs.RawHour.{rawWords, rawRows, rawWritten}
@@ -47,7 +47,7 @@ module _ (s : List ℕ) where
   no-words f = rw (ne-eqb (length s % 4) 0 f) refl
 
   no-head : length s < 480 → verdict (rawRows s) ≡ refusedAt 1 0
-  unfolding rawRows listRows writerRows badLists verdict
+  unfolding rawRows listRows listFormRows badLists verdict
   no-head l = split (eqb (length s % 4) 0)
       (λ t. rw (t, ne-eqb (length (take 120 (rawWords s))) 120 (λ e. omega (arith, e, length-take 120 (rawWords s), words-length))) refl)
       (λ t. rw t refl)

@@ -23,13 +23,13 @@ use Rattle.rules.specs.Charge.{shareOf, amount, recordsOf, cents, neares
 use Rattle.rules.specs.Neutrality.{final}
 use Rattle.rules.specs.Text.{bytes, digitByte, amountText, amountField}
 use Rattle.rules.specs.HourFile.{hourIn}
-use Rattle.rules.specs.Refusals.{badArea, tooShort, tableRows, hourRows}
-use Rattle.rules.specs.Settling.{Buffers, Written, settle, filled, ufeFigures, lineOf, emptyLine}
+use Rattle.rules.specs.Refusals.{Buffers, badArea, tooShort, hourRows}
+use Rattle.rules.specs.Settling.{Written, settle, filled, ufeFigures, lineOf, emptyLine}
 use Rattle.rules.specs.Statement.{column, memberLine}
 use Rattle.rules.specs.Inner.Kept.{HourKept}
 use Rattle.rules.specs.Promises.{Accepts, AllWhole, Demand1, ByFormula, allZones, Demand2, FairOutcome, Demand3}
 use Rattle.rules.proofs.Tariff.{deviation-renders, ufe-renders, amount-is-IEC}
-use Rattle.rules.proofs.Rows.{shortOf, no-place, accepts-when-whole, hour-numbered, settle-accepts, settle-whole, settle-refuses}
+use Rattle.rules.proofs.Rows.{no-place, accepts-when-whole, hour-numbered, areas-whole, settle-accepts, settle-whole, settle-refuses}
 use Rattle.rules.proofs.Rows.{settle-changes-nothing, settle-fills, write-accepts, write-refuses, write-changes-nothing}
 use Rattle.rules.proofs.Text.{read-checks, read-accepts, read-refuses, written-read, read-written, text-fits-14, write-accepted-at}
 use Rattle.rules.proofs.Kept.{passed-kept}
@@ -45,8 +45,7 @@ record Passed (h : Hour) : Type 0 where
   no-bad-area : badArea h ≡ none
 
 hour-passed : (s : List ℕ) → AllWhole (hourRows s) → Passed (hourIn s)
-unfolding hourRows tableRows
-hour-passed s w = record { kept = passed-kept s w .hour-kept; no-bad-area = w .1 .1 .1 .1 .1 .1 .0 }
+hour-passed s w = record { kept = passed-kept s w .hour-kept; no-bad-area = areas-whole s w }
 
 -- what row 11 says of the buffers
 pub record Room (h : Hour) (b : Buffers) : Type 0 where
@@ -56,7 +55,7 @@ pub record Room (h : Hour) (b : Buffers) : Type 0 where
   pub shares-room : h .count ≤ length (b .shares)
   pub deviations-room : h .count ≤ length (b .deviations)
 
-pub buffers-room : (h : Hour) (b : Buffers) → shortOf h b ≡ none → Room h b
+pub buffers-room : (h : Hour) (b : Buffers) → tooShort h b ≡ none → Room h b
 unfolding tooShort
 buffers-room h b enough =
     let c = ltb (length (b .charges)) (members h) in

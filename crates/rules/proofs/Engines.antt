@@ -6,7 +6,7 @@ use mathlib.Core.Option.{none, some}
 use mathlib.Core.List.{List, [], _∷_, _++_}
 use Prim.Native.Nat.{ℕ}
 use native.Mathlib.Omega.{arith}
-use lib.ListN.{length, take}
+use lib.ListN.{length}
 use lib.Dec.{ltb}
 use lib.Signed.{_<ℤ_, clashℤ}
 use borrow.Author.Tests.{ltb-true, ltb-false}
@@ -19,11 +19,12 @@ use Rattle.rules.specs.Record.{Hour, kindOf, isGenerator, entry, entryOf
 use Rattle.rules.specs.HourFile.{hourly, hourIn}
 use Rattle.rules.specs.HourWords.{hourFrom}
 use Rattle.rules.specs.Refusals.{Row, row, Verdict, verdict, scheduledAbove, overScheduled, aboveMaximum}
-use Rattle.rules.specs.Refusals.{badArea, badAmount, noDemand, noMember, noRoom, tableRows, hourRows, fileRows, explainRows, writerRows}
-use Rattle.rules.specs.Settling.{Buffers, settle, writeHour}
+use Rattle.rules.specs.Refusals.{noMember, tooShort, noRoom, blockRows, wordRows, recordRows, sumRows, formRows, fileRows, hourRows}
+use Rattle.rules.specs.Refusals.{Buffers, settleRows, explainRows, listFormRows, listRows, writerRows}
+use Rattle.rules.specs.Settling.{settle, writeHour}
 use Rattle.rules.specs.Explanation.{explain}
 use Rattle.rules.specs.Engines.{WithinMaximum, AllWithin, FirstAbove, HeldToMaximum, Engines}
-use Rattle.rules.proofs.Rows.{Numbered, numbered-on, hasRow, only-row, accepts-when-whole, whole-parts, shortOf, settle-verdict}
+use Rattle.rules.proofs.Rows.{Numbered, numbered-on, hasRow, only-row, accepts-when-whole, whole-parts, form-numbered, settle-verdict}
 use Rattle.rules.proofs.Writing.{verdict-is}
 use Rattle.rules.proofs.Explaining.{explain-verdict}
 
@@ -92,24 +93,24 @@ module _ (s : List ℕ) where
   abbrev h : Hour
   h = hourIn s
 
-  -- behind row 14 settling and an explanation have their own last row alone
+  -- behind row 14 settling and an explanation have the sums' rows and their own last one
   abbrev to-last : Row → List Row
-  to-last last = row 6 (badArea h) ∷ row 7 (badAmount h) ∷ row 12 (noDemand h) ∷ last ∷ []
+  to-last last = sumRows h ++ last ∷ []
 
-  settled : (b : Buffers) → HeldToMaximum (take 5 (fileRows s)) h (settle s b .verdict)
-  unfolding tableRows fileRows hasRow
-  settled b = held h (take 5 (fileRows s)) (to-last (row 11 (shortOf h b))) (omega arith) (omega arith) refl refl (settle-verdict s b)
+  settled : (b : Buffers) → HeldToMaximum (formRows s) h (settle s b .verdict)
+  unfolding blockRows wordRows recordRows sumRows formRows fileRows hourRows settleRows hasRow
+  settled b = held h (formRows s) (to-last (row 11 (tooShort h b))) (form-numbered s) (omega arith) refl refl (settle-verdict s b)
 
-  explained : (m : ℕ) → HeldToMaximum (take 5 (fileRows s)) h (explain s m .verdict)
-  unfolding tableRows fileRows hourRows explainRows hasRow
-  explained m = held h (take 5 (fileRows s)) (to-last (row 13 (noMember h m))) (omega arith) (omega arith) refl refl (explain-verdict s m)
+  explained : (m : ℕ) → HeldToMaximum (formRows s) h (explain s m .verdict)
+  unfolding blockRows wordRows recordRows sumRows formRows fileRows hourRows explainRows hasRow
+  explained m = held h (formRows s) (to-last (row 13 (noMember h m))) (form-numbered s) (omega arith) refl refl (explain-verdict s m)
 
 written : (head records file : List ℕ) →
-    HeldToMaximum (take 3 (writerRows head records (length file))) (hourFrom hourly head records) (writeHour head records file .verdict)
-unfolding writerRows hasRow
+    HeldToMaximum (listFormRows head records) (hourFrom hourly head records) (writeHour head records file .verdict)
+unfolding wordRows recordRows listFormRows listRows writerRows hasRow
 written head records file =
     let h = hourFrom hourly head records in
-    held h (take 3 (writerRows head records (length file))) (row 11 (noRoom h (length file)) ∷ []) (omega arith) (omega arith) refl refl
+    held h (listFormRows head records) (row 11 (noRoom h (length file)) ∷ []) (omega arith) (omega arith) refl refl
     (verdict-is head records file)
 
 pub engines : Engines

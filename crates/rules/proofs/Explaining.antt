@@ -14,8 +14,8 @@ use Rattle.rules.specs.declared.Line.{Line}
 use Rattle.rules.specs.Record.{Hour, members, zones, areaOf, zoneOf}
 use Rattle.rules.specs.Charge.{amount, charge}
 use Rattle.rules.specs.HourFile.{hourIn}
-use Rattle.rules.specs.Refusals.{row, accepted, refusedAt, verdict, noMember, hourRows, explainRows}
-use Rattle.rules.specs.Settling.{Buffers, isAccepted, settle, filled, lineOf, emptyLine}
+use Rattle.rules.specs.Refusals.{row, accepted, refusedAt, verdict, noMember, hourRows, explainRows, Buffers}
+use Rattle.rules.specs.Settling.{isAccepted, settle, filled, lineOf, emptyLine}
 use Rattle.rules.specs.Explanation.{heads, noHeads, decided, explain}
 use Rattle.rules.specs.Promises.{Accepts, AllWhole, FirstBrokenRow}
 use Rattle.rules.specs.Explaining.{Explains, Explaining}

@@ -17,12 +17,11 @@ use Rattle.rules.specs.Share.{allDemand}
 use Rattle.rules.specs.Charge.{charge}
 use Rattle.rules.specs.Neutrality.{memberDemand, hourDemand, neutrality, final}
 use Rattle.rules.specs.HourFile.{hourIn}
-use Rattle.rules.specs.Refusals.{accepted, verdict, noDemand, tableRows, hourRows, fileRows}
-use Rattle.rules.specs.Settling.{Buffers, filled}
-use Rattle.rules.specs.Promises.{AllWhole}
+use Rattle.rules.specs.Refusals.{accepted, verdict, Buffers, noDemand, fileRows}
+use Rattle.rules.specs.Settling.{filled}
 use Rattle.rules.specs.Finals.{NeutralOutcome, Neutrality}
 use Rattle.rules.specs.Inner.Kept.{HourKept}
-use Rattle.rules.proofs.Rows.{no-place, accepts-when-whole, file-numbered, settle-whole, settle-fills}
+use Rattle.rules.proofs.Rows.{no-place, accepts-when-whole, file-numbered, form-whole, demand-whole, settle-whole, settle-fills}
 use Rattle.rules.proofs.Kept.{file-kept}
 use Rattle.rules.proofs.Demands.{Room, buffers-room}
 use Rattle.rules.proofs.Neutral.{hour-demand-by-area, hour-demand-most, neutrality-under, neutral-alike}
@@ -33,10 +32,6 @@ unfolding noDemand
 shareable h whole z =
     let some = no-place (eqb (hourDemand h) 0 && not (eqb (natAbs (neutrality h)) 0)) whole in
     abs-zero (neutrality h) (eqb-true _ _ (not-false _ (rw (eq-eqb (hourDemand h) 0 z) at some)))
-
-row-12 : (s : List ℕ) → AllWhole (hourRows s) → noDemand (hourIn s) ≡ none
-unfolding hourRows tableRows
-row-12 s w = w .1 .1 .1 .1 .1 .1 .1 .1 .0
 
 filled-neutral : (h : Hour) (b : Buffers) → Room h b → noDemand h ≡ none → NeutralOutcome h b (filled h b)
 unfolding filled
@@ -56,14 +51,14 @@ products {h} kept m l =
     omega (arith, mul-le-mul d (neutrality-under kept .under))
 
 passed : (s : List ℕ) → verdict (fileRows s) ≡ accepted → HourKept (hourIn s)
-passed s e = file-kept s (accepts-when-whole (fileRows s) (file-numbered s) .0 e) .hour-kept
+passed s e = file-kept s (form-whole s (accepts-when-whole (fileRows s) (file-numbered s) .0 e)) .hour-kept
 
 pub neutrality-shared : Neutrality
 neutrality-shared = record {
   settled = λ s b a.
       let h = hourIn s in
       let p = settle-whole s b a in
-      rw (settle-fills s b a .0) (filled-neutral h b (buffers-room h b (p .1)) (row-12 s (p .0)));
+      rw (settle-fills s b a .0) (filled-neutral h b (buffers-room h b (p .1)) (demand-whole s (p .0)));
   all-demand = λ s e. hour-demand-by-area (passed s e);
   products = λ s e m l. products (passed s e) m l;
 }

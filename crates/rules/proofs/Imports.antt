@@ -1,21 +1,23 @@
 -- What is asked of imports. Document 02, A3.
 use mathlib.Core.Path.{_≡_, refl, _∙_}
 use mathlib.Core.Bool.{true}
-use mathlib.Core.Option.{some}
-use mathlib.Core.List.{List}
+use mathlib.Core.Option.{none, some}
+use mathlib.Core.List.{List, [], _∷_, _++_}
 use Prim.Native.Nat.{ℕ, _≤_}
 use native.Mathlib.Omega.{arith}
-use lib.ListN.{length, take}
+use lib.ListN.{length}
 use Rattle.whole.proofs.Tests.{split}
 use Rattle.whole.proofs.Search.{first-some}
 use Rattle.rules.specs.Record.{Hour, members, areas, kindOf}
 use Rattle.rules.specs.HourFile.{hourly, hourIn}
 use Rattle.rules.specs.HourWords.{hourFrom}
 use Rattle.rules.specs.Ranges.{rulesOf, recordRule}
-use Rattle.rules.specs.Refusals.{accepted, refusedAt, verdict, isBroken, badWord, badRecord, tableRows, fileRows, writerRows}
-use Rattle.rules.specs.Settling.{Buffers, settle, writeHour}
+use Rattle.rules.specs.Refusals.{Row, row, accepted, refusedAt, verdict, Buffers, isBroken, badWord, badRecord, tooShort, badLists, noRoom}
+use Rattle.rules.specs.Refusals.{blockRows, wordRows, recordRows, sumRows, formRows, fileRows, hourRows, settleRows}
+use Rattle.rules.specs.Refusals.{listFormRows, listRows, writerRows}
+use Rattle.rules.specs.Settling.{settle, writeHour}
 use Rattle.rules.specs.Imports.{FirstMetered, Imports}
-use Rattle.rules.proofs.Rows.{accepts-when-whole, settle-verdict}
+use Rattle.rules.proofs.Rows.{accepts-when-whole, passed-on, block-numbered, settle-verdict}
 use Rattle.rules.proofs.Kept.{unbroken, all-hold}
 use Rattle.rules.proofs.Writing.{verdict-is}
 
@@ -33,19 +35,25 @@ module _ {h : Hour} {i : ℕ} (m : FirstMetered h i) where
   unfolding badRecord
   record-broken = first-some (λ j. isBroken (badWord h j)) (h .count) i .1 (m .there, word-broken, λ j l. rw (m .before j l))
 
-metered-refused : (s : List ℕ) (b : Buffers) (i : ℕ) → verdict (take 4 (fileRows s)) ≡ accepted →
-    FirstMetered (hourIn s) i → settle s b .verdict ≡ refusedAt 5 i
-unfolding verdict tableRows fileRows
-metered-refused s b i passed m =
-    let whole = accepts-when-whole (take 4 (fileRows s)) (omega arith) .0 passed in
-    settle-verdict s b ∙ rw (whole .0, whole .1 .0, whole .1 .1 .0, whole .1 .1 .1 .0, record-broken m) refl
+-- and these two rows say so, whatever stands behind them
+words-refused : {h : Hour} {i : ℕ} (more : List Row) → FirstMetered h i → verdict (wordRows h ++ more) ≡ refusedAt 5 i
+unfolding verdict wordRows
+words-refused more m = rw (m .head-whole, record-broken m) refl
 
-metered-unwritten : (head records file : List ℕ) (i : ℕ) → verdict (take 2 (writerRows head records (length file))) ≡ accepted →
+metered-refused : (s : List ℕ) (b : Buffers) (i : ℕ) → verdict (blockRows s) ≡ accepted → FirstMetered (hourIn s) i →
+    settle s b .verdict ≡ refusedAt 5 i
+unfolding blockRows wordRows formRows fileRows hourRows settleRows
+metered-refused s b i passed m = let h = hourIn s in
+    settle-verdict s b
+    ∙ passed-on (blockRows s) (wordRows h ++ ((recordRows h ++ sumRows h) ++ row 11 (tooShort h b) ∷ []))
+    (accepts-when-whole (blockRows s) (block-numbered s) .0 passed)
+    ∙ words-refused _ m
+
+metered-unwritten : (head records file : List ℕ) (i : ℕ) → badLists head records ≡ none →
     FirstMetered (hourFrom hourly head records) i → writeHour head records file .verdict ≡ refusedAt 5 i
-unfolding verdict writerRows
-metered-unwritten head records file i passed m =
-    let whole = accepts-when-whole (take 2 (writerRows head records (length file))) (omega arith) .0 passed in
-    verdict-is head records file ∙ rw (whole .0, whole .1 .0, record-broken m) refl
+unfolding verdict wordRows listFormRows listRows writerRows
+metered-unwritten head records file i passed m = let h = hourFrom hourly head records in
+    verdict-is head records file ∙ rw passed (words-refused (recordRows h ++ row 11 (noRoom h (length file)) ∷ []) m)
 
 pub imports : Imports
 imports = record { refused = metered-refused; unwritten = metered-unwritten }

@@ -21,10 +21,10 @@ use Rattle.rules.specs.Record.{Hour, members, zones, areas, zonePrice, z
 use Rattle.rules.specs.Record.{kindOf, isGenerator, isImport, signed, actual, entry, entryOf}
 use Rattle.rules.specs.HourFile.{hourly, lengthBad, blocks, blockWord, recordCount, hourOf, hourIn}
 use Rattle.rules.specs.Ranges.{firstBroken, mustBeZero, countRule, blockRule, areaRule, headRule, rulesOf, recordRule}
-use Rattle.rules.specs.Refusals.{isBroken, badLength, badBlock, badHead, badWord, badRecord, tableRows, fileRows, hourRows}
+use Rattle.rules.specs.Refusals.{isBroken, badLength, badBlock, badHead, badWord, badRecord, blockRows, wordRows, formRows, hourRows}
 use Rattle.rules.specs.Promises.{AllWhole}
 use Rattle.rules.specs.Inner.Kept.{EntryKept, RecordKept, AreaKept, HourKept, FileKept}
-use Rattle.rules.proofs.Rows.{no-place, file-whole}
+use Rattle.rules.proofs.Rows.{no-place, whole-parts, form-whole, file-whole}
 use Rattle.rules.proofs.Words.{Holds, holds, length-is-whole}
 
 -- ---- a search that found nothing
@@ -211,16 +211,18 @@ module _ (s : List ℕ) (length-whole : badLength hourly s ≡ none) (blocks-who
       let held : blockWord s (blocks s - 1) 2 ≤ 10 = held-most hourly s blocks-whole (blocks s - 1) (omega arith) (omega arith) in
       rw e (omega arith))
 
--- A file whose rows 1 to 5 and 14 are whole keeps the ranges of document 01.
-pub file-kept : (s : List ℕ) → AllWhole (fileRows s) → FileKept s
-unfolding fileRows tableRows
-file-kept s e =
-    let h = hourIn s in
+-- A file whose rows 1 to 5 are whole keeps the ranges of document 01.
+pub file-kept : (s : List ℕ) → AllWhole (formRows s) → FileKept s
+unfolding formRows blockRows wordRows
+file-kept s w =
+    let parts = whole-parts (blockRows s) (wordRows (hourIn s)) .0 w in
+    let length-whole : badLength hourly s ≡ none = parts .0 .0 in
+    let blocks-whole : badBlock hourly s ≡ none = parts .0 .1 .1 .0 in
     record {
-      length-good = length-good s (e .0) (e .1 .1 .0);
-      hour-kept = hour-kept h (e .1 .1 .1 .0) (e .1 .1 .1 .1 .0) (count-most s (e .0) (e .1 .1 .0));
+      length-good = length-good s length-whole blocks-whole;
+      hour-kept = hour-kept (hourIn s) (parts .1 .0) (parts .1 .1 .0) (count-most s length-whole blocks-whole);
     }
 
 -- so does a file that passes the rows of a statement
 pub passed-kept : (s : List ℕ) → AllWhole (hourRows s) → FileKept s
-passed-kept s w = file-kept s (file-whole s w)
+passed-kept s w = file-kept s (form-whole s (file-whole s w))

@@ -12,5 +12,5 @@ use Rattle.rules.specs.Refused.{sealed, first, plainHead}
 pub missing-block : Refusals.verdict (Refusals.fileRows (first 1 (plainHead 2))) ≡ Refusals.refusedAt 3 0
 unfolding Below.sumBelow Below.firstBelow orElse HourFile.word HourFile.blocks HourFile.blockWord HourFile.blockSum HourFile.lengthBad
     HourFile.recordCount Ranges.keeps Ranges.firstBroken Ranges.countRule Ranges.pastRule Ranges.blockRule Refusals.verdict
-    Refusals.badLength Refusals.badSum Refusals.badBlock Refusals.tableRows Refusals.fileRows wordBytes sealed
+    Refusals.badLength Refusals.badSum Refusals.badBlock Refusals.blockRows Refusals.formRows Refusals.fileRows wordBytes sealed
 missing-block = refl

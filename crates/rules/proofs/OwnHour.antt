@@ -16,9 +16,10 @@ use Rattle.rules.specs.Record.{Hour}
 use Rattle.rules.specs.HourFile.{hourly, blocks, blockWord, blockSum, recordCount, recordWord, hourOf, hourIn}
 use Rattle.rules.specs.HourWords.{closing, blocksFor, heldIn, bodyWord, openWord, fileWord, fileLength}
 use Rattle.rules.specs.Ranges.{firstBroken, countRule, blockRule}
-use Rattle.rules.specs.Refusals.{badSum, badBlock, tableRows, fileRows}
+use Rattle.rules.specs.Refusals.{badSum, badBlock, blockRows, wordRows, formRows}
 use Rattle.rules.specs.Promises.{AllWhole}
 use Rattle.rules.specs.Finals.{AreBytes}
+use Rattle.rules.proofs.Rows.{whole-parts}
 use Rattle.rules.proofs.Words.{Holds, WholeBlocks, length-is-whole, record-count, head-word, record-word}
 use Rattle.rules.proofs.Kept.{unbroken, all-hold, file-kept}
 use Rattle.rules.proofs.Faults.{past-records}
@@ -29,9 +30,13 @@ use Rattle.rules.proofs.Said.{Says}
 only-value : {k v : ℕ} → (k ≤ v) × (v ≤ k) → k ≡ v
 only-value p = omega (arith, p)
 
-module _ (s : List ℕ) (bytes : AreBytes s) (whole : AllWhole (fileRows s)) where
+module _ (s : List ℕ) (bytes : AreBytes s) (whole : AllWhole (formRows s)) where
   abbrev h : Hour
   h = hourIn s
+
+  blocks-whole : AllWhole (blockRows s)
+  unfolding formRows
+  blocks-whole = whole-parts (blockRows s) (wordRows h) .0 whole .0
 
   abbrev N : ℕ
   N = blocks s
@@ -41,9 +46,9 @@ module _ (s : List ℕ) (bytes : AreBytes s) (whole : AllWhole (fileRows s)) whe
 
   -- every word of every block keeps its rule
   block-holds : (b w : ℕ) → b < N → w < 128 → Holds (blockRule hourly N (blockWord s b 2) b w) (blockWord s b w)
-  unfolding fileRows tableRows badBlock
+  unfolding blockRows badBlock
   block-holds b w l m = all-hold (blockRule hourly N (blockWord s b 2) b) (blockWord s b) 128
-      (unbroken _ (first-none _ N (whole .1 .1 .0) b l)) w m
+      (unbroken _ (first-none _ N (blocks-whole .1 .1 .0) b l)) w m
 
   full-held : (b : ℕ) → 1 ≤ b → b + 1 < N → 10 ≡ blockWord s b 2
   unfolding blockRule countRule
@@ -127,10 +132,10 @@ module _ (s : List ℕ) (bytes : AreBytes s) (whole : AllWhole (fileRows s)) whe
       there some = rw (← record-count hourly s) (omega (arith, some))
 
   past-said : (b k : ℕ) → 1 ≤ b → b < N → k < 120 → 12 * heldIn hourly h b ≤ k → 0 ≡ blockWord s b (8 + k)
-  unfolding fileRows tableRows badBlock firstBroken
+  unfolding blockRows badBlock firstBroken
   past-said b k one l m q =
       let far : 8 + 12 * blockWord s b 2 ≤ 8 + k = omega (arith, held-said b one l) in
-      let kept = first-none _ 128 (unbroken _ (first-none _ N (whole .1 .1 .0) b l)) (8 + k) (omega arith) in
+      let kept = first-none _ 128 (unbroken _ (first-none _ N (blocks-whole .1 .1 .0) b l)) (8 + k) (omega arith) in
       let v : ℕ = blockWord s b (8 + k) in
       let zero-there = sym (past-records hourly N (blockWord s b 2) b (8 + k) v (λ e. omega arith) (omega arith)) ∙ kept in
       sym (eqb-true _ 0 (not-false _ (rw (le-leb _ _ far) at zero-there)))
@@ -151,9 +156,9 @@ module _ (s : List ℕ) (bytes : AreBytes s) (whole : AllWhole (fileRows s)) whe
 
   -- word 7 is the one that makes the sum zero
   seven-said : (b : ℕ) → b < N → closing (sumBelow (openWord hourly h b) 128) ≡ blockWord s b 7
-  unfolding fileRows tableRows badSum blockSum blockWord
+  unfolding blockRows badSum blockSum blockWord
   seven-said b l = only-word-7 (openWord hourly h b) 128 (omega arith) (still-zero h b) (blockWord s b) (word-most s bytes (128 * b + 7))
-      (eqb-true _ 0 (not-false _ (first-none _ N (whole .1 .0) b l)))
+      (eqb-true _ 0 (not-false _ (first-none _ N (blocks-whole .1 .0) b l)))
       (λ w m f. sym (open-said b w l m f))
 
   pub own-hour : Says s h

@@ -14,7 +14,7 @@ use Rattle.whole.proofs.Tests.{split}
 use Rattle.whole.proofs.Buffers.{length-values}
 use Rattle.rules.specs.HourFile.{hourly, word}
 use Rattle.rules.specs.HourWords.{hourFrom, fileLength, fileOf}
-use Rattle.rules.specs.Refusals.{accepted, refusedAt, verdict, badLists, noRoom, writerRows, listRows}
+use Rattle.rules.specs.Refusals.{accepted, refusedAt, verdict, badLists, noRoom, wordRows, recordRows, listFormRows, listRows, writerRows}
 use Rattle.rules.specs.Settling.{isAccepted}
 use Rattle.rules.specs.Statement.{refusedLine}
 use Rattle.rules.specs.RawHour.{rawWords, rawHead, rawRecords, rawRows, rawWritten}
@@ -33,13 +33,13 @@ file-most head records e = omega (arith, some-blocks (hourFrom hourly head recor
 
 pub room-for-file : (head records : List ℕ) (room : ℕ) → 13312 ≤ room →
     verdict (writerRows head records room) ≡ verdict (listRows head records)
-unfolding listRows writerRows noRoom
+unfolding listFormRows listRows writerRows noRoom
 room-for-file head records room enough = last-decides-nothing (listRows head records) 11 _ (λ whole.
     rw (le-ltb room (fileLength hourly (hourFrom hourly head records)) (omega (arith, file-most head records (whole .0), enough))) refl)
 
 module _ (s : List ℕ) where
   raw-numbered : Numbered (rawRows s)
-  unfolding rawRows listRows writerRows
+  unfolding rawRows listRows listFormRows wordRows recordRows
   raw-numbered = omega arith
 
   raw-accepted : verdict (rawRows s) ≡ accepted → rawWritten s ≡ fileOf hourly (hourFrom hourly (rawHead s) (rawRecords s))
@@ -57,7 +57,7 @@ module _ (s : List ℕ) where
   -- ---- how long it is
 
   raw-file-most : verdict (rawRows s) ≡ accepted → length (rawWritten s) ≤ 13312
-  unfolding rawRows listRows writerRows
+  unfolding rawRows listRows listFormRows
   raw-file-most e =
       let whole = accepts-when-whole (rawRows s) raw-numbered .0 e in
       rw (raw-accepted e, length-of-file (hourFrom hourly (rawHead s) (rawRecords s))) (file-most (rawHead s) (rawRecords s) (whole .1 .0))
@@ -71,7 +71,7 @@ module _ (s : List ℕ) where
 
   -- over 12,480 bytes are no whole words, or a head and more than 250 records, or no whole records
   pub too-long-refused : 12480 < length s → verdict (rawRows s) ≡ refusedAt 1 0
-  unfolding rawRows listRows writerRows badLists verdict
+  unfolding rawRows listRows listFormRows badLists verdict
   too-long-refused l = split (eqb (length s % 4) 0)
       (λ t. rw t (split (eqb (length (rawRecords s) % 12) 0)
       (λ u. let whole-words = eqb-true (length s % 4) 0 t in

@@ -4,7 +4,7 @@ use mathlib.Core.Path.{_≡_, refl, sym, _∙_, ap, ap₂}
 use mathlib.Core.Logic.{_↔_}
 use mathlib.Core.Bool.{Bool, true, false, cond, _||_}
 use mathlib.Core.Option.{Option, none, some}
-use mathlib.Core.List.{List, [], _∷_, _++_}
+use mathlib.Core.List.{List, [], _∷_, _++_, append-assoc}
 use Prim.Native.Nat.{ℕ, suc, _≤_}
 use native.Mathlib.Omega.{arith}
 use lib.IntN.{ℤ}
@@ -18,9 +18,9 @@ use Rattle.rules.specs.declared.Answer.the-variants.{OutOfRange, TooNarr
 use Rattle.rules.specs.Record.{Hour}
 use Rattle.rules.specs.HourFile.{hourIn}
 use Rattle.rules.specs.Refusals.{Row, row, Verdict, accepted, refusedAt, verdictOf, verdict, placeZeroIf}
-use Rattle.rules.specs.Refusals.{badArea, badAmount, noDemand, tooShort}
-use Rattle.rules.specs.Refusals.{tableRows, fileRows, hourRows, writeRows}
-use Rattle.rules.specs.Settling.{Buffers, Settlement, isAccepted, settleRows, filled, ufeFigures, noFigures, settle, write}
+use Rattle.rules.specs.Refusals.{Buffers, tooShort, blockRows, wordRows, recordRows, sumRows, formRows, fileRows, hourRows, settleRows}
+use Rattle.rules.specs.Refusals.{badArea, noDemand, writeRows}
+use Rattle.rules.specs.Settling.{Settlement, isAccepted, filled, ufeFigures, noFigures, settle, write}
 use Rattle.rules.specs.Promises.{Accepts, AllWhole, FirstBrokenRow, OneSettlement}
 
 -- ---- any table
@@ -157,55 +157,74 @@ module _ (s : List ℕ) where
   abbrev h : Hour
   h = hourIn s
 
+  pub block-numbered : Numbered (blockRows s)
+  unfolding blockRows
+  block-numbered = omega arith
+
+  pub form-numbered : Numbered (formRows s)
+  unfolding formRows wordRows
+  form-numbered = numbered-on (blockRows s) (wordRows h) block-numbered (omega arith)
+
   pub file-numbered : Numbered (fileRows s)
-  unfolding fileRows tableRows
-  file-numbered = omega arith
+  unfolding fileRows recordRows
+  file-numbered = numbered-on (formRows s) (recordRows h) form-numbered (omega arith)
 
   pub hour-numbered : Numbered (hourRows s)
-  unfolding hourRows tableRows
-  hour-numbered = omega arith
+  unfolding hourRows sumRows
+  hour-numbered = numbered-on (fileRows s) (sumRows h) file-numbered (omega arith)
 
-  pub settle-numbered : (b : Buffers) → Numbered (settleRows s b)
-  unfolding tableRows
-  settle-numbered b = omega arith
-
-  -- the table in parts: 1 to 5 and 14, then 6, 7 and 12, then 11
-  pub hour-in-parts : hourRows s ≡ fileRows s ++ row 6 (badArea h) ∷ row 7 (badAmount h) ∷ row 12 (noDemand h) ∷ []
-  unfolding hourRows fileRows tableRows
-  hour-in-parts = refl
+  -- which rows are whole where more are
+  pub form-whole : AllWhole (fileRows s) → AllWhole (formRows s)
+  unfolding fileRows
+  form-whole w = whole-parts (formRows s) (recordRows h) .0 w .0
 
   pub file-whole : AllWhole (hourRows s) → AllWhole (fileRows s)
-  file-whole w = whole-parts (fileRows s) (row 6 (badArea h) ∷ row 7 (badAmount h) ∷ row 12 (noDemand h) ∷ []) .0 (rw hour-in-parts at w) .0
+  unfolding hourRows
+  file-whole w = whole-parts (fileRows s) (sumRows h) .0 w .0
 
-  module _ (charges finals lines shares deviations : ℕ) where
-    abbrev lengthRow : Row
-    lengthRow = row 11 (tooShort h charges finals lines shares deviations)
+  sums-whole : AllWhole (hourRows s) → AllWhole (sumRows h)
+  unfolding hourRows
+  sums-whole w = whole-parts (fileRows s) (sumRows h) .0 w .1
 
-    pub table-in-parts : tableRows s charges finals lines shares deviations ≡ hourRows s ++ lengthRow ∷ []
-    unfolding hourRows tableRows
-    table-in-parts = refl
+  pub areas-whole : AllWhole (hourRows s) → badArea h ≡ none
+  unfolding sumRows
+  areas-whole w = sums-whole w .0
 
-    -- what rows 1 to 5 and 14 refuse, the table refuses alike
-    pub file-decides : (verdict (fileRows s) ≡ accepted → ⊥) →
-        verdict (tableRows s charges finals lines shares deviations) ≡ verdict (fileRows s)
-    unfolding fileRows tableRows
-    file-decides = refused-first (fileRows s) (row 6 (badArea h) ∷ row 7 (badAmount h) ∷ row 12 (noDemand h) ∷ lengthRow ∷ [])
+  pub demand-whole : AllWhole (hourRows s) → noDemand h ≡ none
+  unfolding sumRows
+  demand-whole w = sums-whole w .1 .1 .0
 
-    pub table-whole : AllWhole (tableRows s charges finals lines shares deviations) →
-        AllWhole (hourRows s) × (tooShort h charges finals lines shares deviations ≡ none)
-    table-whole w =
-        let parts = whole-parts (hourRows s) (lengthRow ∷ []) .0 (rw table-in-parts at w) in
-        (parts .0, parts .1 .0)
+  module _ (b : Buffers) where
+    abbrev lengthRow : List Row
+    lengthRow = row 11 (tooShort h b) ∷ []
+
+    pub settle-numbered : Numbered (settleRows s b)
+    unfolding settleRows
+    settle-numbered = numbered-on (hourRows s) lengthRow hour-numbered (omega arith)
+
+    -- what rows 1 to 5 and 14 refuse, settling refuses alike
+    pub file-decides : (verdict (fileRows s) ≡ accepted → ⊥) → verdict (settleRows s b) ≡ verdict (fileRows s)
+    unfolding settleRows hourRows
+    file-decides r =
+        let hour-refuses = refused-first (fileRows s) (sumRows h) r in
+        refused-first (hourRows s) lengthRow (λ e. r (sym hour-refuses ∙ e)) ∙ hour-refuses
+
+    -- what they pass, the sums and the lengths decide
+    pub file-passed : verdict (fileRows s) ≡ accepted → verdict (settleRows s b) ≡ verdict (sumRows h ++ lengthRow)
+    unfolding settleRows hourRows
+    file-passed e =
+        ap verdict (append-assoc (fileRows s) (sumRows h) lengthRow)
+        ∙ passed-on (fileRows s) (sumRows h ++ lengthRow) (accepts-when-whole (fileRows s) file-numbered .0 e)
+
+    pub table-whole : AllWhole (settleRows s b) → AllWhole (hourRows s) × (tooShort h b ≡ none)
+    unfolding settleRows
+    table-whole w = let parts = whole-parts (hourRows s) lengthRow .0 w in (parts .0, parts .1 .0)
 
 pub write-numbered : (width : ℕ) (z : ℤ) → Numbered (writeRows width z)
 unfolding writeRows
 write-numbered width z = omega arith
 
 -- ---- settling
-
--- row 11, of these buffers
-abbrev pub shortOf : Hour → Buffers → Option ℕ
-shortOf h b = tooShort h (length (b .charges)) (length (b .finals)) (length (b .lines)) (length (b .shares)) (length (b .deviations))
 
 module _ (s : List ℕ) (b : Buffers) where
   pub settle-verdict : settle s b .verdict ≡ verdict (settleRows s b)
@@ -222,9 +241,8 @@ module _ (s : List ℕ) (b : Buffers) where
       (λ e. r .0 (sym settle-verdict ∙ e), λ w. settle-verdict ∙ r .1 w)
 
   -- accepted: every row but 11 is whole, and no buffer is too short
-  pub settle-whole : Accepts s b → AllWhole (hourRows s)
-      × (shortOf (hourIn s) b ≡ none)
-  settle-whole a = table-whole s _ _ _ _ _ (settle-accepts .0 a)
+  pub settle-whole : Accepts s b → AllWhole (hourRows s) × (tooShort (hourIn s) b ≡ none)
+  settle-whole a = table-whole s b (settle-accepts .0 a)
 
   pub settle-refuses : (n p : ℕ) → (settle s b .verdict ≡ refusedAt (suc n) p) ↔ FirstBrokenRow (settleRows s b) (suc n) p
   settle-refuses n p = let r = refuses-at-first (settleRows s b) n p in

@@ -14,11 +14,11 @@ use Rattle.rules.specs.Record.{Hour, hourNumber, members}
 use Rattle.rules.specs.Charge.{charge}
 use Rattle.rules.specs.Neutrality.{final}
 use Rattle.rules.specs.HourFile.{lengthBad, hourOf, blockWord, hourIn}
-use Rattle.rules.specs.Refusals.{Verdict, accepted, refusedAt, verdict, badLength, tooShort, tableRows, hourRows}
+use Rattle.rules.specs.Refusals.{Verdict, accepted, refusedAt, verdict, Buffers, badLength, tooShort, blockRows, formRows, fileRows, hourRows, settleRows}
 use Rattle.rules.specs.Settling.{isAccepted}
 use Rattle.rules.specs.Statement.{firstLine, column, memberLine, memberLines, acceptedLines, refusedLine, statement}
 use Rattle.rules.specs.Inner.Kept.{HourKept, FileKept}
-use Rattle.rules.proofs.Rows.{accepts-when-whole, hour-numbered, table-in-parts, zero-accepts, last-decides-nothing}
+use Rattle.rules.proofs.Rows.{accepts-when-whole, hour-numbered, zero-accepts, last-decides-nothing}
 use Rattle.rules.proofs.Kept.{passed-kept}
 use Rattle.rules.proofs.WordBytes.{word-most}
 use Rattle.rules.proofs.Digits.{decimal-at-most-20, decimal-length-at-most}
@@ -31,19 +31,18 @@ pub accepted-kept : (s : List ℕ) → verdict (hourRows s) ≡ accepted → Fil
 accepted-kept s e = passed-kept s (accepts-when-whole (hourRows s) (hour-numbered s) .0 e)
 
 -- room for 32 members and 250 records is enough for every hour: row 11 decides nothing
-pub room-for-all : (s : List ℕ) (charges finals lines shares deviations : ℕ) → 32 ≤ charges → 32 ≤ finals → 32 ≤ lines →
-    250 ≤ shares → 250 ≤ deviations →
-    verdict (tableRows s charges finals lines shares deviations) ≡ verdict (hourRows s)
-unfolding tooShort
-room-for-all s c f l n d pc pf pl pn pd = ap verdict (table-in-parts s c f l n d) ∙ last-decides-nothing (hourRows s) 11 _ (λ whole.
+pub room-for-all : (s : List ℕ) (b : Buffers) → 32 ≤ length (b .charges) → 32 ≤ length (b .finals) → 32 ≤ length (b .lines) →
+    250 ≤ length (b .shares) → 250 ≤ length (b .deviations) → verdict (settleRows s b) ≡ verdict (hourRows s)
+unfolding tooShort settleRows
+room-for-all s b pc pf pl pn pd = last-decides-nothing (hourRows s) 11 _ (λ whole.
     let k = passed-kept s whole .hour-kept in
     let h = hourIn s in
     rw (
-      le-ltb c (members h) (omega (arith, k .members-most)),
-      le-ltb f (members h) (omega (arith, k .members-most)),
-      le-ltb l (members h) (omega (arith, k .members-most)),
-      le-ltb n (h .count) (omega (arith, k .count-most)),
-      le-ltb d (h .count) (omega (arith, k .count-most)),
+      le-ltb (length (b .charges)) (members h) (omega (arith, k .members-most)),
+      le-ltb (length (b .finals)) (members h) (omega (arith, k .members-most)),
+      le-ltb (length (b .lines)) (members h) (omega (arith, k .members-most)),
+      le-ltb (length (b .shares)) (h .count) (omega (arith, k .count-most)),
+      le-ltb (length (b .deviations)) (h .count) (omega (arith, k .count-most)),
     ) refl)
 
 module _ (s : List ℕ) where
@@ -107,7 +106,7 @@ statement-fits s b = split (isAccepted (verdict (hourRows s)))
 
 -- a file over 26 blocks is refused by its length alone
 pub too-long-refused : (s : List ℕ) → 13312 < length s → verdict (hourRows s) ≡ refusedAt 1 0
-unfolding hourRows tableRows verdict badLength lengthBad
+unfolding hourRows fileRows formRows blockRows verdict badLength lengthBad
 too-long-refused s l = rw (lt-ltb 13312 (length s) l, or-true)
 
 too-long : (s : List ℕ) → 13312 < length s → statement s ≡ refusedLine (refusedAt 1 0)

@@ -21,7 +21,7 @@ use Rattle.rules.specs.Neutrality.{hourDemand, neutrality, final}
 use Rattle.rules.specs.Text.{bytes, decimal, digitCount, digitsValue}
 use Rattle.rules.specs.HourFile.{hourly, lengthBad, word, blocks, blockWord, recordCount, hourOf, hourIn}
 use Rattle.rules.specs.Ranges.{firstBroken}
-use Rattle.rules.specs.Refusals.{Row, row, Verdict, accepted, refusedAt, verdict, placeZeroIf, tableRows, hourRows}
+use Rattle.rules.specs.Refusals.{Row, row, Verdict, accepted, refusedAt, verdict, placeZeroIf, blockRows, wordRows, recordRows, sumRows, formRows, fileRows, hourRows}
 use Rattle.rules.specs.Refusals.{badLength, badSum, badBlock, badHead, badRecord, aboveMaximum, badArea, badAmount, noDemand}
 use Rattle.rules.specs.Settling.{ReadAmount, isAccepted, read}
 use Rattle.rules.specs.Statement.{firstLine, memberLines, acceptedLines, refusedLine, statement}
@@ -96,7 +96,7 @@ module _ (s : List ℕ) (b : AreBytes s) where
   blocks-small l = omega arith
 
   rows-small : length s ≤ 13312 → SmallRows (hourRows s)
-  unfolding hourRows tableRows badLength badSum badBlock badHead badRecord aboveMaximum badArea badAmount noDemand firstBroken
+  unfolding hourRows fileRows formRows blockRows wordRows recordRows sumRows badLength badSum badBlock badHead badRecord aboveMaximum badArea badAmount noDemand firstBroken
   rows-small l =
       let h = hourIn s in
       small-row 1 (omega arith) (zero-small (lengthBad hourly s)) (

@@ -1,9 +1,9 @@
 -- What is asked of the writer of hour files. Document 02, A2.
-use mathlib.Core.Path.{_≡_, refl, sym, _∙_, ap, ap₂}
+use mathlib.Core.Path.{_≡_, refl, sym, _∙_, ap, ap₂, subst}
 use mathlib.Core.Logic.{_↔_}
 use mathlib.Core.Bool.{not, _&&_, _||_}
 use mathlib.Core.Option.{none}
-use mathlib.Core.List.{List, _++_}
+use mathlib.Core.List.{List, [], _∷_, _++_}
 use Prim.Native.Nat.{ℕ, suc, _+_, _-_, _*_, _/_, _%_, _≤_, _<_}
 use native.Mathlib.Omega.{arith}
 use lib.ListN.{length, drop}
@@ -16,13 +16,13 @@ use Rattle.whole.proofs.Buffers.{length-values, getD-values, length-replacing, 
 use Rattle.rules.specs.Record.{Hour}
 use Rattle.rules.specs.HourFile.{hourly, blockWord, recordCount, recordWord, hourOf, hourIn}
 use Rattle.rules.specs.HourWords.{hourFrom, headWords, recordWords, fileByte, fileLength, fileOf}
-use Rattle.rules.specs.Refusals.{Verdict, accepted, refusedAt, verdict, badLists, badHead, badRecord, aboveMaximum, noRoom}
-use Rattle.rules.specs.Refusals.{tableRows, fileRows, writerRows}
+use Rattle.rules.specs.Refusals.{row, Verdict, accepted, refusedAt, verdict, badLists, noRoom}
+use Rattle.rules.specs.Refusals.{blockRows, wordRows, recordRows, formRows, fileRows, listFormRows, listRows, writerRows}
 use Rattle.rules.specs.Settling.{HourWritten, isAccepted, writeHour}
 use Rattle.rules.specs.Promises.{AllWhole, FirstBrokenRow}
 use Rattle.rules.specs.Finals.{AreBytes}
 use Rattle.rules.specs.Writing.{AreWords, fileIn, Writing}
-use Rattle.rules.proofs.Rows.{Numbered, accepts-when-whole, zero-accepts, refuses-at-first, file-numbered, no-place}
+use Rattle.rules.proofs.Rows.{Numbered, accepts-when-whole, zero-accepts, refuses-at-first, whole-parts, file-numbered, form-whole, no-place}
 use Rattle.rules.proofs.Words.{record-count}
 use Rattle.rules.proofs.Kept.{file-kept}
 use Rattle.rules.proofs.FileWords.{OfWords}
@@ -32,7 +32,7 @@ use Rattle.rules.proofs.OwnHour.{own-hour}
 -- ---- the writer's rows
 
 pub writer-numbered : (head records : List ℕ) (room : ℕ) → Numbered (writerRows head records room)
-unfolding writerRows
+unfolding writerRows listRows listFormRows wordRows recordRows
 writer-numbered head records room = omega arith
 
 module _ (head records : List ℕ) where
@@ -82,6 +82,14 @@ module _ (head records : List ℕ) where
     refuses n p = let r = refuses-at-first (writerRows head records (length file)) n p in
         (λ e. r .0 (sym verdict-is ∙ e), λ f. verdict-is ∙ r .1 f)
 
+    -- accepted: the lists and their words, the records, and the room
+    rows-whole : w .verdict ≡ accepted → AllWhole (listFormRows head records) × AllWhole (recordRows h) × (noRoom h (length file) ≡ none)
+    unfolding writerRows listRows
+    rows-whole e =
+        let all = whole-parts (listRows head records) (row 11 (noRoom h (length file)) ∷ []) .0 (accepts .0 e) in
+        let lists = whole-parts (listFormRows head records) (recordRows h) .0 (all .0) in
+        (lists .0, lists .1, all .1 .0)
+
     pub changes-nothing : (w .verdict ≡ accepted → ⊥) → (w .length ≡ 0) × (w .file ≡ file)
     unfolding writeHour
     changes-nothing r = split (isAccepted rows)
@@ -94,8 +102,8 @@ module _ (head records : List ℕ) where
     written e = let a : rows ≡ accepted = sym verdict-is ∙ e in rw a refl
 
     pub room-there : w .verdict ≡ accepted → fileLength hourly h ≤ length file
-    unfolding writerRows noRoom
-    room-there e = ltb-false _ _ (no-place _ (accepts .0 e .1 .1 .1 .1 .0))
+    unfolding noRoom
+    room-there e = ltb-false _ _ (no-place _ (rows-whole e .2))
 
     past-file : w .verdict ≡ accepted → (drop (w .length) (w .file) ≡ drop (w .length) file) × (length (w .file) ≡ length file)
     past-file e = rw (written e) (
@@ -110,23 +118,22 @@ module _ (head records : List ℕ) where
 
     read-back : AreWords head → AreWords records → w .verdict ≡ accepted →
         (verdict (fileRows (fileIn w)) ≡ accepted) × (hourIn (fileIn w) ≡ h)
-    unfolding writerRows fileRows tableRows
+    unfolding listFormRows blockRows formRows fileRows
     read-back head-words record-words e =
-        let whole = accepts .0 e in
-        let of-words = lists-of-words (whole .0) head-words record-words in
+        let whole = rows-whole e in
+        let of-words = lists-of-words (whole .0 .0) head-words record-words in
+        let written-file = fileOf hourly h in
         let says = file-says h of-words in
-        let same = says-holds (fileOf hourly h) h says of-words in
-        let rows-whole : AllWhole (fileRows (fileOf hourly h)) = (
-          length-whole (fileOf hourly h) h says (of-words .few),
-          (
-            sums-whole (fileOf hourly h) h says,
-            (
-              blocks-whole (fileOf hourly h) h says,
-              (ap badHead same ∙ whole .1 .0, (ap badRecord same ∙ whole .1 .1 .0, (ap aboveMaximum same ∙ whole .1 .1 .1 .0, tt))),
-            ),
-          ),
+        let same = says-holds written-file h says of-words in
+        let blocks : AllWhole (blockRows written-file) = (
+          length-whole written-file h says (of-words .few),
+          (sums-whole written-file h says, (blocks-whole written-file h says, tt)),
         ) in
-        rw (file-is e) (accepts-when-whole (fileRows (fileOf hourly h)) (file-numbered (fileOf hourly h)) .1 rows-whole, same)
+        let words = subst (λ (g : Hour). AllWhole (wordRows g)) (sym same) (whole .0 .1) in
+        let records-too = subst (λ (g : Hour). AllWhole (recordRows g)) (sym same) (whole .1) in
+        let form = whole-parts (blockRows written-file) (wordRows (hourIn written-file)) .1 (blocks, words) in
+        let all = whole-parts (formRows written-file) (recordRows (hourIn written-file)) .1 (form, records-too) in
+        rw (file-is e) (accepts-when-whole (fileRows written-file) (file-numbered written-file) .1 all, same)
 
 -- what was answered and left behind, part by part
 pub as-written : (head records file : List ℕ) {v : Verdict} {n : ℕ} {after : List ℕ} → let w = writeHour head records file in
@@ -176,35 +183,30 @@ module _ (s : List ℕ) where
     whole = accepts-when-whole (fileRows s) (file-numbered s) .0 passes
 
     own-file : fileOf hourly (hourIn s) ≡ s
-    own-file = only-file s (hourIn s) bytes (own-hour s bytes whole)
+    own-file = only-file s (hourIn s) bytes (own-hour s bytes (form-whole s whole))
 
     -- nothing that the writer checks is broken
     own-lists-pass : (room : ℕ) → length s ≤ room → AllWhole (writerRows (headWords s) (recordWords hourly s) room)
-    unfolding writerRows noRoom badLists fileRows tableRows
-    own-lists-pass room enough = (
-      rw (
-        eq-eqb (length (headWords s)) 120 head-length,
-        eq-eqb (length (recordWords hourly s) % 12) 0 (omega (arith, records-length)),
-        le-ltb 250 (length (recordWords hourly s) / 12) (omega (arith, records-length, few)),
-      ) refl,
-      (
-        ap badHead own-lists ∙ whole .1 .1 .1 .0,
-        (
-          ap badRecord own-lists ∙ whole .1 .1 .1 .1 .0,
-          (
-            ap aboveMaximum own-lists ∙ whole .1 .1 .1 .1 .1 .0,
-            (
-              rw (own-lists, le-ltb room (fileLength hourly (hourIn s)) (omega (arith, own-hour s bytes whole .length-is, enough)))
-                  refl,
-              tt,
-            ),
-          ),
-        ),
-      ),
-    )
+    unfolding writerRows listRows listFormRows formRows fileRows noRoom badLists
+    own-lists-pass room enough =
+        let file = whole-parts (formRows s) (recordRows (hourIn s)) .0 whole in
+        let words = whole-parts (blockRows s) (wordRows (hourIn s)) .0 (file .0) .1 in
+        let head = headWords s in
+        let records = recordWords hourly s in
+        let lists : badLists head records ≡ none = rw (
+          eq-eqb (length head) 120 head-length,
+          eq-eqb (length records % 12) 0 (omega (arith, records-length)),
+          le-ltb 250 (length records / 12) (omega (arith, records-length, few)),
+        ) refl in
+        let form : AllWhole (listFormRows head records) = (lists, subst (λ (g : Hour). AllWhole (wordRows g)) (sym own-lists) words) in
+        let records-too = subst (λ (g : Hour). AllWhole (recordRows g)) (sym own-lists) (file .1) in
+        let room-there : noRoom (hourFrom hourly head records) room ≡ none =
+        rw (own-lists, le-ltb room (fileLength hourly (hourIn s)) (omega (arith, own-hour s bytes (form-whole s whole) .length-is, enough))) refl in
+        whole-parts (listRows head records) _ .1
+        (whole-parts (listFormRows head records) (recordRows (hourFrom hourly head records)) .1 (form, records-too), (room-there, tt))
       where
         few : recordCount hourly s ≤ 250
-        few = rw (← record-count hourly s) (file-kept s whole .hour-kept .count-most)
+        few = rw (← record-count hourly s) (file-kept s (form-whole s whole) .hour-kept .count-most)
 
     same-bytes : (file : List ℕ) → length s ≤ length file →
         writeHour (headWords s) (recordWords hourly s) file
@@ -212,7 +214,7 @@ module _ (s : List ℕ) where
     unfolding replacingFirst fileOf
     same-bytes file enough =
         let passed = accepts (headWords s) (recordWords hourly s) file .1 (own-lists-pass (length file) enough) in
-        let length-is : fileLength hourly (hourIn s) ≡ length s = sym (own-hour s bytes whole .length-is) in
+        let length-is : fileLength hourly (hourIn s) ≡ length s = sym (own-hour s bytes (form-whole s whole) .length-is) in
         written (headWords s) (recordWords hourly s) file passed
         ∙ rw (own-lists, length-is) (ap (λ (l : List ℕ). record { verdict = accepted; length = length s; file = l ++ drop (length s) file })
         (rw length-is at own-file))

@@ -3,14 +3,13 @@ use Prim.Native.Nat.{ℕ, _<_}
 use mathlib.Core.Path.{_≡_}
 use mathlib.Core.Logic.{_↔_}
 use mathlib.Core.List.{List}
-use lib.ListN.{length, take}
 use lib.Signed.{_≤ℤ_, _<ℤ_}
 use Rattle.rules.specs.declared.Kind.the-variants.{Generator}
 use Rattle.rules.specs.Record.{Hour, entryOf}
 use Rattle.rules.specs.HourFile.{hourly, hourIn}
 use Rattle.rules.specs.HourWords.{hourFrom}
-use Rattle.rules.specs.Refusals.{Row, Verdict, accepted, refusedAt, verdict, fileRows, writerRows}
-use Rattle.rules.specs.Settling.{Buffers, settle, writeHour}
+use Rattle.rules.specs.Refusals.{Row, Verdict, accepted, refusedAt, verdict, Buffers, formRows, listFormRows}
+use Rattle.rules.specs.Settling.{settle, writeHour}
 use Rattle.rules.specs.Explanation.{explain}
 
 module _ (h : Hour) where
@@ -36,8 +35,8 @@ pub record HeldToMaximum (before : List Row) (h : Hour) (answered : Verdict) : T
 
 pub record Engines : Type 0 where
   -- behind rows 1 to 5, over the whole file
-  pub settled : (s : List ℕ) (b : Buffers) → HeldToMaximum (take 5 (fileRows s)) (hourIn s) (settle s b .verdict)
-  pub explained : (s : List ℕ) (m : ℕ) → HeldToMaximum (take 5 (fileRows s)) (hourIn s) (explain s m .verdict)
+  pub settled : (s : List ℕ) (b : Buffers) → HeldToMaximum (formRows s) (hourIn s) (settle s b .verdict)
+  pub explained : (s : List ℕ) (m : ℕ) → HeldToMaximum (formRows s) (hourIn s) (explain s m .verdict)
   -- of the writer, behind rows 1, 4 and 5
   pub written : (head records file : List ℕ) →
-      HeldToMaximum (take 3 (writerRows head records (length file))) (hourFrom hourly head records) (writeHour head records file .verdict)
+      HeldToMaximum (listFormRows head records) (hourFrom hourly head records) (writeHour head records file .verdict)

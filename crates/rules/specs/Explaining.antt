@@ -12,8 +12,8 @@ use Rattle.whole.specs.Below.{totalBelow}
 use Rattle.rules.specs.Record.{Hour, members, zones, zonePrice, entryOf, isGenerator, isLoad, isImport, isExport}
 use Rattle.rules.specs.Charge.{shareOf}
 use Rattle.rules.specs.HourFile.{hourIn}
-use Rattle.rules.specs.Refusals.{accepted, refusedAt, verdict, hourRows, explainRows}
-use Rattle.rules.specs.Settling.{Buffers, settle, emptyLine}
+use Rattle.rules.specs.Refusals.{accepted, refusedAt, verdict, hourRows, explainRows, Buffers}
+use Rattle.rules.specs.Settling.{settle, emptyLine}
 use Rattle.rules.specs.Explanation.{noHeads, headAt, sameSign, explain}
 use Rattle.rules.specs.Tariff.{genDev, loadDev, impDev, expDev, coordinatorSum, UFEC}
 use Rattle.rules.specs.Promises.{Accepts, AllWhole, FirstBrokenRow}

@@ -12,8 +12,8 @@ use Rattle.rules.specs.Ufe.{demands}
 use Rattle.rules.specs.Charge.{charge}
 use Rattle.rules.specs.Neutrality.{everyMember, memberDemand, hourDemand, neutrality, final}
 use Rattle.rules.specs.HourFile.{hourIn}
-use Rattle.rules.specs.Refusals.{accepted, verdict, hourRows, fileRows}
-use Rattle.rules.specs.Settling.{Buffers, settle, read}
+use Rattle.rules.specs.Refusals.{accepted, verdict, hourRows, fileRows, Buffers}
+use Rattle.rules.specs.Settling.{settle, read}
 use Rattle.rules.specs.Statement.{firstLine, statement}
 use Rattle.rules.specs.Promises.{Accepts, rankedSize}
 

@@ -4,24 +4,24 @@ use Prim.Native.Nat.{ℕ, _<_}
 use mathlib.Core.Path.{_≡_}
 use mathlib.Core.Option.{none}
 use mathlib.Core.List.{List}
-use lib.ListN.{length, take}
 use Rattle.rules.specs.Record.{Hour}
 use Rattle.rules.specs.HourFile.{hourly, hourIn}
 use Rattle.rules.specs.HourWords.{hourFrom}
-use Rattle.rules.specs.Refusals.{accepted, refusedAt, verdict, badWord, fileRows, writerRows}
-use Rattle.rules.specs.Settling.{Buffers, settle, writeHour}
+use Rattle.rules.specs.Refusals.{accepted, refusedAt, verdict, badHead, badWord, badLists, blockRows, Buffers}
+use Rattle.rules.specs.Settling.{settle, writeHour}
 
--- record i is an import whose word 4 isn't zero, and no record before it breaks a rule
+-- record i is an import whose word 4 isn't zero, and nothing before it breaks a rule, in the head or in a record
 pub record FirstMetered (h : Hour) (i : ℕ) : Type 0 where
+  pub head-whole : badHead h ≡ none
   pub there : i < h .count
   pub is-import : h .rec i 0 ≡ 4
   pub metered : h .rec i 4 ≡ 0 → ⊥
   pub before : (j : ℕ) → j < i → badWord h j ≡ none
 
 pub record Imports : Type 0 where
-  -- 5, of every file that passes rows 1 to 4, whatever else that record breaks
-  pub refused : (s : List ℕ) (b : Buffers) (i : ℕ) → verdict (take 4 (fileRows s)) ≡ accepted →
+  -- 5, of every file whose blocks pass rows 1 to 3, whatever else that record breaks
+  pub refused : (s : List ℕ) (b : Buffers) (i : ℕ) → verdict (blockRows s) ≡ accepted →
       FirstMetered (hourIn s) i → settle s b .verdict ≡ refusedAt 5 i
-  -- and of lists that pass the writer's rows 1 and 4
-  pub unwritten : (head records file : List ℕ) (i : ℕ) → verdict (take 2 (writerRows head records (length file))) ≡ accepted →
+  -- and of lists that pass the writer's row 1
+  pub unwritten : (head records file : List ℕ) (i : ℕ) → badLists head records ≡ none →
       FirstMetered (hourFrom hourly head records) i → writeHour head records file .verdict ≡ refusedAt 5 i

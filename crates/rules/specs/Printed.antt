@@ -6,8 +6,8 @@ use mathlib.Core.List.{List, [], _∷_, _++_}
 use lib.IntN.{pos, negℤ}
 use lib.ListN.{length, replicate}
 use Rattle.rules.specs.Text.{bytes}
-use Rattle.rules.specs.Refusals.{accepted}
-use Rattle.rules.specs.Settling.{Buffers, Settlement, settle}
+use Rattle.rules.specs.Refusals.{accepted, Buffers}
+use Rattle.rules.specs.Settling.{Settlement, settle}
 use Rattle.rules.specs.Statement.{statement}
 
 -- words, little-endian

@@ -18,8 +18,8 @@ use Rattle.rules.specs.Charge.{entering, shareOf, recordsOf, cents, char
 use Rattle.rules.specs.Neutrality.{final}
 use Rattle.rules.specs.Text.{bytes, digitByte, amountText, amountField}
 use Rattle.rules.specs.HourFile.{hourIn}
-use Rattle.rules.specs.Refusals.{Row, row, accepted, refusedAt, verdictOf, verdict, hourRows, writeRows, readRows}
-use Rattle.rules.specs.Settling.{Buffers, settle, settleRows, noFigures, write, read, emptyLine}
+use Rattle.rules.specs.Refusals.{Row, row, accepted, refusedAt, verdictOf, verdict, hourRows, writeRows, readRows, Buffers, settleRows}
+use Rattle.rules.specs.Settling.{settle, noFigures, write, read, emptyLine}
 use Rattle.rules.specs.Statement.{memberLine}
 use Rattle.rules.specs.Tariff.{devAs, ufeOfTerritory, IEC}
 

@@ -5,9 +5,10 @@ use mathlib.Core.Bool.{Bool, true, false, not, cond, _&&_, _||_}
 use mathlib.Core.Option.{Option, none, some, bind}
 use mathlib.Core.List.{List, [], _∷_, _++_}
 use lib.IntN.{ℤ, natAbs}
-use lib.ListN.{length, take}
+use lib.ListN.{length}
 use lib.Dec.{ltb, leb, eqb}
 use Rattle.whole.specs.Below.{firstBelow}
+use Rattle.rules.specs.declared.Line.{Line}
 use Rattle.rules.specs.declared.Answer.{Answer}
 use Rattle.rules.specs.declared.Answer.the-variants.{Accepted, BadLength, BadSum, BadBlock, BadHead, BadRecord, BadArea, BadAmount}
 use Rattle.rules.specs.declared.Answer.the-variants.{OutOfRange, TooNarrow, NotAnAmount, TooShort, NoDemand, NoMember, AboveMaximum}
@@ -81,6 +82,15 @@ abbrev pub isBroken : Option ℕ → Bool
 isBroken none = false
 isBroken (some w) = true
 
+-- ---- the caller's five buffers, which row 11 measures
+
+pub record Buffers : Type 0 where
+  pub charges : List ℤ
+  pub finals : List ℤ
+  pub shares : List ℤ
+  pub deviations : List ℤ
+  pub lines : List Line
+
 -- ---- what breaks each row
 
 -- 1: length 0, not a multiple of 512, or over the most blocks
@@ -143,9 +153,10 @@ module _ (h : Hour) where
   noMember m = placeZeroIf (leb (members h) m)
 
   -- 11: charges, finals or lines shorter than the members, or shares or deviations shorter than the records
-  unfoldable pub tooShort : (charges finals lines shares deviations : ℕ) → Option ℕ
-  tooShort charges finals lines shares deviations = placeZeroIf (
-      ltb charges (members h) || ltb finals (members h) || ltb lines (members h) || ltb shares (h .count) || ltb deviations (h .count))
+  unfoldable pub tooShort : Buffers → Option ℕ
+  tooShort b = placeZeroIf (
+      ltb (length (b .charges)) (members h) || ltb (length (b .finals)) (members h) || ltb (length (b .lines)) (members h)
+      || ltb (length (b .shares)) (h .count) || ltb (length (b .deviations)) (h .count))
 
   -- 11, of the writer: the buffer is shorter than the file to be
   unfoldable pub noRoom : (room : ℕ) → Option ℕ
@@ -168,43 +179,70 @@ tooNarrow width z = placeZeroIf (ltb width (length (amountText z)))
 unfoldable pub notAnAmount : List ℕ → Option ℕ
 notAnAmount field = nothingRead (amountIn field)
 
--- ---- THE TABLE: its rows as each call checks them, in order, each with its own test
+-- ---- THE TABLE: its rows in the order in which they are checked, each with its own test, in groups
 
--- settling checks 1 to 5 in number order over the whole file, then 14, 6, 7 and 12, then 11, by the lengths of the five buffers
-unfoldable pub tableRows : List ℕ → (charges finals lines shares deviations : ℕ) → List Row
-tableRows s charges finals lines shares deviations = let h = hourIn s in
+-- 1 to 3: the blocks of a file
+unfoldable pub blockRows : List ℕ → List Row
+blockRows s =
     row 1 (badLength hourly s)
     ∷ row 2 (badSum s)
     ∷ row 3 (badBlock hourly s)
-    ∷ row 4 (badHead h)
-    ∷ row 5 (badRecord h)
-    ∷ row 14 (aboveMaximum h)
-    ∷ row 6 (badArea h)
-    ∷ row 7 (badAmount h)
-    ∷ row 12 (noDemand h)
-    ∷ row 11 (tooShort h charges finals lines shares deviations)
     ∷ []
 
--- the statement has no buffers of a caller: the same without 11
-unfoldable pub hourRows : List ℕ → List Row
-hourRows s = take 9 (tableRows s 0 0 0 0 0)
+-- 4 and 5: the words of an hour, each by its own rule
+unfoldable pub wordRows : Hour → List Row
+wordRows h =
+    row 4 (badHead h)
+    ∷ row 5 (badRecord h)
+    ∷ []
 
--- 1 to 5 and 14 of them: what a file by itself can break
+-- 14: its records beyond the rules of their words
+unfoldable pub recordRows : Hour → List Row
+recordRows h =
+    row 14 (aboveMaximum h)
+    ∷ []
+
+-- 6, 7 and 12: its sums
+unfoldable pub sumRows : Hour → List Row
+sumRows h =
+    row 6 (badArea h)
+    ∷ row 7 (badAmount h)
+    ∷ row 12 (noDemand h)
+    ∷ []
+
+-- ---- which of them each call checks
+
+-- 1 to 5: layout and ranges
+unfoldable pub formRows : List ℕ → List Row
+formRows s = blockRows s ++ wordRows (hourIn s)
+
+-- then 14: what a file by itself can break
 unfoldable pub fileRows : List ℕ → List Row
-fileRows s = take 6 (tableRows s 0 0 0 0 0)
+fileRows s = formRows s ++ recordRows (hourIn s)
 
--- an explanation checks what settling does, without the buffers' 11, then 13
+-- then 6, 7 and 12: the statement checks these, over the whole file each
+unfoldable pub hourRows : List ℕ → List Row
+hourRows s = fileRows s ++ sumRows (hourIn s)
+
+-- settling checks 11 last, by the lengths of the caller's buffers
+unfoldable pub settleRows : List ℕ → Buffers → List Row
+settleRows s b = hourRows s ++ row 11 (tooShort (hourIn s) b) ∷ []
+
+-- an explanation has no buffers of a caller, and 13 last
 unfoldable pub explainRows : List ℕ → (member : ℕ) → List Row
 explainRows s m = hourRows s ++ row 13 (noMember (hourIn s) m) ∷ []
 
--- the writer of hour files checks 1, then 4, 5 and 14 as the reader, then 11, by the length of the buffer
-unfoldable pub writerRows : (head records : List ℕ) (room : ℕ) → List Row
-writerRows head records room = let h = hourFrom hourly head records in
-    row 1 (badLists head records) ∷ row 4 (badHead h) ∷ row 5 (badRecord h) ∷ row 14 (aboveMaximum h) ∷ row 11 (noRoom h room) ∷ []
+-- the writer of hour files checks 1, of its lists, then 4 and 5 as the reader
+unfoldable pub listFormRows : (head records : List ℕ) → List Row
+listFormRows head records = row 1 (badLists head records) ∷ wordRows (hourFrom hourly head records)
 
--- the program that writes has no buffer of a caller: the same without 11
+-- then 14 as the reader: the program that writes has no buffer of a caller
 unfoldable pub listRows : (head records : List ℕ) → List Row
-listRows head records = take 4 (writerRows head records 0)
+listRows head records = listFormRows head records ++ recordRows (hourFrom hourly head records)
+
+-- and 11 last, by the length of the buffer
+unfoldable pub writerRows : (head records : List ℕ) (room : ℕ) → List Row
+writerRows head records room = listRows head records ++ row 11 (noRoom (hourFrom hourly head records) room) ∷ []
 
 -- writing an amount checks 8, then 9
 unfoldable pub writeRows : ℕ → ℤ → List Row

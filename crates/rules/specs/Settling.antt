@@ -17,25 +17,12 @@ use Rattle.rules.specs.Neutrality.{final}
 use Rattle.rules.specs.Text.{amountField, amountIn}
 use Rattle.rules.specs.HourFile.{hourly, hourIn}
 use Rattle.rules.specs.HourWords.{hourFrom, fileByte, fileLength}
-use Rattle.rules.specs.Refusals.{Row, Verdict, accepted, refusedAt, verdict, tableRows, writerRows, writeRows}
+use Rattle.rules.specs.Refusals.{Verdict, accepted, refusedAt, verdict, Buffers, settleRows, writerRows, writeRows}
 
 abbrev pub isAccepted : Verdict → Bool
 isAccepted v = eqb (v .number) 0
 
 -- ---- settling
-
--- the caller's five buffers
-pub record Buffers : Type 0 where
-  pub charges : List ℤ
-  pub finals : List ℤ
-  pub shares : List ℤ
-  pub deviations : List ℤ
-  pub lines : List Line
-
--- the table's rows for these buffers
-abbrev pub settleRows : List ℕ → Buffers → List Row
-settleRows s b =
-    tableRows s (length (b .charges)) (length (b .finals)) (length (b .lines)) (length (b .shares)) (length (b .deviations))
 
 -- nothing posted yet, as of a member without records
 unfoldable pub emptyLine : Line

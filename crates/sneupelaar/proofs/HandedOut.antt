@@ -13,8 +13,8 @@ use Rattle.rules.specs.declared.Answer.{Answer}
 use Rattle.rules.specs.declared.Settled.{Settled}
 use Rattle.rules.specs.HourFile.{hourly, lengthBad, blocks, body}
 use Rattle.rules.specs.Promises.{Fits}
-use Rattle.rules.specs.Refusals.{Verdict, refusedAt, verdictOf, numberOf, placeOf}
-use Rattle.rules.specs.Settling.{Buffers, settle}
+use Rattle.rules.specs.Refusals.{Verdict, refusedAt, verdictOf, numberOf, placeOf, Buffers}
+use Rattle.rules.specs.Settling.{settle}
 use Rattle.rules.proofs.Words.{body-length, body-empty-bad, body-empty-past}
 use Rattle.sneupelaar.specs.declared.NumberedSettled.{NumberedSettled}
 use Rattle.sneupelaar.specs.declared.Part.{Part}

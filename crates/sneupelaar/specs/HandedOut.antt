@@ -4,8 +4,8 @@ use mathlib.Core.Bool.{cond, _||_}
 use mathlib.Core.List.{List}
 use lib.Dec.{leb}
 use Rattle.rules.specs.HourFile.{hourly, lengthBad, blocks}
-use Rattle.rules.specs.Refusals.{refusedAt}
-use Rattle.rules.specs.Settling.{Buffers, Settlement, HourWritten, Written, ReadAmount}
+use Rattle.rules.specs.Refusals.{refusedAt, Buffers}
+use Rattle.rules.specs.Settling.{Settlement, HourWritten, Written, ReadAmount}
 use Rattle.sneupelaar.specs.declared.NumberedAnswer.{NumberedAnswer}
 use Rattle.sneupelaar.specs.declared.NumberedFiled.{NumberedFiled}
 use Rattle.sneupelaar.specs.declared.NumberedReading.{NumberedReading}

@@ -7,7 +7,7 @@ use Prim.Native.Nat.{ℕ}
 use native.Mathlib.Omega.{arith}
 use Rattle.rules.specs.declared.Layout.{Layout}
 use Rattle.rules.specs.HourFile.{hourly, lengthBad}
-use Rattle.rules.specs.Refusals.{verdict, badLength, badSum, badBlock, tableRows, fileRows}
+use Rattle.rules.specs.Refusals.{verdict, badLength, badSum, badBlock, blockRows, wordRows, formRows, fileRows}
 use Rattle.rules.specs.Inner.Searched.{foundAt}
 use Rattle.rules.proofs.Layouts.{hourly-fits}
 use Rattle.rules.proofs.Words.{length-is-whole}
@@ -62,7 +62,7 @@ length-bad-requires c κs = tt
 
 -- return Answer::BadLength
 returns : tie.Need-returns
-unfolding verdict fileRows tableRows badLength
+unfolding verdict blockRows formRows fileRows badLength
 returns c = simp (sym (length-told (c .before)) ∙ c .if1 .taken)
 
 bad-sum-requires : tie.Need-bad-sum-requires
@@ -74,7 +74,7 @@ enum-known-b c = c .match .keys1
 
 -- return Answer::BadSum(b)
 returns-2 : tie.Need-returns-2
-unfolding verdict fileRows tableRows badLength
+unfolding verdict blockRows formRows fileRows badLength
 returns-2 c =
     let searched = c .before .before .before in
     simp (length-good (searched .before), sym (searched .bad-sum .ensures) ∙ ap foundAt (c .before .b .given .1))
@@ -94,7 +94,7 @@ enum-known-b-2 c = c .match2 .keys1
 
 -- return Answer::BadBlock(b)
 returns-3 : tie.Need-returns-3
-unfolding verdict fileRows tableRows badLength
+unfolding verdict blockRows formRows fileRows badLength
 returns-3 c =
     let searched = c .before .before .before in
     let sums = searched .before in
@@ -114,7 +114,7 @@ examine-hour-requires c κs =
 
 -- examine_hour(file)
 returns-4 : tie.Need-returns-4
-unfolding verdict fileRows tableRows badLength
+unfolding verdict blockRows wordRows formRows fileRows badLength
 returns-4 c =
     let blocks = c .before in
     c .examine-hour .ensures ∙ simp (length-good (row-1 (row-2 blocks)), sums-good (row-2 blocks), blocks-good blocks)

@@ -4,7 +4,7 @@ use mathlib.Core.Path.{_≡_, sym, _∙_, ap}
 use mathlib.Core.Option.{none}
 use native.Mathlib.Omega.{arith}
 use Rattle.rules.specs.HourFile.{hourly, hourIn}
-use Rattle.rules.specs.Refusals.{badHead, verdict, tableRows, fileRows}
+use Rattle.rules.specs.Refusals.{badHead, verdict, wordRows, recordRows}
 use Rattle.rules.specs.Inner.Searched.{foundAt}
 use Rattle.rules.proofs.Words.{length-is-whole}
 use Rattle.rules.proofs.Faults.{fault-record, fault-nowhere}
@@ -28,7 +28,7 @@ enum-known-w c = c .match .keys1
 
 -- return Answer::BadHead(w)
 returns : tie.Need-returns
-unfolding verdict fileRows tableRows
+unfolding verdict wordRows recordRows
 returns c = simp (sym (c .before .before .before .bad-head .ensures) ∙ ap foundAt (c .before .w .given .1))
 
 -- Found::Nothing = bad_head(file)
@@ -52,14 +52,14 @@ enum-told-2 c = c .match2 .keys3
 
 -- Answer::BadRecord(i)
 returns-2 : tie.Need-returns-2
-unfolding verdict fileRows tableRows
+unfolding verdict wordRows recordRows
 returns-2 c =
     let searched = c .before .before .before in
     simp (head-good (searched .before), fault-record _ _ _ (sym (searched .first-fault .ensures .0) ∙ ap faultAt (c .before .i .given .1)))
 
 -- Answer::AboveMaximum(i)
 returns-3 : tie.Need-returns-3
-unfolding verdict fileRows tableRows
+unfolding verdict wordRows recordRows
 returns-3 c =
     let searched = c .before .before .before in
     let no-fault = ap faultAt (c .before .i2 .given .1) in
@@ -71,7 +71,7 @@ returns-3 c =
 
 -- Answer::Accepted
 returns-4 : tie.Need-returns-4
-unfolding verdict fileRows tableRows
+unfolding verdict wordRows recordRows
 returns-4 c =
     let searched = c .before .before in
     let no-fault = ap faultAt (c .enum-told2 .given .1) in

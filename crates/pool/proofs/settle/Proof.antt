@@ -6,8 +6,7 @@ use mathlib.Core.List.{List}
 use Prim.Native.Nat.{ℕ}
 use borrow.Author.Needs.{needs}
 use Rattle.rules.specs.declared.Answer.the-variants.{Accepted}
-use Rattle.rules.specs.Refusals.{accepted, verdictOf, verdict, fileRows}
-use Rattle.rules.specs.Settling.{Buffers}
+use Rattle.rules.specs.Refusals.{accepted, verdictOf, verdict, fileRows, Buffers}
 use Rattle.rules.specs.Inner.Kept.{FileKept}
 use Rattle.hour.specs.Hour.{Headed}
 use Rattle.hour.proofs.Figures.{head-members}

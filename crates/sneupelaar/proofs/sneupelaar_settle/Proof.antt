@@ -40,8 +40,7 @@ use denote.Triple.End.{Kepts}
 use denote.Triple.Walked.{says, Stays, walkOf, AllGo, Walks, ends-at, walked, walk-meets}
 use Rattle.rules.specs.declared.Settled.{Settled}
 use Rattle.rules.specs.Promises.{Fits}
-use Rattle.rules.specs.Refusals.{numberOf, placeOf}
-use Rattle.rules.specs.Settling.{Buffers}
+use Rattle.rules.specs.Refusals.{numberOf, placeOf, Buffers}
 use Rattle.rules.proofs.Line as L
 use Rattle.rules.proofs.Settled as S
 use Rattle.rules.proofs.Settled.Laws as S′
