@@ -19,6 +19,7 @@ use Rattle.rules.specs.Writing.{fileIn}
 use Rattle.rules.specs.Imports.{FirstMetered}
 use Rattle.rules.specs.Engines.{HeldToMaximum}
 use Rattle.rules.specs.Explaining.{Explains}
+use Rattle.rules.specs.Ranges.{hourlyForm}
 
 module _ {A X S : Type 0} (promise : A → X → S → Type 0) where
   -- two results that keep the promise are the same
@@ -49,9 +50,9 @@ pub record KeepsDemands (file : List ℕ) (before : Buffers) (told : Verdict) (u
   -- A1
   pub neutral : told ≡ accepted → NeutralOutcome (hourIn file) before after
   -- A3: an import that says what was metered, where no row before 5 and no record before it is broken
-  pub metered-import : (i : ℕ) → verdict (blockRows file) ≡ accepted → FirstMetered (hourIn file) i → told ≡ refusedAt 5 i
+  pub metered-import : (i : ℕ) → verdict (blockRows hourly file) ≡ accepted → FirstMetered (hourIn file) i → told ≡ refusedAt 5 i
   -- A6: 14 exactly where rows 1 to 5 are passed and a generator is scheduled above its maximum, at the first; accepted, none is
-  pub held-to-maximum : HeldToMaximum (formRows file) (hourIn file) told
+  pub held-to-maximum : HeldToMaximum (formRows hourlyForm file) (hourIn file) told
 
 -- what document 02 asks of the writer (A2), of imports (A3) and of schedules (A6), by its head, records and buffer before, and by what was
 -- answered and left
@@ -86,4 +87,4 @@ pub record KeepsExplaining (file : List ℕ) (member : ℕ) (e : Explanation) : 
   pub no-member : (b : Buffers) → Accepts file b → members (hourIn file) ≤ member → e .verdict ≡ refusedAt 13 0
   pub refused-alike : (verdict (hourRows file) ≡ accepted → ⊥) → e .verdict ≡ verdict (hourRows file)
   -- A6, as of a settling
-  pub held-to-maximum : HeldToMaximum (formRows file) (hourIn file) (e .verdict)
+  pub held-to-maximum : HeldToMaximum (formRows hourlyForm file) (hourIn file) (e .verdict)

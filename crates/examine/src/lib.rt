@@ -17,6 +17,7 @@ ghost use Rattle.examine.specs.Fault.{faultAt, aboveAt};
 ghost use Rattle.examine.specs.Whole.{BlocksWhole};
 use rules::Answer;
 use rules::Found;
+ghost use Rattle.rules.specs.Ranges.{hourlyForm};
 
 // ---- refusal 4: the head
 
@@ -31,7 +32,7 @@ fn head_word_bad(block: &[u8], zones: u32, areas: u32, w: usize) -> bool
 // The first word of the head that breaks layout or range; from word 48 on all are zero.
 fn bad_head(file: &[u8]) -> Found
     requires { ⌜ 512 ≤ length (now file) ⌝ }
-    ensures { λ r. ⌜ foundAt r ≡ Refusals.badHead (hourIn (now (file .entry))) ⌝ }
+    ensures { λ r. ⌜ foundAt r ≡ Refusals.badHead hourlyForm (hourIn (now (file .entry))) ⌝ }
 {
     let head = blocks::block(file, 0);
     let zones = blocks::word(head, 10);
@@ -86,7 +87,7 @@ fn first_found(found: Found, here: bool, at: usize) -> Found
 // that is scheduled above its maximum, which counts only where no record of the whole file breaks a rule.
 fn first_fault(file: &[u8]) -> Fault
     requires { ⌜ BlocksWhole (now file) ⌝ }
-    ensures fault { λ r. ⌜ faultAt r ≡ Refusals.firstFault (hourIn (now (file .entry))) ⌝ }
+    ensures fault { λ r. ⌜ faultAt r ≡ Refusals.firstFault hourlyForm (hourIn (now (file .entry))) ⌝ }
     ensures above { λ r. ⌜ (faultAt r ≡ none → aboveAt r ≡ Refusals.aboveMaximum (hourIn (now (file .entry)))) ⌝ }
 {
     let members = hour::head_word(file, 9);
@@ -122,7 +123,7 @@ fn first_fault(file: &[u8]) -> Fault
 // Refusals 4, 5 and 14, of a file whose blocks are whole.
 fn examine_hour(file: &[u8]) -> Answer
     requires { ⌜ BlocksWhole (now file) ⌝ }
-    ensures { λ r. ⌜ Refusals.verdictOf r ≡ Refusals.verdict (Refusals.wordRows (hourIn (now (file .entry))) ++ Refusals.recordRows (hourIn (now (file .entry)))) ⌝ }
+    ensures { λ r. ⌜ Refusals.verdictOf r ≡ Refusals.verdict (let h = hourIn (now (file .entry)) in Refusals.wordRows hourlyForm h ++ Refusals.recordRows h) ⌝ }
 {
     if let Found::At(w) = bad_head(file) {
         return Answer::BadHead(w);

@@ -27,6 +27,7 @@ use Rattle.rules.specs.Engines.{WithinMaximum, AllWithin, FirstAbove, He
 use Rattle.rules.proofs.Rows.{Numbered, numbered-on, hasRow, only-row, accepts-when-whole, whole-parts, form-numbered, settle-verdict}
 use Rattle.rules.proofs.Writing.{verdict-is}
 use Rattle.rules.proofs.Explaining.{explain-verdict}
+use Rattle.rules.specs.Ranges.{hourlyForm}
 
 only-generator : (k : Kind) → isGenerator k ≡ true → k ≡ Generator
 only-generator Generator e = refl
@@ -97,13 +98,13 @@ module _ (s : List ℕ) where
   abbrev to-last : Row → List Row
   to-last last = sumRows h ++ last ∷ []
 
-  settled : (b : Buffers) → HeldToMaximum (formRows s) h (settle s b .verdict)
+  settled : (b : Buffers) → HeldToMaximum (formRows hourlyForm s) h (settle s b .verdict)
   unfolding blockRows wordRows recordRows sumRows formRows fileRows hourRows settleRows hasRow
-  settled b = held h (formRows s) (to-last (row 11 (tooShort h b))) (form-numbered s) (omega arith) refl refl (settle-verdict s b)
+  settled b = held h (formRows hourlyForm s) (to-last (row 11 (tooShort h b))) (form-numbered hourlyForm s) (omega arith) refl refl (settle-verdict s b)
 
-  explained : (m : ℕ) → HeldToMaximum (formRows s) h (explain s m .verdict)
+  explained : (m : ℕ) → HeldToMaximum (formRows hourlyForm s) h (explain s m .verdict)
   unfolding blockRows wordRows recordRows sumRows formRows fileRows hourRows explainRows hasRow
-  explained m = held h (formRows s) (to-last (row 13 (noMember h m))) (form-numbered s) (omega arith) refl refl (explain-verdict s m)
+  explained m = held h (formRows hourlyForm s) (to-last (row 13 (noMember h m))) (form-numbered hourlyForm s) (omega arith) refl refl (explain-verdict s m)
 
 written : (head records file : List ℕ) →
     HeldToMaximum (listFormRows head records) (hourFrom hourly head records) (writeHour head records file .verdict)

@@ -15,7 +15,7 @@ use Rattle.rules.specs.declared.Layout.{Layout}
 use Rattle.rules.specs.declared.Rule.the-variants.{Any}
 use Rattle.rules.specs.Record.{Hour}
 use Rattle.rules.specs.HourFile.{word, blocks, blockWord, recordCount}
-use Rattle.rules.specs.Ranges.{keeps, firstBroken, pastRule, blockRule, headRule}
+use Rattle.rules.specs.Ranges.{keeps, firstBroken, pastRule, blockRule, headRule, Form}
 use Rattle.rules.specs.Refusals.{isBroken, badBlock, badWord, badRecord, firstFault}
 use Rattle.rules.proofs.RuleTables.{zero-kept, block-words}
 use Rattle.rules.proofs.PartWords.{block-part-word}
@@ -109,32 +109,33 @@ unfolding bind
 has-a-word j none b e = never b refl
 has-a-word j (some v) b e = never-some e
 
-module _ (h : Hour) where
+-- in any kind of file
+module _ (f : Form) (h : Hour) where
   -- what the search finds
-  pub fault-at : (i w : ℕ) → badRecord h ≡ some i → badWord h i ≡ some w → firstFault h ≡ some (i, w)
+  pub fault-at : (i w : ℕ) → badRecord f h ≡ some i → badWord f h i ≡ some w → firstFault f h ≡ some (i, w)
   unfolding firstFault bind
-  fault-at i w e f = rw (e, f)
+  fault-at i w e g = rw (e, g)
 
-  pub no-fault : badRecord h ≡ none → firstFault h ≡ none
+  pub no-fault : badRecord f h ≡ none → firstFault f h ≡ none
   unfolding firstFault bind
   no-fault e = rw e
 
   -- what it found says which record is bad, or that none is
-  pub fault-record : (i w : ℕ) → firstFault h ≡ some (i, w) → badRecord h ≡ some i
+  pub fault-record : (i w : ℕ) → firstFault f h ≡ some (i, w) → badRecord f h ≡ some i
   unfolding firstFault bind
-  fault-record i w e = step (badRecord h) e
+  fault-record i w e = step (badRecord f h) e
     where
-      step : (o : Option ℕ) → bind o (λ j. inRecord j (badWord h j)) ≡ some (i, w) → o ≡ some i
+      step : (o : Option ℕ) → bind o (λ j. inRecord j (badWord f h j)) ≡ some (i, w) → o ≡ some i
       step none e = never-some (sym e)
-      step (some j) e = ap some (same-record j i w (badWord h j) e)
+      step (some j) e = ap some (same-record j i w (badWord f h j) e)
 
-  pub fault-nowhere : firstFault h ≡ none → badRecord h ≡ none
+  pub fault-nowhere : firstFault f h ≡ none → badRecord f h ≡ none
   unfolding firstFault badRecord bind
-  fault-nowhere e = step (badRecord h) refl e
+  fault-nowhere e = step (badRecord f h) refl e
     where
-      step : (o : Option ℕ) → badRecord h ≡ o → bind o (λ j. inRecord j (badWord h j)) ≡ none → badRecord h ≡ none
+      step : (o : Option ℕ) → badRecord f h ≡ o → bind o (λ j. inRecord j (badWord f h j)) ≡ none → badRecord f h ≡ none
       step none q e = q
-      step (some j) q e = absurd (has-a-word j (badWord h j) (first-some (λ i. isBroken (badWord h i)) (h .count) j .0 q .1) e)
+      step (some j) q e = absurd (has-a-word j (badWord f h j) (first-some (λ i. isBroken (badWord f h i)) (h .count) j .0 q .1) e)
 
 -- ---- a file whose blocks keep the layout holds no more records than its blocks may
 

@@ -11,7 +11,7 @@ use Rattle.whole.proofs.Search.{first-some}
 use Rattle.rules.specs.Record.{Hour, members, areas, kindOf}
 use Rattle.rules.specs.HourFile.{hourly, hourIn}
 use Rattle.rules.specs.HourWords.{hourFrom}
-use Rattle.rules.specs.Ranges.{rulesOf, recordRule}
+use Rattle.rules.specs.Ranges.{rulesOf, recordRule, hourlyForm}
 use Rattle.rules.specs.Refusals.{Row, row, accepted, refusedAt, verdict, Buffers, isBroken, badWord, badRecord, tooShort, badLists, noRoom}
 use Rattle.rules.specs.Refusals.{blockRows, wordRows, recordRows, sumRows, formRows, fileRows, hourRows, settleRows}
 use Rattle.rules.specs.Refusals.{listFormRows, listRows, writerRows}
@@ -23,30 +23,30 @@ use Rattle.rules.proofs.Writing.{verdict-is}
 
 module _ {h : Hour} {i : ℕ} (m : FirstMetered h i) where
   -- if no word broke its rule, word 4 would be zero
-  word-broken : isBroken (badWord h i) ≡ true
+  word-broken : isBroken (badWord hourlyForm h i) ≡ true
   unfolding badWord recordRule rulesOf kindOf
-  word-broken = split (isBroken (badWord h i)) (λ t. t) (λ whole.
+  word-broken = split (isBroken (badWord hourlyForm h i)) (λ t. t) (λ whole.
       let held = all-hold (recordRule (members h) (areas h) (h .rec i 0)) (h .rec i) 12 (unbroken _ whole) 4 (omega arith) in
       let zero : h .rec i 4 ≤ 0 = (rw (m .is-import) at held) .1 in
       absurd (m .metered (omega arith)))
 
   -- So it is the record at which row 5 is broken.
-  pub record-broken : badRecord h ≡ some i
+  pub record-broken : badRecord hourlyForm h ≡ some i
   unfolding badRecord
-  record-broken = first-some (λ j. isBroken (badWord h j)) (h .count) i .1 (m .there, word-broken, λ j l. rw (m .before j l))
+  record-broken = first-some (λ j. isBroken (badWord hourlyForm h j)) (h .count) i .1 (m .there, word-broken, λ j l. rw (m .before j l))
 
 -- and these two rows say so, whatever stands behind them
-words-refused : {h : Hour} {i : ℕ} (more : List Row) → FirstMetered h i → verdict (wordRows h ++ more) ≡ refusedAt 5 i
+words-refused : {h : Hour} {i : ℕ} (more : List Row) → FirstMetered h i → verdict (wordRows hourlyForm h ++ more) ≡ refusedAt 5 i
 unfolding verdict wordRows
 words-refused more m = rw (m .head-whole, record-broken m) refl
 
-metered-refused : (s : List ℕ) (b : Buffers) (i : ℕ) → verdict (blockRows s) ≡ accepted → FirstMetered (hourIn s) i →
+metered-refused : (s : List ℕ) (b : Buffers) (i : ℕ) → verdict (blockRows hourly s) ≡ accepted → FirstMetered (hourIn s) i →
     settle s b .verdict ≡ refusedAt 5 i
 unfolding blockRows wordRows formRows fileRows hourRows settleRows
 metered-refused s b i passed m = let h = hourIn s in
     settle-verdict s b
-    ∙ passed-on (blockRows s) (wordRows h ++ ((recordRows h ++ sumRows h) ++ row 11 (tooShort h b) ∷ []))
-    (accepts-when-whole (blockRows s) (block-numbered s) .0 passed)
+    ∙ passed-on (blockRows hourly s) (wordRows hourlyForm h ++ ((recordRows h ++ sumRows h) ++ row 11 (tooShort h b) ∷ []))
+    (accepts-when-whole (blockRows hourly s) (block-numbered hourly s) .0 passed)
     ∙ words-refused _ m
 
 metered-unwritten : (head records file : List ℕ) (i : ℕ) → badLists head records ≡ none →

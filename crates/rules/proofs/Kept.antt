@@ -20,7 +20,7 @@ use Rattle.rules.specs.declared.Rule.{Rule}
 use Rattle.rules.specs.Record.{Hour, members, zones, areas, zonePrice, zoneOf, tieIn, tieOut, memberOf, areaOf}
 use Rattle.rules.specs.Record.{kindOf, isGenerator, isImport, signed, actual, entry, entryOf}
 use Rattle.rules.specs.HourFile.{hourly, lengthBad, blocks, blockWord, recordCount, hourOf, hourIn}
-use Rattle.rules.specs.Ranges.{firstBroken, mustBeZero, countRule, blockRule, areaRule, headRule, rulesOf, recordRule}
+use Rattle.rules.specs.Ranges.{firstBroken, mustBeZero, countRule, blockRule, areaRule, headRule, rulesOf, recordRule, hourlyForm}
 use Rattle.rules.specs.Refusals.{isBroken, badLength, badBlock, badHead, badWord, badRecord, blockRows, wordRows, formRows, hourRows}
 use Rattle.rules.specs.Promises.{AllWhole}
 use Rattle.rules.specs.Inner.Kept.{EntryKept, RecordKept, AreaKept, HourKept, FileKept}
@@ -92,7 +92,7 @@ multipliers-least Unknown v f used = never used refl
 
 -- ---- an hour
 
-module _ (h : Hour) (head-whole : badHead h ≡ none) (records-whole : badRecord h ≡ none) where
+module _ (h : Hour) (head-whole : badHead hourlyForm h ≡ none) (records-whole : badRecord hourlyForm h ≡ none) where
   head-holds : (w : ℕ) → w < 128 → Holds (headRule (zones h) (areas h) w) (h .head w)
   unfolding badHead
   head-holds w l = all-hold (headRule (zones h) (areas h)) (h .head) 128 head-whole w l
@@ -212,10 +212,10 @@ module _ (s : List ℕ) (length-whole : badLength hourly s ≡ none) (blocks-who
       rw e (omega arith))
 
 -- A file whose rows 1 to 5 are whole keeps the ranges of document 01.
-pub file-kept : (s : List ℕ) → AllWhole (formRows s) → FileKept s
+pub file-kept : (s : List ℕ) → AllWhole (formRows hourlyForm s) → FileKept s
 unfolding formRows blockRows wordRows
 file-kept s w =
-    let parts = whole-parts (blockRows s) (wordRows (hourIn s)) .0 w in
+    let parts = whole-parts (blockRows hourly s) (wordRows hourlyForm (hourIn s)) .0 w in
     let length-whole : badLength hourly s ≡ none = parts .0 .0 in
     let blocks-whole : badBlock hourly s ≡ none = parts .0 .1 .1 .0 in
     record {

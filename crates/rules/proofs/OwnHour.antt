@@ -15,7 +15,7 @@ use Rattle.whole.proofs.Search.{first-none}
 use Rattle.rules.specs.Record.{Hour}
 use Rattle.rules.specs.HourFile.{hourly, blocks, blockWord, blockSum, recordCount, recordWord, hourOf, hourIn}
 use Rattle.rules.specs.HourWords.{closing, blocksFor, heldIn, bodyWord, openWord, fileWord, fileLength}
-use Rattle.rules.specs.Ranges.{firstBroken, countRule, blockRule}
+use Rattle.rules.specs.Ranges.{firstBroken, countRule, blockRule, hourlyForm}
 use Rattle.rules.specs.Refusals.{badSum, badBlock, blockRows, wordRows, formRows}
 use Rattle.rules.specs.Promises.{AllWhole}
 use Rattle.rules.specs.Finals.{AreBytes}
@@ -30,13 +30,13 @@ use Rattle.rules.proofs.Said.{Says}
 only-value : {k v : ℕ} → (k ≤ v) × (v ≤ k) → k ≡ v
 only-value p = omega (arith, p)
 
-module _ (s : List ℕ) (bytes : AreBytes s) (whole : AllWhole (formRows s)) where
+module _ (s : List ℕ) (bytes : AreBytes s) (whole : AllWhole (formRows hourlyForm s)) where
   abbrev h : Hour
   h = hourIn s
 
-  blocks-whole : AllWhole (blockRows s)
+  blocks-whole : AllWhole (blockRows hourly s)
   unfolding formRows
-  blocks-whole = whole-parts (blockRows s) (wordRows h) .0 whole .0
+  blocks-whole = whole-parts (blockRows hourly s) (wordRows hourlyForm h) .0 whole .0
 
   abbrev N : ℕ
   N = blocks s

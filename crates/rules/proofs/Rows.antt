@@ -15,13 +15,15 @@ use Rattle.whole.proofs.Tests.{split, neither, never-some}
 use Rattle.rules.specs.declared.Answer.{Answer}
 use Rattle.rules.specs.declared.Answer.the-variants.{Accepted, BadLength, BadSum, BadBlock, BadHead, BadRecord, BadArea, BadAmount}
 use Rattle.rules.specs.declared.Answer.the-variants.{OutOfRange, TooNarrow, NotAnAmount, TooShort, NoDemand, NoMember, AboveMaximum}
+use Rattle.rules.specs.declared.Layout.{Layout}
 use Rattle.rules.specs.Record.{Hour}
-use Rattle.rules.specs.HourFile.{hourIn}
+use Rattle.rules.specs.HourFile.{hourOf, hourIn}
 use Rattle.rules.specs.Refusals.{Row, row, Verdict, accepted, refusedAt, verdictOf, verdict, placeZeroIf}
 use Rattle.rules.specs.Refusals.{Buffers, tooShort, blockRows, wordRows, recordRows, sumRows, formRows, fileRows, hourRows, settleRows}
 use Rattle.rules.specs.Refusals.{badArea, noDemand, writeRows}
 use Rattle.rules.specs.Settling.{Settlement, isAccepted, filled, ufeFigures, noFigures, settle, write}
 use Rattle.rules.specs.Promises.{Accepts, AllWhole, FirstBrokenRow, OneSettlement}
+use Rattle.rules.specs.Ranges.{Form, hourlyForm}
 
 -- ---- any table
 
@@ -153,30 +155,30 @@ no-place false e = refl
 
 -- ---- the tables of document 01
 
+pub block-numbered : (l : Layout) (s : List ℕ) → Numbered (blockRows l s)
+unfolding blockRows
+block-numbered l s = omega arith
+
+pub form-numbered : (f : Form) (s : List ℕ) → Numbered (formRows f s)
+unfolding formRows wordRows
+form-numbered f s = numbered-on (blockRows (f .layout) s) (wordRows f (hourOf (f .layout) s)) (block-numbered (f .layout) s) (omega arith)
+
 module _ (s : List ℕ) where
   abbrev h : Hour
   h = hourIn s
 
-  pub block-numbered : Numbered (blockRows s)
-  unfolding blockRows
-  block-numbered = omega arith
-
-  pub form-numbered : Numbered (formRows s)
-  unfolding formRows wordRows
-  form-numbered = numbered-on (blockRows s) (wordRows h) block-numbered (omega arith)
-
   pub file-numbered : Numbered (fileRows s)
   unfolding fileRows recordRows
-  file-numbered = numbered-on (formRows s) (recordRows h) form-numbered (omega arith)
+  file-numbered = numbered-on (formRows hourlyForm s) (recordRows h) (form-numbered hourlyForm s) (omega arith)
 
   pub hour-numbered : Numbered (hourRows s)
   unfolding hourRows sumRows
   hour-numbered = numbered-on (fileRows s) (sumRows h) file-numbered (omega arith)
 
   -- which rows are whole where more are
-  pub form-whole : AllWhole (fileRows s) → AllWhole (formRows s)
+  pub form-whole : AllWhole (fileRows s) → AllWhole (formRows hourlyForm s)
   unfolding fileRows
-  form-whole w = whole-parts (formRows s) (recordRows h) .0 w .0
+  form-whole w = whole-parts (formRows hourlyForm s) (recordRows h) .0 w .0
 
   pub file-whole : AllWhole (hourRows s) → AllWhole (fileRows s)
   unfolding hourRows

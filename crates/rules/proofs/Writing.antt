@@ -28,6 +28,7 @@ use Rattle.rules.proofs.Kept.{file-kept}
 use Rattle.rules.proofs.FileWords.{OfWords}
 use Rattle.rules.proofs.Said.{file-says, length-whole, sums-whole, blocks-whole, says-holds, same-hour, only-file}
 use Rattle.rules.proofs.OwnHour.{own-hour}
+use Rattle.rules.specs.Ranges.{hourlyForm}
 
 -- ---- the writer's rows
 
@@ -125,14 +126,14 @@ module _ (head records : List ℕ) where
         let written-file = fileOf hourly h in
         let says = file-says h of-words in
         let same = says-holds written-file h says of-words in
-        let blocks : AllWhole (blockRows written-file) = (
+        let blocks : AllWhole (blockRows hourly written-file) = (
           length-whole written-file h says (of-words .few),
           (sums-whole written-file h says, (blocks-whole written-file h says, tt)),
         ) in
-        let words = subst (λ (g : Hour). AllWhole (wordRows g)) (sym same) (whole .0 .1) in
+        let words = subst (λ (g : Hour). AllWhole (wordRows hourlyForm g)) (sym same) (whole .0 .1) in
         let records-too = subst (λ (g : Hour). AllWhole (recordRows g)) (sym same) (whole .1) in
-        let form = whole-parts (blockRows written-file) (wordRows (hourIn written-file)) .1 (blocks, words) in
-        let all = whole-parts (formRows written-file) (recordRows (hourIn written-file)) .1 (form, records-too) in
+        let form = whole-parts (blockRows hourly written-file) (wordRows hourlyForm (hourIn written-file)) .1 (blocks, words) in
+        let all = whole-parts (formRows hourlyForm written-file) (recordRows (hourIn written-file)) .1 (form, records-too) in
         rw (file-is e) (accepts-when-whole (fileRows written-file) (file-numbered written-file) .1 all, same)
 
 -- what was answered and left behind, part by part
@@ -189,8 +190,8 @@ module _ (s : List ℕ) where
     own-lists-pass : (room : ℕ) → length s ≤ room → AllWhole (writerRows (headWords s) (recordWords hourly s) room)
     unfolding writerRows listRows listFormRows formRows fileRows noRoom badLists
     own-lists-pass room enough =
-        let file = whole-parts (formRows s) (recordRows (hourIn s)) .0 whole in
-        let words = whole-parts (blockRows s) (wordRows (hourIn s)) .0 (file .0) .1 in
+        let file = whole-parts (formRows hourlyForm s) (recordRows (hourIn s)) .0 whole in
+        let words = whole-parts (blockRows hourly s) (wordRows hourlyForm (hourIn s)) .0 (file .0) .1 in
         let head = headWords s in
         let records = recordWords hourly s in
         let lists : badLists head records ≡ none = rw (
@@ -198,7 +199,7 @@ module _ (s : List ℕ) where
           eq-eqb (length records % 12) 0 (omega (arith, records-length)),
           le-ltb 250 (length records / 12) (omega (arith, records-length, few)),
         ) refl in
-        let form : AllWhole (listFormRows head records) = (lists, subst (λ (g : Hour). AllWhole (wordRows g)) (sym own-lists) words) in
+        let form : AllWhole (listFormRows head records) = (lists, subst (λ (g : Hour). AllWhole (wordRows hourlyForm g)) (sym own-lists) words) in
         let records-too = subst (λ (g : Hour). AllWhole (recordRows g)) (sym own-lists) (file .1) in
         let room-there : noRoom (hourFrom hourly head records) room ≡ none =
         rw (own-lists, le-ltb room (fileLength hourly (hourIn s)) (omega (arith, own-hour s bytes (form-whole s whole) .length-is, enough))) refl in

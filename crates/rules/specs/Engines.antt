@@ -11,6 +11,7 @@ use Rattle.rules.specs.HourWords.{hourFrom}
 use Rattle.rules.specs.Refusals.{Row, Verdict, accepted, refusedAt, verdict, Buffers, formRows, listFormRows}
 use Rattle.rules.specs.Settling.{settle, writeHour}
 use Rattle.rules.specs.Explanation.{explain}
+use Rattle.rules.specs.Ranges.{hourlyForm}
 
 module _ (h : Hour) where
   -- of record i, by the letters: a generator's S is at most its M
@@ -35,8 +36,8 @@ pub record HeldToMaximum (before : List Row) (h : Hour) (answered : Verdict) : T
 
 pub record Engines : Type 0 where
   -- behind rows 1 to 5, over the whole file
-  pub settled : (s : List ℕ) (b : Buffers) → HeldToMaximum (formRows s) (hourIn s) (settle s b .verdict)
-  pub explained : (s : List ℕ) (m : ℕ) → HeldToMaximum (formRows s) (hourIn s) (explain s m .verdict)
+  pub settled : (s : List ℕ) (b : Buffers) → HeldToMaximum (formRows hourlyForm s) (hourIn s) (settle s b .verdict)
+  pub explained : (s : List ℕ) (m : ℕ) → HeldToMaximum (formRows hourlyForm s) (hourIn s) (explain s m .verdict)
   -- of the writer, behind rows 1, 4 and 5
   pub written : (head records file : List ℕ) →
       HeldToMaximum (listFormRows head records) (hourFrom hourly head records) (writeHour head records file .verdict)

@@ -15,6 +15,7 @@ use Rattle.rules.specs.declared.Rule.{Rule}
 use Rattle.rules.specs.declared.Rule.the-variants.{Any, Between, LessThan, AtMostInSize}
 use Rattle.rules.specs.Record.{signed, kindOf}
 use Rattle.rules.specs.declared.Layout.{Layout}
+use Rattle.rules.specs.HourFile.{hourly}
 
 unfoldable pub keeps : Rule → ℕ → Bool
 keeps Any v = true
@@ -95,3 +96,15 @@ rulesOf Unknown = []
 -- word w of a record of this kind, for so many members and areas
 unfoldable pub recordRule : (members areas kind w : ℕ) → Rule
 recordRule members areas kind w = getD (Between 1 5 ∷ LessThan members ∷ LessThan areas ∷ rulesOf (kindOf kind)) w mustBeZero
+
+-- ---- a kind of file
+
+-- its layout, and the rule of every word of its head and of its records
+pub record Form : Type 0 where
+  pub layout : Layout
+  pub headRule : (zones areas w : ℕ) → Rule
+  pub recordRule : (members areas kind w : ℕ) → Rule
+
+-- the first release's
+abbrev pub hourlyForm : Form
+hourlyForm = record { layout = hourly; headRule = headRule; recordRule = recordRule }

@@ -18,9 +18,9 @@ use Rattle.rules.specs.Charge.{amount}
 use Rattle.rules.specs.Neutrality.{neutrality, hourDemand}
 use Rattle.rules.specs.Text.{amountText, amountIn}
 use Rattle.rules.specs.declared.Layout.{Layout}
-use Rattle.rules.specs.HourFile.{hourly, lengthBad, blocks, blockWord, blockSum, hourIn}
+use Rattle.rules.specs.HourFile.{hourly, lengthBad, blocks, blockWord, blockSum, hourOf, hourIn}
 use Rattle.rules.specs.HourWords.{hourFrom, fileLength}
-use Rattle.rules.specs.Ranges.{firstBroken, blockRule, headRule, recordRule}
+use Rattle.rules.specs.Ranges.{firstBroken, blockRule, Form, hourlyForm}
 
 -- ---- number and place
 
@@ -105,21 +105,14 @@ badSum s = firstBelow (λ b. not (eqb (blockSum s b) 0)) (blocks s)
 unfoldable pub badBlock : Layout → List ℕ → Option ℕ
 badBlock l s = firstBelow (λ b. isBroken (firstBroken (blockRule l (blocks s) (blockWord s b 2) b) (blockWord s b) 128)) (blocks s)
 
--- of one record by its words 0, 3 and 8: a generator's scheduled energy is above its maximum; equal is allowed
-unfoldable pub scheduledAbove : (kind scheduled maximum : ℕ) → Bool
-scheduledAbove kind scheduled maximum = isGenerator (kindOf kind) && ltb maximum scheduled
-
-abbrev pub mostGrains : ℕ
-mostGrains = 4000000000000000000
-
-module _ (h : Hour) where
+module _ (f : Form) (h : Hour) where
   -- 4: the first body breaks layout or range; the first such word
   unfoldable pub badHead : Option ℕ
-  badHead = firstBroken (headRule (zones h) (areas h)) (h .head) 128
+  badHead = firstBroken (f .headRule (zones h) (areas h)) (h .head) 128
 
   -- the first word of a record that breaks kind, number, range or zero
   unfoldable pub badWord : ℕ → Option ℕ
-  badWord i = firstBroken (recordRule (members h) (areas h) (h .rec i 0)) (h .rec i) (hourly .words)
+  badWord i = firstBroken (f .recordRule (members h) (areas h) (h .rec i 0)) (h .rec i) (f .layout .words)
 
   -- 5: the first record that has one
   unfoldable pub badRecord : Option ℕ
@@ -129,6 +122,14 @@ module _ (h : Hour) where
   unfoldable pub firstFault : Option (ℕ × ℕ)
   firstFault = bind badRecord (λ i. bind (badWord i) (λ w. some (i, w)))
 
+-- of one record by its words 0, 3 and 8: a generator's scheduled energy is above its maximum; equal is allowed
+unfoldable pub scheduledAbove : (kind scheduled maximum : ℕ) → Bool
+scheduledAbove kind scheduled maximum = isGenerator (kindOf kind) && ltb maximum scheduled
+
+abbrev pub mostGrains : ℕ
+mostGrains = 4000000000000000000
+
+module _ (h : Hour) where
   abbrev pub overScheduled : ℕ → Bool
   overScheduled i = scheduledAbove (h .rec i 0) (h .rec i 3) (h .rec i 8)
 
@@ -182,21 +183,21 @@ notAnAmount field = nothingRead (amountIn field)
 -- ---- THE TABLE: its rows in the order in which they are checked, each with its own test, in groups
 
 -- 1 to 3: the blocks of a file
-unfoldable pub blockRows : List ℕ → List Row
-blockRows s =
-    row 1 (badLength hourly s)
+unfoldable pub blockRows : Layout → List ℕ → List Row
+blockRows l s =
+    row 1 (badLength l s)
     ∷ row 2 (badSum s)
-    ∷ row 3 (badBlock hourly s)
+    ∷ row 3 (badBlock l s)
     ∷ []
 
 -- 4 and 5: the words of an hour, each by its own rule
-unfoldable pub wordRows : Hour → List Row
-wordRows h =
-    row 4 (badHead h)
-    ∷ row 5 (badRecord h)
+unfoldable pub wordRows : Form → Hour → List Row
+wordRows f h =
+    row 4 (badHead f h)
+    ∷ row 5 (badRecord f h)
     ∷ []
 
--- 14: its records beyond the rules of their words
+-- 14: its records beyond the rules of their words; this group and the next are hourly settlement's
 unfoldable pub recordRows : Hour → List Row
 recordRows h =
     row 14 (aboveMaximum h)
@@ -212,13 +213,13 @@ sumRows h =
 
 -- ---- which of them each call checks
 
--- 1 to 5: layout and ranges
-unfoldable pub formRows : List ℕ → List Row
-formRows s = blockRows s ++ wordRows (hourIn s)
+-- 1 to 5: layout and ranges of any kind of file
+unfoldable pub formRows : Form → List ℕ → List Row
+formRows f s = blockRows (f .layout) s ++ wordRows f (hourOf (f .layout) s)
 
--- then 14: what a file by itself can break
+-- then 14: what an hourly file by itself can break
 unfoldable pub fileRows : List ℕ → List Row
-fileRows s = formRows s ++ recordRows (hourIn s)
+fileRows s = formRows hourlyForm s ++ recordRows (hourIn s)
 
 -- then 6, 7 and 12: the statement checks these, over the whole file each
 unfoldable pub hourRows : List ℕ → List Row
@@ -234,7 +235,7 @@ explainRows s m = hourRows s ++ row 13 (noMember (hourIn s) m) ∷ []
 
 -- the writer of hour files checks 1, of its lists, then 4 and 5 as the reader
 unfoldable pub listFormRows : (head records : List ℕ) → List Row
-listFormRows head records = row 1 (badLists head records) ∷ wordRows (hourFrom hourly head records)
+listFormRows head records = row 1 (badLists head records) ∷ wordRows hourlyForm (hourFrom hourly head records)
 
 -- then 14 as the reader: the program that writes has no buffer of a caller
 unfoldable pub listRows : (head records : List ℕ) → List Row

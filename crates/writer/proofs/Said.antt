@@ -16,7 +16,7 @@ use Rattle.whole.proofs.Search.{first-ext}
 use Rattle.rules.specs.Record.{Hour, members, zones, areas}
 use Rattle.rules.specs.HourFile.{hourly}
 use Rattle.rules.specs.HourWords.{hourFrom, blocksFor, fileLength}
-use Rattle.rules.specs.Ranges.{keeps, headRule, firstBroken}
+use Rattle.rules.specs.Ranges.{keeps, headRule, firstBroken, hourlyForm}
 use Rattle.rules.specs.Refusals.{isBroken, badLists, badHead, badWord, scheduledAbove, overScheduled, noRoom}
 use Rattle.rules.proofs.Faults.{head-any}
 use Rattle.rules.proofs.Writing.{lists-whole as lists-pass}
@@ -46,7 +46,7 @@ module _ (head records : List ℕ) where
 
   -- ---- row 4
 
-  pub head-row : badHead h ≡ firstBelow (headBad head) 128
+  pub head-row : badHead hourlyForm h ≡ firstBelow (headBad head) 128
   unfolding badHead firstBroken
   head-row =
       let z : zones h ≡ getD head 2 0 = said-head 10 (omega arith) (omega arith) in
@@ -59,7 +59,7 @@ module _ (head records : List ℕ) where
 
   -- record i by itself: its part of the list
   pub record-row : (i : ℕ) → i < length records / 12 →
-      recordBad (getD head 1 0) (getD head 3 0) (take 12 (drop (12 * i) records)) ≡ isBroken (badWord h i)
+      recordBad (getD head 1 0) (getD head 3 0) (take 12 (drop (12 * i) records)) ≡ isBroken (badWord hourlyForm h i)
   unfolding recordBad badWord firstBroken
   record-row i l =
       let m : members h ≡ getD head 1 0 = said-head 9 (omega arith) (omega arith) in

@@ -13,6 +13,7 @@ ghost use Rattle.rules.specs.Inner.Searched.{foundAt};
 ghost use Rattle.writer.specs.Lists.{hourOfLists, recordBad};
 use rules::Answer;
 use rules::Found;
+ghost use Rattle.rules.specs.Ranges.{hourlyForm};
 
 // ---- refusal 1: the lists
 
@@ -43,7 +44,7 @@ fn head_word_bad(head: &[u32], zones: u32, areas: u32, w: usize) -> bool
 // The first word that breaks layout or range, by its number in the first block; from word 48 on all are zero.
 fn bad_head(head: &[u32]) -> Found
     requires { ⌜ length (now head) ≡ 120 ⌝ }
-    ensures { λ r. ⌜ ((records : List ℕ) → foundAt r ≡ Refusals.badHead (hourOfLists (now (head .entry)) records)) ⌝ }
+    ensures { λ r. ⌜ ((records : List ℕ) → foundAt r ≡ Refusals.badHead hourlyForm (hourOfLists (now (head .entry)) records)) ⌝ }
 {
     let zones = head[2];
     let areas = head[3];
@@ -84,7 +85,7 @@ fn record_bad(words: &[u32], members: u32, areas: u32) -> bool
 // The first such record.
 fn bad_record(head: &[u32], records: &[u32]) -> Found
     requires { ⌜ length (now head) ≡ 120 ⌝ }
-    ensures { λ r. ⌜ foundAt r ≡ Refusals.badRecord (hourOfLists (now (head .entry)) (now (records .entry))) ⌝ }
+    ensures { λ r. ⌜ foundAt r ≡ Refusals.badRecord hourlyForm (hourOfLists (now (head .entry)) (now (records .entry))) ⌝ }
 {
     let members = head[1];
     let areas = head[3];

@@ -11,10 +11,11 @@ use Rattle.rules.proofs.Faults.{fault-record, fault-nowhere}
 use Rattle.examine.specs.Fault.{faultAt, aboveAt}
 use Rattle.examine.proofs.examine_hour.Statement.{statement}
 use Rattle.examine.proofs.examine_hour.Tie as tie
+use Rattle.rules.specs.Ranges.{hourlyForm}
 
 -- row 4 passed: the head is whole
 module _ (c : tie.After-enum-told) where
-  head-good : badHead (hourIn (c .before .before .before .before .args .file .now)) ≡ none
+  head-good : badHead hourlyForm (hourIn (c .before .before .before .before .args .file .now)) ≡ none
   head-good = sym (c .before .before .bad-head .ensures) ∙ ap foundAt (c .enum-told .given .1)
 
 bad-head-requires : tie.Need-bad-head-requires
@@ -55,7 +56,7 @@ returns-2 : tie.Need-returns-2
 unfolding verdict wordRows recordRows
 returns-2 c =
     let searched = c .before .before .before in
-    simp (head-good (searched .before), fault-record _ _ _ (sym (searched .first-fault .ensures .0) ∙ ap faultAt (c .before .i .given .1)))
+    simp (head-good (searched .before), fault-record hourlyForm _ _ _ (sym (searched .first-fault .ensures .0) ∙ ap faultAt (c .before .i .given .1)))
 
 -- Answer::AboveMaximum(i)
 returns-3 : tie.Need-returns-3
@@ -65,7 +66,7 @@ returns-3 c =
     let no-fault = ap faultAt (c .before .i2 .given .1) in
     simp (
       head-good (searched .before),
-      fault-nowhere _ (sym (searched .first-fault .ensures .0) ∙ no-fault),
+      fault-nowhere hourlyForm _ (sym (searched .first-fault .ensures .0) ∙ no-fault),
       sym (searched .first-fault .ensures .1 no-fault) ∙ ap aboveAt (c .before .i2 .given .1),
     )
 
@@ -77,7 +78,7 @@ returns-4 c =
     let no-fault = ap faultAt (c .enum-told2 .given .1) in
     simp (
       head-good (searched .before),
-      fault-nowhere _ (sym (searched .first-fault .ensures .0) ∙ no-fault),
+      fault-nowhere hourlyForm _ (sym (searched .first-fault .ensures .0) ∙ no-fault),
       sym (searched .first-fault .ensures .1 no-fault) ∙ ap aboveAt (c .enum-told2 .given .1),
     )
 

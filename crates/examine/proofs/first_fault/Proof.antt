@@ -12,7 +12,7 @@ use Rattle.whole.proofs.Tests.{never-some}
 use Rattle.whole.proofs.Search.{first-next, first-hit, first-less, first-so-far}
 use Rattle.rules.specs.Record.{Hour, members, areas}
 use Rattle.rules.specs.HourFile.{hourly, word, lengthBad, blocks, hourIn}
-use Rattle.rules.specs.Ranges.{keeps, recordRule, firstBroken}
+use Rattle.rules.specs.Ranges.{keeps, recordRule, firstBroken, hourlyForm}
 use Rattle.rules.specs.Refusals.{isBroken, badWord, badRecord, firstFault, scheduledAbove, overScheduled, aboveMaximum}
 use Rattle.rules.specs.Inner.Searched.{foundAt}
 use Rattle.rules.proofs.Words.{record-count}
@@ -26,7 +26,7 @@ abbrev word-bad : (s : List ℕ) (i w : ℕ) → Bool
 word-bad s i w = let h = hourIn s in not (keeps (recordRule (members h) (areas h) (h .rec i 0) w) (h .rec i w))
 
 abbrev record-bad : (s : List ℕ) (i : ℕ) → Bool
-record-bad s i = isBroken (badWord (hourIn s) i)
+record-bad s i = isBroken (badWord hourlyForm (hourIn s) i)
 
 abbrev Inv-loop : tie.InvT-loop
 Inv-loop file members areas n i w₀ above words kind w = firstBelow (word-bad file i) w ≡ none
@@ -91,12 +91,12 @@ module _ (turn : tie.At-rows Inv-loop μ-loop Inv-rows μ-rows) where
 
     -- a word that breaks its rule, with none before it, is the first fault
     stops : (w : ℕ) → w < 12 → firstBelow (word-bad file at) w ≡ none → judged words kind w ≡ true
-        → firstFault (hourIn file) ≡ some (at, w)
+        → firstFault hourlyForm (hourIn file) ≡ some (at, w)
     unfolding badRecord badWord firstBroken
     stops w m passed broken =
         let h = hourIn file in
-        let word-first : badWord h at ≡ some w = first-hit (word-bad file at) w 12 passed (sym (told w m) ∙ broken) m in
-        fault-at h at w (first-hit (record-bad file) at (h .count) (turn .rows .inv .1) (ap isBroken word-first) (there l)) word-first
+        let word-first : badWord hourlyForm h at ≡ some w = first-hit (word-bad file at) w 12 passed (sym (told w m) ∙ broken) m in
+        fault-at hourlyForm h at w (first-hit (record-bad file) at (h .count) (turn .rows .inv .1) (ap isBroken word-first) (there l)) word-first
 
 -- hour::head_word(file, 9)
 head-word-requires : tie.Need-head-word-requires Inv-loop μ-loop Inv-rows μ-rows
@@ -203,9 +203,9 @@ module _ (c : tie.Else2 Inv-loop μ-loop Inv-rows μ-rows) where
       ended : at last ≡ counted last
       ended = omega (arith, last .rows .inv .0, c .if2 .left)
 
-  nowhere : firstFault hour ≡ none
+  nowhere : firstFault hourlyForm hour ≡ none
   unfolding badRecord
-  nowhere = no-fault hour (ap (firstBelow (record-bad (file last))) (sym all-passed) ∙ last .rows .inv .1)
+  nowhere = no-fault hourlyForm hour (ap (firstBelow (record-bad (file last))) (sym all-passed) ∙ last .rows .inv .1)
 
   as-left : c .before .rows-test .above ≡ last .rows .above
   as-left =

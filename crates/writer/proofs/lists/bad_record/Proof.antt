@@ -13,9 +13,10 @@ use Rattle.writer.specs.Lists.{hourOfLists, recordBad}
 use Rattle.writer.proofs.Said.{said-count, record-row, part-is, part-length}
 use Rattle.writer.proofs.lists.bad_record.Statement.{statement}
 use Rattle.writer.proofs.lists.bad_record.Tie as tie
+use Rattle.rules.specs.Ranges.{hourlyForm}
 
 abbrev record-bad : (head records : List ℕ) (i : ℕ) → Bool
-record-bad head records i = isBroken (badWord (hourOfLists head records) i)
+record-bad head records i = isBroken (badWord hourlyForm (hourOfLists head records) i)
 
 abbrev Inv-loop : tie.InvT-loop
 Inv-loop head records members areas n i₀ i = (i ≤ n) × (firstBelow (record-bad head records) i ≡ none)

@@ -8,6 +8,7 @@ use Rattle.writer.specs.Lists.{hourOfLists, ListsWhole}
 use Rattle.writer.proofs.Said.{lists-whole, few-blocks, no-room, has-room}
 use Rattle.writer.proofs.lists.examine.Statement.{statement}
 use Rattle.writer.proofs.lists.examine.Tie as tie
+use Rattle.rules.specs.Ranges.{hourlyForm}
 
 -- row 1 passed: the lists are whole
 module _ (c : tie.Else1) where
@@ -25,7 +26,7 @@ module _ (c : tie.After-enum-told) where
   abbrev row-1 : tie.Else1
   row-1 = c .before .before .before
 
-  head-good : let at = given row-1 .args in badHead (hourOfLists (at .head .now) (at .records .now)) ≡ none
+  head-good : let at = given row-1 .args in badHead hourlyForm (hourOfLists (at .head .now) (at .records .now)) ≡ none
   head-good = sym (c .before .before .bad-head .ensures (given row-1 .args .records .now)) ∙ ap foundAt (c .enum-told .given .1)
 
 -- row 5 passed: so are the records
@@ -33,7 +34,7 @@ module _ (c : tie.After-enum-told2) where
   abbrev row-4 : tie.After-enum-told
   row-4 = c .before .before .before
 
-  records-good : let at = given (row-1 row-4) .args in badRecord (hourOfLists (at .head .now) (at .records .now)) ≡ none
+  records-good : let at = given (row-1 row-4) .args in badRecord hourlyForm (hourOfLists (at .head .now) (at .records .now)) ≡ none
   records-good = sym (c .before .before .bad-record .ensures) ∙ ap foundAt (c .enum-told2 .given .1)
 
 -- row 14 passed: so are the generators' schedules
