@@ -31,7 +31,7 @@ module _ {s words : List ℕ} {i r : ℕ} (own : PartOf s i words) (told : r ≡
 
 -- a load demands its D
 pub load-demands : (h : Hour) (a i : ℕ) → inArea h a isLoad i ≡ true → demandOf h i ≡ demand h i
-unfolding inArea demandBy entryOf entry
+unfolding inArea demandBy
 load-demands h a i t = rw (both (eqb (areaOf h i) a) _ t .1)
 
 -- the next record is counted if it is one

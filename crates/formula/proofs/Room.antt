@@ -20,7 +20,7 @@ module _ {h : Hour} (kept : HourKept h) (n : ℕ) (there : n < h .count) where
   area-there = omega (arith, kept .record-kept n there .area-there, kept .areas-most)
 
   demand-most : demandOf h n ≤ 100000
-  unfolding demandBy entryOf entry
+  unfolding demandBy
   demand-most = cond-ind (isLoad (entryOf h n .kind)) (demand h n) 0 (λ d. d ≤ 100000) (λ t. kept .record-kept n there .demand-most)
       (λ t. omega arith)
 

@@ -54,6 +54,5 @@ module _ {s words : List ℕ} {i : ℕ} (p : PartOf s i words) where
   pub part-entry-kept : EntryKept (entry (word words))
   part-entry-kept = rw part-entry (p .kept .hour-kept .record-kept i (p .there) .entry-kept)
 
-  pub part-demand : demandBy (word words) ≡ demandOf (hourIn s) i
-  unfolding demandBy
-  part-demand = rw (says 0 (omega arith), says 4 (omega arith))
+  pub part-demand : demandBy (entry (word words)) ≡ demandOf (hourIn s) i
+  part-demand = ap demandBy part-entry

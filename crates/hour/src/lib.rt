@@ -150,7 +150,7 @@ pub fn entry_in(words: &[u8]) -> Entry
 
 fn demand_in(words: &[u8]) -> u32
     requires { ⌜ length (now words) ≡ 48 ⌝ }
-    ensures { λ r. ⌜ r ≡ demandBy (word (now (words .entry))) ⌝ }
+    ensures { λ r. ⌜ r ≡ demandBy (Record.entry (word (now (words .entry)))) ⌝ }
 {
     if formula::entry::is_load(kind_in(words)) {
         return blocks::whole_word(words, 4);

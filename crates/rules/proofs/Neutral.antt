@@ -113,18 +113,18 @@ module _ (h : Hour) where
 module _ (h : Hour) where
   -- A member's demand is that of its records, and an area's of its own.
   pub member-demand-by-record : (m : ℕ) → memberDemand h m ≡ sumBelow (λ i. cond (eqb (memberOf h i) m) (demandOf h i) 0) (h .count)
-  unfolding memberDemand demandBy entryOf entry
+  unfolding memberDemand demandBy
   member-demand-by-record m =
       sum-ext _ _ (h .count) (λ i l. cond-both (eqb (memberOf h i) m) (isLoad (entryOf h i .kind)) (demand h i))
 
   area-demand-by-record : (a : ℕ) → demands h a ≡ sumBelow (λ i. cond (eqb (areaOf h i) a) (demandOf h i) 0) (h .count)
-  unfolding demands allDemand inArea demandBy entryOf entry
+  unfolding demands allDemand inArea demandBy
   area-demand-by-record a =
       sum-ext _ _ (h .count) (λ i l. cond-both (eqb (areaOf h i) a) (isLoad (entryOf h i .kind)) (demand h i))
 
 module _ {h : Hour} (kept : HourKept h) where
   -- The demand in the hour is that of all records, and that of all areas.
-  hour-demand-by-record : hourDemand h ≡ sumBelow (demandOf h) (h .count)
+  pub hour-demand-by-record : hourDemand h ≡ sumBelow (demandOf h) (h .count)
   unfolding hourDemand allDemand
   hour-demand-by-record =
       sum-ext _ _ (members h) (λ m l. member-demand-by-record h m)
@@ -140,7 +140,7 @@ module _ {h : Hour} (kept : HourKept h) where
   no-area-demands none a there = omega (arith, hour-demand-by-area, sum-at (demands h) (areas h) a there)
 
   demand-of-most : (i : ℕ) → i < h .count → demandOf h i ≤ 100000
-  unfolding demandBy entryOf entry
+  unfolding demandBy
   demand-of-most i l =
       cond-ind (isLoad (entryOf h i .kind)) (demand h i) 0 (λ d. d ≤ 100000) (λ t. kept .record-kept i l .demand-most) (λ t. zero-le)
 

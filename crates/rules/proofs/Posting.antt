@@ -18,9 +18,9 @@ use Rattle.whole.proofs.Buffers.{getD-changed, replacing-changed, replacing-ext
 use Rattle.rules.specs.declared.Kind.{Kind}
 use Rattle.rules.specs.declared.Kind.the-variants.{Generator, RealTimeLoad, ProfileLoad, Import, Export, Unknown}
 use Rattle.rules.specs.declared.Line.{Line}
-use Rattle.rules.specs.Record.{Hour, members, tieIn, tieOut, memberOf, areaOf, actual, entry, entryOf, isLoad, isImport}
+use Rattle.rules.specs.Record.{Hour, members, tieIn, tieOut, memberOf, areaOf, actual, entry, entryOf, kindOf, isLoad, isImport}
 use Rattle.rules.specs.Deviation.{unitsPerKWh}
-use Rattle.rules.specs.Ufe.{inArea, ufe, demand, demands}
+use Rattle.rules.specs.Ufe.{D, inArea, ufe, demand, demands}
 use Rattle.rules.specs.Share.{allDemand}
 use Rattle.rules.specs.Charge.{grains, amount, recordsOf}
 use Rattle.rules.specs.Settling.{lineOf, emptyLine}
@@ -38,10 +38,15 @@ load-no-import Import e = never e refl
 load-no-import Export e = refl
 load-no-import Unknown e = refl
 
--- What a load demands is its A.
-pub demand-is-actual : (h : Hour) (i : ℕ) → isLoad (entryOf h i .kind) ≡ true → pos (demand h i) ≡ entryOf h i .A
-unfolding actual entryOf entry
-demand-is-actual h i is-load = rw (load-no-import (entryOf h i .kind) is-load)
+-- What a record demands is its A, which is never below 0.
+pub demand-is-actual : (h : Hour) (i : ℕ) → pos (demand h i) ≡ entryOf h i .A
+unfolding entryOf entry
+demand-is-actual h i = refl
+
+-- A load's is word 4 of its record.
+pub load-word : (w : ℕ → ℕ) → isLoad (kindOf (w 0)) ≡ true → D (entry w) ≡ w 4
+unfolding actual entry
+load-word w is-load = rw (load-no-import (kindOf (w 0)) is-load)
 
 -- ---- the tally
 
@@ -66,7 +71,7 @@ module _ (h : Hour) where
   module _ (a : ℕ) (area : a < 8) where
     -- After n records an area's demand is that of its loads among them.
     pub tally-demand : (n : ℕ) → getD (tallyAfter h n .demand) a 0 ≡ sumBelow (λ i. cond (inArea h a isLoad i) (demand h i) 0) n
-    unfolding tallyAfter emptyTally tallied demandBy entryOf entry inArea sumBelow
+    unfolding tallyAfter emptyTally tallied demandBy inArea sumBelow
     tally-demand zero = getD-replicate 8 a 0 0 area
     tally-demand (suc n) =
         getD-changed (λ x. x + demandOf h n) (tallyAfter h n .demand) (areaOf h n) a 0 (let e = tally-demand-length n in omega arith)

@@ -1,7 +1,7 @@
 -- Unaccounted for energy of an area, and what its loads demanded. Document 01, "The sums", UFE; 003, D 2.2.
 use Prim.Native.Nat.{ℕ}
 use mathlib.Core.Bool.{Bool, cond, _&&_, _||_}
-use lib.IntN.{ℤ, pos, _+ℤ_, _-ℤ_, _*ℤ_}
+use lib.IntN.{ℤ, pos, natAbs, _+ℤ_, _-ℤ_, _*ℤ_}
 use lib.Dec.{eqb}
 use Rattle.whole.specs.Below.{totalBelow}
 use Rattle.rules.specs.declared.Kind.{Kind}
@@ -26,12 +26,12 @@ module _ (h : Hour) (a : ℕ) where
   unfoldable pub ufe : ℤ
   ufe = unitsPerKWh *ℤ (tieIn h a -ℤ tieOut h a +ℤ areaSum isGenerator (λ r. r .A) -ℤ areaSum isLoad (λ r. r .A)) -ℤ losses
 
--- D: a load's A, as the natural number that the file has in word 4
-abbrev pub D : (ℕ → ℕ) → ℕ
-D w = w 4
+-- D: the record's A, an energy, which is never below 0
+abbrev pub D : Entry → ℕ
+D r = natAbs (r .A)
 
 abbrev pub demand : Hour → ℕ → ℕ
-demand h i = D (h .rec i)
+demand h i = D (entryOf h i)
 
 -- T: the area's sum of D over its loads
 unfoldable pub demands : Hour → ℕ → ℕ

@@ -1,9 +1,10 @@
 -- `hour::demand_in` meets its contract: a load's word 4, and 0 for any other kind.
 use mathlib.Core.Path.{_≡_, sym, _∙_, ap}
 use native.Mathlib.Omega.{arith}
-use Rattle.rules.specs.Record.{kindOf, isLoad}
+use Rattle.rules.specs.Record.{kindOf, isLoad, entry}
 use Rattle.rules.specs.HourFile.{word}
 use Rattle.rules.specs.Inner.Posting.{demandBy}
+use Rattle.rules.proofs.Posting.{load-word}
 use Rattle.hour.proofs.demand_in.Statement.{statement}
 use Rattle.hour.proofs.demand_in.Tie as tie
 
@@ -22,12 +23,15 @@ is-load c = sym (ap isLoad (c .before .kind-in .ensures)) ∙ sym (c .is-load .e
 
 -- return blocks::whole_word(words, 4)
 returns : tie.Need-returns
-unfolding demandBy
-returns c = rw (is-load (c .before .before) ∙ c .before .if1 .taken) (c .whole-word .ensures)
+unfolding demandBy entry
+returns c =
+    let load = is-load (c .before .before) ∙ c .before .if1 .taken in
+    let words = c .before .before .before .before .before .args .words .now in
+    rw load (c .whole-word .ensures ∙ sym (load-word (word words) load))
 
 -- 0
 returns-2 : tie.Need-returns-2
-unfolding demandBy
+unfolding demandBy entry
 returns-2 c = rw (is-load (c .before) ∙ c .if1 .left)
 
 pub demand-in-spec : {M : Type 1} → statement M

@@ -11,7 +11,7 @@ use Rattle.rules.specs.declared.Kind.{Kind}
 use Rattle.rules.specs.declared.Kind.the-variants.{Generator, RealTimeLoad, ProfileLoad, Import, Export, Unknown}
 use Rattle.rules.specs.declared.Line.{Line}
 use Rattle.rules.specs.declared.Tally.{Tally}
-use Rattle.rules.specs.Record.{Hour, Entry, members, price, memberOf, areaOf, entryOf, kindOf, isLoad}
+use Rattle.rules.specs.Record.{Hour, Entry, members, price, memberOf, areaOf, entryOf, isLoad}
 use Rattle.rules.specs.Deviation.{unitsPerKWh, multiplierOne}
 use Rattle.rules.specs.Ufe.{D}
 use Rattle.rules.specs.Charge.{entering, shareOf, grains}
@@ -43,13 +43,13 @@ tallied t a d e = record {
   energy = set (t .energy) a (getD (t .energy) a (pos 0) +ℤ e);
 }
 
--- what a record of these words demands: a load its D, another kind nothing
-unfoldable pub demandBy : (ℕ → ℕ) → ℕ
-demandBy w = cond (isLoad (kindOf (w 0))) (D w) 0
+-- what a record demands: a load its D, another kind nothing
+unfoldable pub demandBy : Entry → ℕ
+demandBy r = cond (isLoad (r .kind)) (D r) 0
 
 module _ (h : Hour) where
   abbrev pub demandOf : ℕ → ℕ
-  demandOf i = demandBy (h .rec i)
+  demandOf i = demandBy (entryOf h i)
 
   -- the tally once the first n records are posted
   unfoldable pub tallyAfter : ℕ → Tally
