@@ -6,8 +6,8 @@ use Prim.Native.Nat.{ℕ, _≤_, _<_}
 use native.Mathlib.Omega.{arith}
 use lib.IntN.{ℤ}
 use lib.ListN.{length}
-use borrow.Author.Tests.{eqb-true, eqb-false}
-use Rattle.whole.proofs.Tests.{split, never}
+use borrow.Author.Tests.{eqb-false}
+use Rattle.whole.proofs.Tests.{never}
 use Rattle.rules.specs.declared.Answer.{Answer}
 use Rattle.rules.specs.declared.Answer.the-variants.{Accepted, NoMember}
 use Rattle.rules.specs.declared.Explained.{Explained}
@@ -17,17 +17,17 @@ use Rattle.rules.specs.Refusals.{accepted, verdictOf, verdict, hourRows, explai
 use Rattle.rules.specs.Settling.{isAccepted}
 use Rattle.rules.specs.Statement.{refusedLine}
 use Rattle.rules.specs.Explanation.{heads, noHeads, decided, explain, explanationLines}
-use Rattle.rules.specs.Explanation.{memberAsked, hourAsked, explanation}
+use Rattle.rules.specs.Explanation.{memberAsked, hourAsked, explanation, worded}
 use Rattle.rules.specs.Promises.{AllWhole}
-use Rattle.rules.proofs.Rows.{accepts-when-whole, zero-accepts, hour-numbered}
-use Rattle.rules.proofs.Explaining.{explain-numbered, rows-refused-alike, rows-member, rows-no-member, explain-accepted, explain-refused}
-use Rattle.rules.proofs.Worded.{explanation-accepted, explanation-refused, four-bytes}
+use Rattle.rules.proofs.Rows.{accepts-when-whole, hour-numbered}
+use Rattle.rules.proofs.Explaining.{rows-refused-alike, rows-member, rows-no-member, explain-accepted, explain-refused}
+use Rattle.rules.proofs.Worded.{four-bytes}
 use Rattle.answer.proofs.Refusing.{numbered}
 use Rattle.rules.specs.HourFile.{hourIn}
 use Rattle.rules.specs.declared.Settled.{Settled as Settlement}
 use Rattle.pool.specs.Unlined.{Unlined, FitsUnlined}
 use Rattle.pool.proofs.Rooms.{Rooms, same-verdict, figured}
-use Rattle.explain.specs.Answered.{answered, worded, Settled}
+use Rattle.explain.specs.Answered.{answered, Settled}
 
 -- ---- as numbers
 
@@ -87,9 +87,4 @@ worded-accepted e a = sym (rw a refl)
 
 -- of an input with four bytes or more
 pub asked : (s : List ℕ) → 4 ≤ length s → worded (explain (hourAsked s) (memberAsked s)) ≡ explanation s
-unfolding worded
-asked s l = let f = hourAsked s in let m = memberAsked s in split (isAccepted (verdict (explainRows f m)))
-    (λ t. let v = zero-accepts (explainRows f m) (explain-numbered f m) (eqb-true _ _ t) in
-    rw (explain-accepted f m v) (sym (explanation-accepted s (four-bytes s l ∙ v))))
-    (λ t. let n = eqb-false _ _ t in
-    rw (explain-refused f m n, t) (sym (explanation-refused s (rw (four-bytes s l) n) ∙ ap refusedLine (four-bytes s l))))
+asked s l = sym (four-bytes s l)

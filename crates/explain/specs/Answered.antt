@@ -1,14 +1,11 @@
 -- What explaining answers, as the result that `rules` defines, and its text in a caller's slice; and what its steps ask.
 use Prim.Native.Nat.{ℕ}
 use mathlib.Core.Path.{_≡_}
-use mathlib.Core.Bool.{cond}
 use mathlib.Core.List.{List}
 use lib.IntN.{ℤ}
 use Rattle.rules.specs.declared.Explained.{Explained}
 use Rattle.rules.specs.Refusals.{accepted, verdictOf, verdict, hourRows}
-use Rattle.rules.specs.Settling.{isAccepted}
-use Rattle.rules.specs.Statement.{refusedLine}
-use Rattle.rules.specs.Explanation.{Explanation, explanationLines, explanation}
+use Rattle.rules.specs.Explanation.{Explanation, explanation}
 use Rattle.rules.specs.Inner.Searched.{foundAt}
 use Rattle.neutrality.specs.Charged.{Charged}
 use Rattle.lines.specs.Lined.{AllWorked}
@@ -17,10 +14,6 @@ use Rattle.printing.specs.Shown.{Shown, shown}
 -- the answer as number and place, the head that decided by its place
 abbrev pub answered : Explained → Explanation
 answered r = record { verdict = verdictOf (r .answer); heads = r .heads; decided = foundAt (r .decided) }
-
--- its six lines, or the refusal's
-unfoldable pub worded : Explanation → List ℕ
-worded e = cond (isAccepted (e .verdict)) (explanationLines (e .heads) (e .decided)) (refusedLine (e .verdict))
 
 -- the explanation of any byte string, in a slice with room for the longest
 abbrev pub explained : (s out : List ℕ) → Shown

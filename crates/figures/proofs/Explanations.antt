@@ -34,5 +34,5 @@ unfolding Below.sumBelow Below.totalBelow Below.firstBelow orElse minℤ maxℤ 
     Refusals.fileRows Refusals.hourRows wordBytes Deviation.importDeviation Deviation.exportDeviation Refusals.noMember
     Refusals.explainRows Statement.refusedLine Explanation.pricedSum Explanation.heads Explanation.sameSign Explanation.decidedBy
     Explanation.decided Explanation.explain Explanation.signedDecimal Explanation.headLine Explanation.decidedLine
-    Explanation.explanationLines Explanation.askedRows Explanation.explanation sealed everyKind explanations Neutrality.neutralityShare
+    Explanation.explanationLines Explanation.worded Explanation.explanation sealed everyKind explanations Neutrality.neutralityShare
 explained-right = (refl, (refl, (refl, (refl, (refl, (refl, (refl, tt)))))))

@@ -5,24 +5,23 @@ use mathlib.Core.Option.{Option, none, some}
 use mathlib.Core.List.{List, _++_}
 use Prim.Native.Nat.{ℕ, zero, suc, _-_, _≤_, _<_}
 use native.Mathlib.Omega.{arith}
-use lib.Dec.{leb}
+use lib.Dec.{leb, ltb}
 use lib.IntN.{ℤ, pos, negsuc, natAbs}
 use lib.Signed.{_≤ℤ_, _<ℤ_}
 use lib.ListN.{length, take, length-append, length-drop}
 use lib.Seq.{take-all, length-take-le}
-use borrow.Author.Tests.{leb-true, leb-false, lt-ltb, le-ltb, ne-eqb}
+use borrow.Author.Tests.{leb-true, leb-false, lt-ltb, le-ltb}
 use Rattle.whole.proofs.Tests.{split}
 use Rattle.whole.proofs.Linear.{le↓, lt↓}
 use Rattle.rules.specs.Text.{bytes, decimal}
-use Rattle.rules.specs.HourFile.{hourIn}
-use Rattle.rules.specs.Refusals.{Verdict, accepted, refusedAt, verdict, hourRows, explainRows}
+use Rattle.rules.specs.Refusals.{Verdict, refusedAt, verdict, hourRows, explainRows}
 use Rattle.rules.specs.Settling.{isAccepted}
 use Rattle.rules.specs.Statement.{refusedLine}
-use Rattle.rules.specs.Explanation.{heads, headAt, decided, signedDecimal, headName, decidedName, headLine, decidedLine}
-use Rattle.rules.specs.Explanation.{explanationLines, memberAsked, hourAsked, askedRows, explanation}
+use Rattle.rules.specs.Explanation.{headAt, signedDecimal, headName, decidedName, headLine, decidedLine}
+use Rattle.rules.specs.Explanation.{Explanation, explain, explanationLines, worded, memberAsked, hourAsked, explanation}
 use Rattle.rules.proofs.Digits.{decimal-at-most-20}
 use Rattle.rules.proofs.Stated.{refused-line-most, too-long-refused}
-use Rattle.rules.proofs.Explaining.{rows-refused-alike}
+use Rattle.rules.proofs.Explaining.{rows-refused-alike, explain-refused}
 
 -- ---- how long the lines are
 
@@ -68,37 +67,36 @@ explanation-lines-most hs d = simp length-append (omega (
   decided-name-most d,
 ))
 
--- ---- accepted or refused
+-- and so has what is worded of any explanation
+worded-most : (e : Explanation) → length (worded e) ≤ 165
+unfolding worded
+worded-most e = split (isAccepted (e .verdict))
+    (λ t. rw t (explanation-lines-most (e .heads) (e .decided)))
+    (λ t. rw t (omega (arith, refused-line-most (e .verdict))))
+
+-- ---- four bytes, or fewer
 
 module _ (s : List ℕ) where
-  pub explanation-accepted : verdict (askedRows s) ≡ accepted →
-      explanation s ≡ explanationLines (heads (hourIn (hourAsked s)) (memberAsked s)) (decided (hourIn (hourAsked s)) (memberAsked s))
-  unfolding explanation
-  explanation-accepted e = rw e refl
-
-  pub explanation-refused : (verdict (askedRows s) .number ≡ 0 → ⊥) → explanation s ≡ refusedLine (verdict (askedRows s))
-  unfolding explanation
-  explanation-refused r = rw (ne-eqb (verdict (askedRows s) .number) 0 r) refl
-
   pub too-few-bytes : length s < 4 → explanation s ≡ refusedLine (refusedAt 1 0)
-  unfolding explanation askedRows verdict
+  unfolding explanation
   too-few-bytes l = rw (lt-ltb (length s) 4 l) refl
 
-  pub four-bytes : 4 ≤ length s → verdict (askedRows s) ≡ verdict (explainRows (hourAsked s) (memberAsked s))
-  unfolding askedRows verdict
+  pub four-bytes : 4 ≤ length s → explanation s ≡ worded (explain (hourAsked s) (memberAsked s))
+  unfolding explanation
   four-bytes l = rw (le-ltb (length s) 4 l) refl
 
   pub explanation-fits : length (explanation s) ≤ 165
   unfolding explanation
-  explanation-fits = split (isAccepted (verdict (askedRows s)))
-      (λ t. rw t (explanation-lines-most _ _))
-      (λ t. rw t (omega (arith, refused-line-most (verdict (askedRows s)))))
+  explanation-fits = split (ltb (length s) 4)
+      (λ t. rw t (omega (arith, refused-line-most (refusedAt 1 0))))
+      (λ t. rw t (worded-most (explain (hourAsked s) (memberAsked s))))
 
 -- ---- of a cut input
 
 too-long : (s : List ℕ) → 13316 < length s → explanation s ≡ refusedLine (refusedAt 1 0)
-too-long s l = let file : verdict (askedRows s) ≡ refusedAt 1 0 = four-bytes s (omega arith) ∙ refused in
-    explanation-refused s (λ z. absurd (omega (arith, ap (λ (v : Verdict). v .number) file))) ∙ ap refusedLine file
+unfolding worded
+too-long s l = four-bytes s (omega arith)
+    ∙ rw (explain-refused (hourAsked s) (memberAsked s) (λ z. absurd (omega (arith, ap (λ (v : Verdict). v .number) refused))), refused) refl
   where
     hour-refused : verdict (hourRows (hourAsked s)) ≡ refusedAt 1 0
     hour-refused = too-long-refused (hourAsked s) (omega (arith, length-drop 4 s))

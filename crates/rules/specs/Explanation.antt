@@ -16,7 +16,7 @@ use Rattle.rules.specs.Share.{firstLargest}
 use Rattle.rules.specs.Charge.{shareOf, charge}
 use Rattle.rules.specs.Text.{bytes, decimal}
 use Rattle.rules.specs.HourFile.{word, hourIn}
-use Rattle.rules.specs.Refusals.{Row, row, Verdict, verdict, placeZeroIf, explainRows}
+use Rattle.rules.specs.Refusals.{Verdict, refusedAt, verdict, explainRows}
 use Rattle.rules.specs.Settling.{isAccepted}
 use Rattle.rules.specs.Statement.{refusedLine}
 
@@ -98,6 +98,10 @@ explanationLines hs d =
     headLine 0 (headAt hs 0) ++ headLine 1 (headAt hs 1) ++ headLine 2 (headAt hs 2) ++ headLine 3 (headAt hs 3) ++ headLine 4 (headAt hs 4)
     ++ decidedLine d
 
+-- of these numbers: the six lines, or the refusal's
+unfoldable pub worded : Explanation → List ℕ
+worded e = cond (isAccepted (e .verdict)) (explanationLines (e .heads) (e .decided)) (refusedLine (e .verdict))
+
 -- standard input: four bytes of member number, little-endian, then an hour file
 module _ (s : List ℕ) where
   abbrev pub memberAsked : ℕ
@@ -106,11 +110,6 @@ module _ (s : List ℕ) where
   abbrev pub hourAsked : List ℕ
   hourAsked = drop 4 s
 
-  -- 1 also where there are under four bytes
-  unfoldable pub askedRows : List Row
-  askedRows = row 1 (placeZeroIf (ltb (length s) 4)) ∷ explainRows hourAsked memberAsked
-
-  -- the six lines, or the refusal's
+  -- 1 where there are under four bytes; else what is explained
   unfoldable pub explanation : List ℕ
-  explanation = let v = verdict askedRows in let h = hourIn hourAsked in
-      cond (isAccepted v) (explanationLines (heads h memberAsked) (decided h memberAsked)) (refusedLine v)
+  explanation = cond (ltb (length s) 4) (refusedLine (refusedAt 1 0)) (worded (explain hourAsked memberAsked))

@@ -9,7 +9,7 @@ use Rattle.rules.specs.Explanation as Explanation
 use Rattle.rules.proofs.Worded.{explanation-fits, too-few-bytes}
 use Rattle.printing.proofs.Putting.{put-as}
 use Rattle.printing.proofs.Showing.{no-room, put-shown}
-use Rattle.explain.specs.Answered.{worded}
+use Rattle.rules.specs.Explanation.{worded}
 use Rattle.explain.proofs.Answers.{asked}
 use Rattle.explain.proofs.explanation.Statement.{statement}
 use Rattle.explain.proofs.explanation.Tie as tie
