@@ -26,4 +26,4 @@ unfolding Below.sumBelow Below.totalBelow Below.firstBelow orElse Record.signed 
     Charge.shareOf Charge.grains Charge.nearestCent Charge.cents Charge.charge Neutrality.neutrality Neutrality.memberDemand
     Neutrality.hourDemand Refusals.noDemand Refusals.tooShort Refusals.blockRows Refusals.wordRows Refusals.recordRows
     Refusals.sumRows Refusals.formRows Refusals.fileRows Refusals.hourRows Refusals.settleRows Settling.settle wordBytes usedBuffers sealed refusals
-refused-right = (refl, (refl, (refl, (refl, (refl, (refl, (refl, (refl, (refl, (refl, tt))))))))))
+refused-right = (refl, (refl, (refl, (refl, (refl, (refl, (refl, (refl, (refl, (refl, (refl, tt)))))))))))

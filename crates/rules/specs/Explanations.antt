@@ -10,16 +10,8 @@ use Rattle.rules.specs.Refusals.{refusedAt}
 use Rattle.rules.specs.Explanation.{Explanation, noHeads, decidedBy, explain, explanation}
 use Rattle.rules.specs.Figures.{Case, _is_, AllRight}
 use Rattle.rules.specs.Printed.{wordBytes}
-use Rattle.rules.specs.Refused.{first, plainHead, withRecords}
-
--- the records of the printed case, and of member 1 an import, an export and a generator with losses: UFE is 10,780,000 units, all of it member 1's
-unfoldable pub everyKind : List ℕ
-everyKind = withRecords 5 (
-    1 ∷ 0 ∷ 0 ∷ 1000 ∷ 900 ∷ 0 ∷ 0 ∷ 0 ∷ 2000 ∷ 10000 ∷ 10000 ∷ 0
-    ∷ 2 ∷ 1 ∷ 0 ∷ 1000 ∷ 870 ∷ 0 ∷ 0 ∷ 0 ∷ 0 ∷ 0 ∷ 0 ∷ 0
-    ∷ 4 ∷ 1 ∷ 0 ∷ 300 ∷ 0 ∷ 50 ∷ 0 ∷ 0 ∷ 0 ∷ 10000 ∷ 9000 ∷ 0
-    ∷ 5 ∷ 1 ∷ 0 ∷ 200 ∷ 180 ∷ 30 ∷ 0 ∷ 0 ∷ 0 ∷ 0 ∷ 0 ∷ 0
-    ∷ 1 ∷ 1 ∷ 0 ∷ 1000 ∷ 1100 ∷ 0 ∷ 0 ∷ 0 ∷ 2000 ∷ 9800 ∷ 9800 ∷ 0 ∷ [])
+use Rattle.rules.specs.Refused.{first, plainHead}
+use Rattle.rules.specs.EveryKind.{everyKind}
 
 abbrev pub unexplained : (number place : ℕ) → Explanation
 unexplained number place = record { verdict = refusedAt number place; heads = noHeads; decided = none }
@@ -30,7 +22,7 @@ grainsOf g l i e s = g ∷ l ∷ i ∷ e ∷ s ∷ []
 unfoldable pub explanations : List Case
 explanations =
     explanation (wordBytes (1 ∷ []) ++ everyKind) is bytes
-    "generation -4900000000\nload -6500000000\nimport 3750000000\nexport 500000000\nshare 53900000000\ndecided share\n"
+    "generation -4900000000\nload 3900000000\nimport 3750000000\nexport -300000000\nshare 1236456000\ndecided load\n"
     -- the first of two that are as large; the smaller with the charge's sign; a charge of zero, whatever the heads
     ∷ decidedBy (pos 1) (grainsOf (pos 3) (pos 7) (negℤ (pos 9)) (pos 7) (pos 0)) is some 1
     ∷ decidedBy (negℤ (pos 1)) (grainsOf (pos 9) (negℤ (pos 4)) (pos 0) (negℤ (pos 5)) (negℤ (pos 5))) is some 3

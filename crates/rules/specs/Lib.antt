@@ -23,8 +23,10 @@ pub mod Imports
 pub mod Engines
 pub mod Explaining
 pub mod Figures
+pub mod Limits
 pub mod Printed
 pub mod Refused
+pub mod EveryKind
 pub mod Unwritten
 pub mod Explanations
 pub mod Inner

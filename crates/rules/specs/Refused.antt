@@ -1,6 +1,7 @@
--- Refusals of settling as figures: a small file for each row, what settling answers, and that the buffers are what they were.
+-- Refusals of settling as figures: for each row a small file that breaks it, twice where it has a place, and every row after it, so that the
+-- first place and the order show; what settling answers, and that the buffers are what they were.
 -- Document 01, "Refusal numbers and their order"; document 02, A1 and A6.
-use Prim.Native.Nat.{ℕ, _+_, _-_}
+use Prim.Native.Nat.{ℕ, _+_, _-_, _%_}
 use mathlib.Core.List.{List, [], _∷_, _++_}
 use lib.ListN.{take, drop, replicate}
 use Rattle.rules.specs.Refusals.{refusedAt}
@@ -14,7 +15,7 @@ sumOf (w ∷ ws) = w + sumOf ws
 
 -- a block of these words, with word 7 put in such that its sum is zero
 unfoldable pub sealed : List ℕ → List ℕ
-sealed words = block (take 7 words ++ (0x1_0000_0000 - sumOf words) ∷ drop 7 words)
+sealed words = block (take 7 words ++ (0x1_0000_0000 - sumOf words % 0x1_0000_0000) % 0x1_0000_0000 ∷ drop 7 words)
 
 -- a first block: the number of other blocks, then the first body
 abbrev pub first : ℕ → List ℕ → List ℕ
@@ -28,9 +29,41 @@ plainHead members = 7 ∷ members ∷ 1 ∷ 1 ∷ 5000 ∷ []
 abbrev pub engine : (scheduled : ℕ) → List ℕ
 engine scheduled = 1 ∷ 0 ∷ 0 ∷ scheduled ∷ 1 ∷ 0 ∷ 0 ∷ 0 ∷ 1 ∷ 1 ∷ 1 ∷ 0 ∷ []
 
+-- a block that isn't the first: its position, the records held, its word 6, and the records' words; sealed
+abbrev pub other : (position count six : ℕ) → List ℕ → List ℕ
+other position count six records = sealed (2 ∷ position ∷ count ∷ 0 ∷ 0 ∷ 0 ∷ six ∷ records)
+
+-- the same with 0 in word 7, so that its sum isn't zero
+abbrev pub unsealed : (position count six : ℕ) → List ℕ → List ℕ
+unsealed position count six records = block (2 ∷ position ∷ count ∷ 0 ∷ 0 ∷ 0 ∷ six ∷ 0 ∷ records)
+
 -- an hour of two members and so many records, of these words
 abbrev pub withRecords : (count : ℕ) → List ℕ → List ℕ
-withRecords count records = first 1 (plainHead 2) ++ sealed (2 ∷ 1 ∷ count ∷ 0 ∷ 0 ∷ 0 ∷ 0 ∷ records)
+withRecords count records = first 1 (plainHead 2) ++ other 1 count 0 records
+
+-- ---- what each row breaks
+
+-- 11: four members, for three places
+-- 6: three areas, of which two have a kWh coming in and no load
+-- 4: the price of the zone, if it is too high, and the last word, if it isn't zero
+abbrev pub areasHead : (price last : ℕ) → List ℕ
+areasHead price last = 7 ∷ 4 ∷ 1 ∷ 3 ∷ price ∷ replicate 8 0 ++ 1 ∷ 0 ∷ 0 ∷ 0 ∷ 1 ∷ replicate 101 0 ++ last ∷ []
+
+-- 12: an export of a kWh, scheduled and not taken, where there is no load
+abbrev pub untaken : List ℕ
+untaken = 5 ∷ 0 ∷ 0 ∷ 1 ∷ replicate 8 0
+
+-- 14: two engines scheduled above their maximum, behind one at it
+abbrev pub engines : List ℕ
+engines = engine 1 ++ engine 2 ++ engine 2 ++ untaken
+
+-- 5: two records of kind 6, behind an engine scheduled above its maximum
+abbrev pub unknownKinds : List ℕ
+unknownKinds = engine 2 ++ 6 ∷ replicate 11 0 ++ 6 ∷ replicate 11 0 ++ untaken
+
+-- 3: in the last two of three blocks word 6 isn't zero; 2: nor are their sums
+abbrev pub threeBlocks : (block : (position count six : ℕ) → List ℕ → List ℕ) → List ℕ
+threeBlocks block = first 2 (areasHead 1000001 1) ++ block 1 10 1 unknownKinds ++ block 2 1 1 untaken
 
 -- all figures are 0, and the buffers, with three places each, are as they were
 abbrev pub refused : (number place : ℕ) → List ℕ → Case
@@ -38,24 +71,19 @@ refused number place s = settle s usedBuffers is record { verdict = refusedAt nu
 
 unfoldable pub refusals : List Case
 refusals =
-    -- no byte; a byte more than a block
+    -- no byte; a byte behind the last block
     refused 1 0 []
-    ∷ refused 1 0 (replicate 513 0)
-    -- the words of the second block add up to 4
-    ∷ refused 2 1 (first 1 (plainHead 2) ++ block (2 ∷ 1 ∷ 1 ∷ []))
+    ∷ refused 1 0 (threeBlocks unsealed ++ 0 ∷ [])
+    ∷ refused 2 1 (threeBlocks unsealed)
+    ∷ refused 3 1 (threeBlocks other)
     -- another block is told, and none is there
     ∷ refused 3 0 (first 1 (plainHead 2))
-    -- a price of 1,000,001
-    ∷ refused 4 12 (first 0 (7 ∷ 2 ∷ 1 ∷ 1 ∷ 1000001 ∷ []))
-    -- two records: an engine scheduled above its maximum, and one of kind 6: 5 is looked for in the whole file before 14
-    ∷ refused 5 1 (withRecords 2 (engine 2 ++ 6 ∷ []))
-    -- an engine scheduled at its maximum, and one above; without a load row 6 is broken too
-    ∷ refused 14 1 (withRecords 2 (engine 1 ++ engine 2))
-    -- two areas: one without ties, and one with a kWh coming in and no load
-    ∷ refused 6 1 (first 0 (7 ∷ 2 ∷ 1 ∷ 2 ∷ 5000 ∷ replicate 8 0 ++ 1 ∷ []))
-    -- an export of a kWh, scheduled and not taken, no load, and four members for three places: 12 is looked for before 11
-    ∷ refused 12 0 (first 1 (plainHead 4) ++ sealed (2 ∷ 1 ∷ 1 ∷ 0 ∷ 0 ∷ 0 ∷ 0 ∷ 5 ∷ 0 ∷ 0 ∷ 1 ∷ []))
-    -- four members and no record, so that N is 0
+    ∷ refused 4 12 (first 1 (areasHead 1000001 1) ++ other 1 4 0 unknownKinds)
+    ∷ refused 5 1 (first 1 (areasHead 5000 0) ++ other 1 4 0 unknownKinds)
+    ∷ refused 14 1 (first 1 (areasHead 5000 0) ++ other 1 4 0 engines)
+    ∷ refused 6 1 (first 1 (areasHead 5000 0) ++ other 1 1 0 untaken)
+    ∷ refused 12 0 (first 1 (plainHead 4) ++ other 1 1 0 untaken)
+    -- no record, so that N is 0
     ∷ refused 11 0 (first 0 (plainHead 4))
     ∷ []
 

@@ -1,0 +1,18 @@
+-- Records and heads at each limit and one past it, computed.
+use mathlib.Core.Path.{refl}
+use mathlib.Core.Option.{orElse}
+use Rattle.whole.specs.Below
+use Rattle.rules.specs.Record
+use Rattle.rules.specs.HourWords
+use Rattle.rules.specs.Ranges
+use Rattle.rules.specs.Refusals
+use Rattle.rules.specs.Limits
+
+pub limits-right : Limits.LimitsRight
+unfolding Below.firstBelow orElse Record.signed Record.kindOf HourWords.hourFrom Ranges.keeps Ranges.firstBroken Ranges.areaRule
+    Ranges.headRule Ranges.rulesOf Ranges.recordRule Refusals.badHead Refusals.badWord Limits.faults Limits.ownPlaces Limits.recordFault
+    Limits.recordLimits Limits.headFault Limits.fullHead Limits.headLimits
+limits-right = record {
+  of-records = (refl, (refl, (refl, (refl, (refl, (refl, (refl, (refl, (refl, (refl, (refl, tt)))))))))));
+  of-the-head = (refl, (refl, (refl, (refl, (refl, (refl, (refl, (refl, tt))))))));
+}

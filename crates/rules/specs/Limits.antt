@@ -1,0 +1,121 @@
+-- Limits as figures: for each kind a record at its limits, and each of its words one past them; the same of the head.
+-- Document 01, "Units and ranges", "The hour file"; document 02, A3.
+use Prim.Native.Nat.{ℕ, _-_}
+use mathlib.Core.Option.{Option, none, some}
+use mathlib.Core.List.{List, [], _∷_, _++_}
+use lib.ListN.{set, replicate}
+use Rattle.rules.specs.HourFile.{hourly}
+use Rattle.rules.specs.HourWords.{hourFrom}
+use Rattle.rules.specs.Ranges.{hourlyForm}
+use Rattle.rules.specs.Refusals.{badHead, badWord}
+use Rattle.rules.specs.Figures.{Case, _is_, AllRight}
+
+-- the number of a word, and what it is to be instead
+abbrev pub Change : Type 0
+Change = ℕ × ℕ
+
+-- where words break a rule once one of them is changed, each change by itself; the first word has this number
+unfoldable pub faults : (List ℕ → Option ℕ) → (from : ℕ) (words : List ℕ) → List Change → List (Option ℕ)
+faults fault from words [] = []
+faults fault from words (c ∷ changes) = fault (set words (c .0 - from) (c .1)) ∷ faults fault from words changes
+
+-- at the word that is changed
+unfoldable pub ownPlaces : List Change → List (Option ℕ)
+ownPlaces [] = []
+ownPlaces (c ∷ changes) = some (c .0) ∷ ownPlaces changes
+
+-- ---- records, in an hour of two members and two areas
+
+unfoldable pub recordFault : List ℕ → Option ℕ
+recordFault words = badWord hourlyForm (hourFrom hourly (7 ∷ 2 ∷ 1 ∷ 2 ∷ []) words) 0
+
+abbrev pub recordBreaks : List ℕ → List Change → Case
+recordBreaks words changes = faults recordFault 0 words changes is ownPlaces changes
+
+-- 100,000 below zero, and one less
+abbrev pub leastAdjustment : ℕ
+leastAdjustment = 4294867296
+
+abbrev pub tooLow : ℕ
+tooLow = 4294867295
+
+--                                    kind member area S A J N O M F H zero
+abbrev pub generatorAt : List ℕ
+generatorAt = 1 ∷ 1 ∷ 1 ∷ 100000 ∷ 100000 ∷ 100000 ∷ 100000 ∷ 100000 ∷ 100000 ∷ 20000 ∷ 20000 ∷ 0 ∷ []
+
+abbrev pub loadAt : (kind : ℕ) → List ℕ
+loadAt kind = kind ∷ 1 ∷ 1 ∷ 100000 ∷ 100000 ∷ 100000 ∷ 100000 ∷ 100000 ∷ 0 ∷ 0 ∷ 0 ∷ 0 ∷ []
+
+abbrev pub importAt : List ℕ
+importAt = 4 ∷ 1 ∷ 1 ∷ 100000 ∷ 0 ∷ 100000 ∷ 100000 ∷ 0 ∷ 0 ∷ 20000 ∷ 20000 ∷ 0 ∷ []
+
+abbrev pub exportAt : List ℕ
+exportAt = 5 ∷ 1 ∷ 1 ∷ 100000 ∷ 100000 ∷ 100000 ∷ 0 ∷ 0 ∷ 0 ∷ 0 ∷ 0 ∷ 0 ∷ []
+
+-- what breaks every kind: another kind, a member and an area that aren't there, the schedule, the adjustment both ways, word 11
+abbrev pub forEveryKind : List Change
+forEveryKind = (0, 0) ∷ (0, 6) ∷ (1, 2) ∷ (2, 2) ∷ (3, 100001) ∷ (5, 100001) ∷ (5, tooLow) ∷ (11, 1) ∷ []
+
+abbrev pub forMultipliers : List Change
+forMultipliers = (9, 0) ∷ (9, 20001) ∷ (10, 0) ∷ (10, 20001) ∷ []
+
+abbrev pub forLoads : List Change
+forLoads = forEveryKind ++ (4, 100001) ∷ (6, 100001) ∷ (7, 100001) ∷ (8, 1) ∷ (9, 1) ∷ (10, 1) ∷ []
+
+unfoldable pub recordLimits : List Case
+recordLimits =
+    -- at the upper limits, and at the lower
+    recordFault generatorAt is none
+    ∷ recordFault (1 ∷ 0 ∷ 0 ∷ 0 ∷ 0 ∷ leastAdjustment ∷ 0 ∷ 0 ∷ 0 ∷ 1 ∷ 1 ∷ 0 ∷ []) is none
+    ∷ recordBreaks generatorAt (forEveryKind ++ forMultipliers ++ (4, 100001) ∷ (6, 100001) ∷ (7, 100001) ∷ (8, 100001) ∷ [])
+    ∷ recordFault (loadAt 2) is none
+    ∷ recordBreaks (loadAt 2) forLoads
+    ∷ recordFault (loadAt 3) is none
+    ∷ recordBreaks (loadAt 3) forLoads
+    ∷ recordFault importAt is none
+    ∷ recordBreaks importAt (forEveryKind ++ forMultipliers ++ (4, 1) ∷ (6, 100001) ∷ (7, 1) ∷ (8, 1) ∷ [])
+    ∷ recordFault exportAt is none
+    ∷ recordBreaks exportAt (forEveryKind ++ (4, 100001) ∷ (6, 1) ∷ (7, 1) ∷ (8, 1) ∷ (9, 1) ∷ (10, 1) ∷ [])
+    ∷ []
+
+-- ---- the head
+
+unfoldable pub headFault : List ℕ → Option ℕ
+headFault head = badHead hourlyForm (hourFrom hourly head [])
+
+abbrev pub headBreaks : List ℕ → List Change → Case
+headBreaks words changes = faults headFault 8 words changes is ownPlaces changes
+
+-- 32 members, four zones, eight areas: prices of 1,000,000 in size, the last zone, ties of 10,000,000
+abbrev pub fullArea : List ℕ
+fullArea = 3 ∷ 10000000 ∷ 10000000 ∷ 0 ∷ []
+
+unfoldable pub fullHead : List ℕ
+fullHead =
+    4294967295 ∷ 32 ∷ 4 ∷ 8 ∷ 1000000 ∷ 4293967296 ∷ 1000000 ∷ 1000000
+    ∷ fullArea ++ fullArea ++ fullArea ++ fullArea ++ fullArea ++ fullArea ++ fullArea ++ fullArea ++ replicate 80 0
+
+-- one of each
+abbrev pub leastHead : List ℕ
+leastHead = 0 ∷ 1 ∷ 1 ∷ 1 ∷ replicate 116 0
+
+unfoldable pub headLimits : List Case
+headLimits =
+    headFault fullHead is none
+    -- counts
+    ∷ headBreaks fullHead ((9, 0) ∷ (9, 33) ∷ (10, 0) ∷ (10, 5) ∷ (11, 0) ∷ (11, 9) ∷ [])
+    -- prices
+    ∷ headBreaks fullHead ((12, 1000001) ∷ (13, 4293967295) ∷ (15, 1000001) ∷ [])
+    -- the first area and the last: a zone that isn't there, the ties, the fourth word
+    ∷ headBreaks fullHead ((16, 4) ∷ (17, 10000001) ∷ (18, 10000001) ∷ (19, 1) ∷ [])
+    ∷ headBreaks fullHead ((44, 4) ∷ (45, 10000001) ∷ (46, 10000001) ∷ (47, 1) ∷ [])
+    -- the words behind them
+    ∷ headBreaks fullHead ((48, 1) ∷ (127, 1) ∷ [])
+    ∷ headFault leastHead is none
+    -- a price and an area past their counts, a zone that isn't there
+    ∷ headBreaks leastHead ((13, 1) ∷ (15, 1) ∷ (16, 1) ∷ (20, 1) ∷ (21, 1) ∷ (22, 1) ∷ (45, 1) ∷ [])
+    ∷ []
+
+pub record LimitsRight : Type 0 where
+  pub of-records : AllRight recordLimits
+  pub of-the-head : AllRight headLimits
