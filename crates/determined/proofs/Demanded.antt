@@ -1,23 +1,20 @@
 -- What the pages say of a function, said of its contract as its callers read it: settling keeps the three demands, its finals add up to
 -- nothing, and it refuses an import that was metered and a generator that is scheduled above its maximum; an amount written is read, and
 -- one read is written again; the statement is put whole or not at all, and tells what it is of; an accepted file keeps its ranges.
-use mathlib.Core.Path.{_≡_, sym, _∙_, ap}
+use mathlib.Core.Path.{_≡_, sym, _∙_, ap, ap₂}
 use mathlib.Core.List.{List}
-use Prim.Native.Nat.{ℕ, _≤_, _<_}
+use Prim.Native.Nat.{ℕ, _≤_}
 use lib.IntN.{ℤ}
 use lib.ListN.{length, take, drop}
 use contract.Lifetimes.{Lfts}
 use denote.Ref.{now}
 use Rattle.rules.specs.declared.Answer.the-variants.{Accepted}
 use Rattle.rules.specs.declared.Line.{Line}
-use Rattle.rules.specs.Record.{members}
-use Rattle.rules.specs.Charge.{charge}
-use Rattle.rules.specs.Neutrality.{final}
-use Rattle.rules.specs.Refusals.{Verdict, accepted, refusedAt, verdictOf, verdict, hourRows, Buffers}
+use Rattle.rules.specs.Refusals.{Verdict, refusedAt, verdictOf, verdict, Buffers}
 use Rattle.rules.specs.HourFile.{hourly, body, hourIn}
 use Rattle.rules.specs.Settling.{Settlement, settle as settling, write as writing, read as reading}
 use Rattle.rules.specs.Statement as Statement
-use Rattle.rules.specs.Finals.{chargeColumn, finalColumn, AreBytes, SameSheet}
+use Rattle.rules.specs.Finals.{ShowsOutcome}
 use Rattle.rules.specs.Inner.Kept.{FileKept}
 use Rattle.rules.proofs.Rows.{settle-verdict, settle-changes-nothing}
 use Rattle.rules.proofs.Demands.{demand2, demand3}
@@ -32,7 +29,7 @@ use Rattle.pool.specs.Buffers.{buffers}
 use Rattle.pool.specs.Unlined.{unlined, withLines, ownLines}
 use Rattle.report.specs.Stated.{HasStated}
 use Rattle.printing.proofs.Showing.{whole-text}
-use Rattle.determined.specs.Determined.{Gives, KeepsDemands}
+use Rattle.determined.specs.Determined.{Gives, KeepsDemands, IsPut, IsReadBack, Tells}
 use Rattle.amount.proofs.write.Reads as write
 use Rattle.amount.proofs.read.Reads as read
 use Rattle.examine.proofs.examine.Reads as examine
@@ -54,6 +51,7 @@ keeps {s} {b} v u a = record {
   by-formula = λ e. rw (u, a) (demand2 .settled s b (sym v ∙ e));
   fair = λ e. rw (u, a) (demand3 s b (sym v ∙ e));
   neutral = λ e. rw a (neutrality-shared .settled s b (sym v ∙ e));
+  held-to-demand = rw v (neutrality-shared .settle-held s b);
   metered-import = λ i passed m. v ∙ imports .refused s b i passed m;
   held-to-maximum = rw v (engines .settled s b);
 }
@@ -122,21 +120,46 @@ examine-promises κs a x s p accepts = Examined.accepted-kept (now (a .0)) x p a
 pub statement-promises : (κs : Lfts 2) → Gives (statement.Post κs) (λ a x s. HasStated (now (a .0)) (now (a .1 .0)) x (now (s .1 .0)))
 statement-promises κs a x s p = record { count-is = p .0; out-is = p .1 }
 
-pub statement-is-put : (κs : Lfts 2) → Gives (statement.Post κs) (λ a x s. 1095 ≤ length (now (a .1 .0)) →
-    take x (now (s .1 .0)) ≡ Statement.statement (now (a .0)))
+pub statement-is-put : (κs : Lfts 2) → Gives (statement.Post κs) (λ a x s.
+    IsPut 1095 (Statement.statement (now (a .0))) (now (a .1 .0)) x (now (s .1 .0)))
 statement-is-put κs a x s p = whole-text (statement-promises κs a x s p)
 
 -- read, the columns of a member's line give its charge and its final
-pub statement-is-read-back : (κs : Lfts 2) → Gives (statement.Post κs) (λ a x s. 1095 ≤ length (now (a .1 .0)) →
-    verdict (hourRows (now (a .0))) ≡ accepted → let h = hourIn (now (a .0)) in (m : ℕ) → m < members h →
-    (reading (chargeColumn h m (take x (now (s .1 .0)))) ≡ record { verdict = accepted; amount = charge h m })
-    × (reading (finalColumn h m (take x (now (s .1 .0)))) ≡ record { verdict = accepted; amount = final h m }))
-statement-is-read-back κs a x s p room accepts m l =
-    rw (statement-is-put κs a x s p room) (sheet .read-back (now (a .0)) accepts m l)
+pub statement-is-read-back : (κs : Lfts 2) → Gives (statement.Post κs) (λ a x s. IsReadBack (now (a .0)) (now (a .1 .0)) x (now (s .1 .0)))
+statement-is-read-back κs a x s p room accepts = rw (statement-is-put κs a x s p room) (sheet .read-back (now (a .0)) accepts)
 
 -- two statements that are the same say the same of both files
 pub statement-tells : (κs μs : Lfts 2) → Gives (statement.Post κs) (λ a x s. 1095 ≤ length (now (a .1 .0)) →
-    Gives (statement.Post μs) (λ b y t. 1095 ≤ length (now (b .1 .0)) → AreBytes (now (a .0)) → AreBytes (now (b .0)) →
-    take x (now (s .1 .0)) ≡ take y (now (t .1 .0)) → SameSheet (now (a .0)) (now (b .0))))
+    Gives (statement.Post μs) (λ b y t. 1095 ≤ length (now (b .1 .0)) →
+    Tells (now (a .0)) (take x (now (s .1 .0))) (now (b .0)) (take y (now (t .1 .0)))))
 statement-tells κs μs a x s p room b y t q room₂ bytes bytes₂ same = sheet .tells (now (a .0)) (now (b .0)) bytes bytes₂
     (sym (statement-is-put κs a x s p room) ∙ same ∙ statement-is-put μs b y t q room₂)
+
+-- ---- settled, then printed: the columns of each member's line, read, give the charge and the final that settling wrote
+
+pub settled-is-printed : (κs : Lfts 6) (μs : Lfts 2) → Gives (settle.Post κs) (λ a x s. x .answer ≡ Accepted →
+    Gives (statement.Post μs) (λ b y t. now (b .0) ≡ now (a .0) → 1095 ≤ length (now (b .1 .0)) → ShowsOutcome (hourIn (now (a .0)))
+    (buffers (now (s .1 .1 .0)) (now (s .1 .1 .1 .0)) (now (s .1 .1 .1 .1 .0)) (now (s .1 .1 .1 .1 .1 .0)) (now (s .1 .0)))
+    (take y (now (t .1 .0)))))
+settled-is-printed κs μs a x s p accepts b y t q same room =
+    let lent = buffers (now (a .1 .1 .0)) (now (a .1 .1 .1 .0)) (now (a .1 .1 .1 .1 .0)) (now (a .1 .1 .1 .1 .1 .0)) (now (a .1 .0)) in
+    let shown = sheet .as-settled (now (a .0)) lent (sym (p .verdict-is) ∙ ap verdictOf accepts) in
+    rw (
+      statement-is-put μs b y t q room ∙ ap Statement.statement same,
+      ap (λ (z : Buffers). z .charges) (p .buffers-are),
+      ap (λ (z : Buffers). z .finals) (p .buffers-are),
+    ) shown
+
+-- the same for C
+pub sneupelaar-settled-is-printed : (κs : Lfts 6) (μs : Lfts 2) → Gives (sneupelaar-settle.Post κs) (λ a x s. x .number ≡ 0 → x .place ≡ 0 →
+    Gives (statement.Post μs) (λ b y t. now (b .0) ≡ now (a .0) → 1095 ≤ length (now (b .1 .0)) → ShowsOutcome (hourIn (now (a .0)))
+    (buffers (now (s .1 .1 .0)) (now (s .1 .1 .1 .0)) (now (s .1 .1 .1 .1 .0)) (now (s .1 .1 .1 .1 .1 .0)) (now (s .1 .0)))
+    (take y (now (t .1 .0)))))
+sneupelaar-settled-is-printed κs μs a x s p number place b y t q same room =
+    let lent = buffers (now (a .1 .1 .0)) (now (a .1 .1 .1 .0)) (now (a .1 .1 .1 .1 .0)) (now (a .1 .1 .1 .1 .1 .0)) (now (a .1 .0)) in
+    let shown = sheet .as-settled (now (a .0)) lent (sym (ap (λ (z : Settlement). z .verdict) p) ∙ ap₂ refusedAt number place) in
+    rw (
+      statement-is-put μs b y t q room ∙ ap Statement.statement same,
+      ap (λ (z : Settlement). z .buffers .charges) p,
+      ap (λ (z : Settlement). z .buffers .finals) p,
+    ) shown

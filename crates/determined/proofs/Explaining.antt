@@ -2,9 +2,9 @@
 use mathlib.Core.Path.{_≡_, refl, sym, _∙_, ap, ap₂, subst}
 use mathlib.Core.Option.{Option, none, some}
 use mathlib.Core.List.{List}
-use Prim.Native.Nat.{ℕ, zero, suc, _≤_, _<_}
-use lib.IntN.{ℤ, pos}
-use lib.ListN.{length, take, getD}
+use Prim.Native.Nat.{ℕ, zero, suc, _<_}
+use lib.IntN.{ℤ}
+use lib.ListN.{take}
 use contract.Lifetimes.{Lfts}
 use denote.Ref.{now}
 use Rattle.rules.specs.declared.Answer.{Answer}
@@ -13,17 +13,17 @@ use Rattle.rules.specs.declared.Found.{Found}
 use Rattle.rules.specs.Record.{members}
 use Rattle.rules.specs.HourFile.{hourIn}
 use Rattle.rules.specs.Refusals.{refusedAt, verdictOf, Buffers}
-use Rattle.rules.specs.Settling.{Settlement, emptyLine}
+use Rattle.rules.specs.Settling.{Settlement}
 use Rattle.rules.specs.Explanation as Explanation
-use Rattle.rules.specs.Explaining.{Explains}
 use Rattle.rules.proofs.Explaining.{explain-verdict, explaining}
+use Rattle.rules.proofs.Finals.{neutrality-shared}
 use Rattle.rules.proofs.Engines.{engines}
 use Rattle.rules.proofs.Worded.{cut-input-same}
 use Rattle.printing.proofs.Showing.{whole-text}
 use Rattle.pool.specs.Buffers.{buffers}
 use Rattle.explain.specs.Answered.{answered}
 use Rattle.explain.specs.HandedOut.{handedOut, headCounted}
-use Rattle.determined.specs.Determined.{OneResult, OneOutcome, Gives, KeepsExplaining}
+use Rattle.determined.specs.Determined.{OneResult, OneOutcome, Gives, KeepsExplaining, ExplainsOutcome, IsPut}
 use Rattle.determined.proofs.Laws.{agree, agree-answer, agree-found}
 use Rattle.printing.proofs.explanation.put_explanation.Reads as put-explanation
 use Rattle.explain.proofs.explain.Reads as explain
@@ -74,6 +74,7 @@ keeps {s} {m} e = subst (KeepsExplaining s m) (sym e) (record {
   explained = λ b. explaining .explained s b m;
   no-member = λ b. explaining .no-member s b m;
   refused-alike = explaining .refused-alike s m;
+  held-to-demand = neutrality-shared .explain-held s m;
   held-to-maximum = engines .explained s m;
 })
 
@@ -89,8 +90,9 @@ sneupelaar-explain-keeps κs a x s p = keeps p
 
 pub settled-is-explained : (κs : Lfts 6) (μs : Lfts 1) → Gives (settle.Post κs) (λ a x s. x .answer ≡ Accepted →
     Gives (explain.Post μs) (λ b y t. now (b .0) ≡ now (a .0) → let h = hourIn (now (a .0)) in b .1 .0 < members h →
-    Explains h (b .1 .0) (getD (now (s .1 .0)) (b .1 .0) emptyLine .amount) (getD (now (s .1 .1 .0)) (b .1 .0) (pos 0))
-    (y .heads) (answered y .decided)))
+    ExplainsOutcome h
+    (buffers (now (s .1 .1 .0)) (now (s .1 .1 .1 .0)) (now (s .1 .1 .1 .1 .0)) (now (s .1 .1 .1 .1 .1 .0)) (now (s .1 .0)))
+    (b .1 .0) (y .heads) (answered y .decided)))
 settled-is-explained κs μs a x s p accepts b y t q same there =
     let lent = buffers (now (a .1 .1 .0)) (now (a .1 .1 .1 .0)) (now (a .1 .1 .1 .1 .0)) (now (a .1 .1 .1 .1 .1 .0)) (now (a .1 .0)) in
     let e = keeps (rw same at q) .explained lent (sym (p .verdict-is) ∙ ap verdictOf accepts) there .1 in
@@ -99,8 +101,9 @@ settled-is-explained κs μs a x s p accepts b y t q same there =
 -- the same for C
 pub sneupelaar-settled-is-explained : (κs : Lfts 6) (μs : Lfts 1) → Gives (sneupelaar-settle.Post κs) (λ a x s. x .number ≡ 0 → x .place ≡ 0 →
     Gives (sneupelaar-explain.Post μs) (λ b y t. now (b .0) ≡ now (a .0) → let h = hourIn (now (a .0)) in b .1 .0 < members h →
-    Explains h (b .1 .0) (getD (now (s .1 .0)) (b .1 .0) emptyLine .amount) (getD (now (s .1 .1 .0)) (b .1 .0) (pos 0))
-    (y .heads) (headCounted (y .decided))))
+    ExplainsOutcome h
+    (buffers (now (s .1 .1 .0)) (now (s .1 .1 .1 .0)) (now (s .1 .1 .1 .1 .0)) (now (s .1 .1 .1 .1 .1 .0)) (now (s .1 .0)))
+    (b .1 .0) (y .heads) (headCounted (y .decided))))
 sneupelaar-settled-is-explained κs μs a x s p number place b y t q same there =
     let lent = buffers (now (a .1 .1 .0)) (now (a .1 .1 .1 .0)) (now (a .1 .1 .1 .1 .0)) (now (a .1 .1 .1 .1 .1 .0)) (now (a .1 .0)) in
     let accepts = sym (ap (λ (z : Settlement). z .verdict) p) ∙ ap₂ refusedAt number place in
@@ -110,12 +113,12 @@ sneupelaar-settled-is-explained κs μs a x s p number place b y t q same there 
 -- ---- the text
 
 -- with room, the bytes put are the six lines or the refusal's, all of it and nothing else
-pub explanation-is-put : (κs : Lfts 2) → Gives (explanation.Post κs) (λ a x s. 165 ≤ length (now (a .1 .0)) →
-    take x (now (s .1 .0)) ≡ Explanation.explanation (now (a .0)))
+pub explanation-is-put : (κs : Lfts 2) → Gives (explanation.Post κs) (λ a x s.
+    IsPut 165 (Explanation.explanation (now (a .0))) (now (a .1 .0)) x (now (s .1 .0)))
 explanation-is-put κs a x s p room = whole-text (record { count-is = p .0; out-is = p .1 }) room
 
 -- a reader that stops one byte past the longest input prints what its whole input asks for
-pub cut-input-is-put : (κs : Lfts 2) (input : List ℕ) → Gives (explanation.Post κs) (λ a x s. 165 ≤ length (now (a .1 .0)) →
-    now (a .0) ≡ take 13317 input → take x (now (s .1 .0)) ≡ Explanation.explanation input)
-cut-input-is-put κs input a x s p room cut =
+pub cut-input-is-put : (κs : Lfts 2) (input : List ℕ) → Gives (explanation.Post κs) (λ a x s. now (a .0) ≡ take 13317 input →
+    IsPut 165 (Explanation.explanation input) (now (a .1 .0)) x (now (s .1 .0)))
+cut-input-is-put κs input a x s p cut room =
     explanation-is-put κs a x s p room ∙ ap Explanation.explanation cut ∙ cut-input-same input

@@ -1,11 +1,10 @@
 -- What the pages say of the writer of hour files, said of its contract as its callers read it: what it writes is read back as the same
 -- hour, an accepted file's own head and records give its bytes again, and an import that was metered or a generator that is scheduled above
 -- its maximum is refused; the program's bytes are put whole or not at all.
-use mathlib.Core.Path.{_≡_, refl, sym, _∙_, ap, subst}
-use mathlib.Core.List.{List}
+use mathlib.Core.Path.{_≡_, sym, _∙_, ap, subst}
+use mathlib.Core.List.{List, _++_}
 use Prim.Native.Nat.{ℕ, _≤_}
-use lib.ListN.{length, take}
-use lib.Seq.{take-append-seam}
+use lib.ListN.{length, take, drop}
 use contract.Lifetimes.{Lfts}
 use denote.Ref.{now}
 use Rattle.rules.specs.HourFile.{hourly}
@@ -14,23 +13,22 @@ use Rattle.rules.specs.Refusals.{accepted, refusedAt, verdictOf, verdict, fileR
 use Rattle.rules.specs.Settling.{HourWritten, writeHour}
 use Rattle.rules.specs.RawHour.{rawWritten}
 use Rattle.rules.specs.Finals.{AreBytes}
-use Rattle.rules.specs.Writing.{AreWords, fileIn}
+use Rattle.rules.specs.Writing.{AreWords}
 use Rattle.rules.proofs.Writing.{verdict-is, as-written, writing}
 use Rattle.rules.proofs.Imports.{imports}
 use Rattle.rules.proofs.Engines.{engines}
 use Rattle.rules.proofs.Raw.{cut-input-same}
 use Rattle.printing.proofs.Showing.{whole-text}
-use Rattle.determined.specs.Determined.{Gives, KeepsWriting}
+use Rattle.determined.specs.Determined.{Gives, KeepsWriting, IsPut}
 use Rattle.writer.proofs.write_hour.Reads as write-hour
 use Rattle.rawhour.proofs.write_raw.Reads as write-raw
 use Rattle.sneupelaar.proofs.sneupelaar_write_hour.Reads as sneupelaar-write-hour
 
 module _ (head records before : List ℕ) where
   own-bytes : (s : List ℕ) → AreBytes s → verdict (fileRows s) ≡ accepted → head ≡ headWords s → records ≡ recordWords hourly s →
-      length s ≤ length before → let w = writeHour head records before in (w .verdict ≡ accepted) × (fileIn w ≡ s)
-  own-bytes s bytes passes heads recs room =
-      let same = writing .same-bytes s before bytes passes room in
-      rw (heads, recs, same) (refl, take-append-seam s _)
+      length s ≤ length before →
+      writeHour head records before ≡ record { verdict = accepted; length = length s; file = s ++ drop (length s) before }
+  own-bytes s bytes passes heads recs room = rw (heads, recs) (writing .same-bytes s before bytes passes room)
 
   keeps : AreWords head → AreWords records → KeepsWriting head records before (writeHour head records before)
   keeps head-words record-words = record {
@@ -58,11 +56,11 @@ pub sneupelaar-write-hour-keeps : (κs : Lfts 3) → Gives (sneupelaar-write-hou
 sneupelaar-write-hour-keeps κs a x s p = keeps-as (now (a .0)) (now (a .1 .0)) (now (a .1 .1 .0)) (p .0) (p .1 .0) (p .1 .1)
 
 -- with room, the bytes put are the file or the refusal's line, all of it and nothing else
-pub write-raw-is-put : (κs : Lfts 2) → Gives (write-raw.Post κs) (λ a x s. 13312 ≤ length (now (a .1 .0)) →
-    take x (now (s .1 .0)) ≡ rawWritten (now (a .0)))
+pub write-raw-is-put : (κs : Lfts 2) → Gives (write-raw.Post κs) (λ a x s.
+    IsPut 13312 (rawWritten (now (a .0))) (now (a .1 .0)) x (now (s .1 .0)))
 write-raw-is-put κs a x s p room = whole-text (record { count-is = p .0; out-is = p .1 }) room
 
 -- a reader that stops one byte past the longest input prints what its whole input asks for
-pub cut-input-is-put : (κs : Lfts 2) (input : List ℕ) → Gives (write-raw.Post κs) (λ a x s. 13312 ≤ length (now (a .1 .0)) →
-    now (a .0) ≡ take 12481 input → take x (now (s .1 .0)) ≡ rawWritten input)
-cut-input-is-put κs input a x s p room cut = write-raw-is-put κs a x s p room ∙ ap rawWritten cut ∙ cut-input-same input
+pub cut-input-is-put : (κs : Lfts 2) (input : List ℕ) → Gives (write-raw.Post κs) (λ a x s. now (a .0) ≡ take 12481 input →
+    IsPut 13312 (rawWritten input) (now (a .1 .0)) x (now (s .1 .0)))
+cut-input-is-put κs input a x s p cut room = write-raw-is-put κs a x s p room ∙ ap rawWritten cut ∙ cut-input-same input

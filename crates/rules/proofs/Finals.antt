@@ -24,6 +24,7 @@ use Rattle.rules.specs.Inner.Kept.{HourKept}
 use Rattle.rules.proofs.Rows.{no-place, accepts-when-whole, file-numbered, form-whole, demand-whole, settle-whole, settle-fills}
 use Rattle.rules.proofs.Kept.{file-kept}
 use Rattle.rules.proofs.Demands.{Room, buffers-room}
+use Rattle.rules.proofs.NoDemand.{settle-held, statement-held, explain-held}
 use Rattle.rules.proofs.Neutral.{hour-demand-by-area, hour-demand-most, neutrality-under, neutral-alike}
 
 -- row 12: where nobody demands anything, N is 0
@@ -55,6 +56,9 @@ passed s e = file-kept s (form-whole s (accepts-when-whole (fileRows s) (file-nu
 
 pub neutrality-shared : Neutrality
 neutrality-shared = record {
+  settle-held = settle-held;
+  statement-held = statement-held;
+  explain-held = explain-held;
   settled = λ s b a.
       let h = hourIn s in
       let p = settle-whole s b a in

@@ -22,6 +22,7 @@ pub mod Neutral
 pub mod Demands
 pub mod Heads
 pub mod Decided
+pub mod NoDemand
 pub mod Finals
 pub mod WordBytes
 pub mod FileWords

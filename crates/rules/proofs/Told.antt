@@ -8,27 +8,30 @@ use Prim.Native.Nat.{ℕ, _+_, _-_, _*_, _/_, _^_, _≤_, _<_}
 use native.Mathlib.Nat.{add-zero}
 use native.Mathlib.Omega.{arith}
 use lib.Dec.{ltb, leb, eqb}
-use lib.IntN.{ℤ, natAbs}
+use lib.IntN.{ℤ, pos, natAbs}
 use lib.ListN.{length, drop, getD}
 use lib.Seq.{drop-append-seam}
 use borrow.Author.Tests.{ltb-true, ltb-false, eqb-true, eqb-false}
 use Rattle.whole.specs.Below.{firstBelow}
 use Rattle.whole.proofs.Tests.{split, cond-ind, if-some}
 use Rattle.whole.proofs.Search.{first-some}
+use Rattle.whole.proofs.Buffers.{getD-replacing}
 use Rattle.rules.specs.Record.{Hour, hourNumber, members, areas}
 use Rattle.rules.specs.Charge.{charge}
 use Rattle.rules.specs.Neutrality.{hourDemand, neutrality, final}
 use Rattle.rules.specs.Text.{bytes, decimal, digitCount, digitsValue}
 use Rattle.rules.specs.HourFile.{hourly, lengthBad, word, blocks, blockWord, recordCount, hourOf, hourIn}
 use Rattle.rules.specs.Ranges.{firstBroken}
-use Rattle.rules.specs.Refusals.{Row, row, Verdict, accepted, refusedAt, verdict, placeZeroIf, blockRows, wordRows, recordRows, sumRows, formRows, fileRows, hourRows}
+use Rattle.rules.specs.Refusals.{Row, row, Verdict, accepted, refusedAt, verdict, placeZeroIf, Buffers}
+use Rattle.rules.specs.Refusals.{blockRows, wordRows, recordRows, sumRows, formRows, fileRows, hourRows}
 use Rattle.rules.specs.Refusals.{badLength, badSum, badBlock, badHead, badRecord, aboveMaximum, badArea, badAmount, noDemand}
-use Rattle.rules.specs.Settling.{ReadAmount, isAccepted, read}
+use Rattle.rules.specs.Settling.{ReadAmount, isAccepted, filled, settle, read}
 use Rattle.rules.specs.Statement.{firstLine, memberLines, acceptedLines, refusedLine, statement}
-use Rattle.rules.specs.Finals.{memberPlace, chargeColumn, finalColumn, SameSheet, AreBytes, Sheet}
+use Rattle.rules.specs.Finals.{memberPlace, chargeColumn, finalColumn, SameSheet, Shows, ShowsOutcome, AreBytes, Sheet}
+use Rattle.rules.specs.Promises.{Accepts}
 use Rattle.rules.specs.Inner.Kept.{HourKept}
 use Rattle.rules.proofs.Digits.{all-counted, make-the-number, decimal-digits}
-use Rattle.rules.proofs.Rows.{zero-accepts, hour-numbered}
+use Rattle.rules.proofs.Rows.{accepts-when-whole, zero-accepts, hour-numbered, settle-whole, settle-fills}
 use Rattle.rules.proofs.WordBytes.{word-most}
 use Rattle.rules.proofs.Stated.{accepted-kept, statement-accepted, statement-refused, hour-number-most, too-long-refused}
 use Rattle.rules.proofs.Sheet.{charge-read, final-read}
@@ -232,9 +235,26 @@ module _ (s t : List ℕ) (same : statement s ≡ statement t) where
         (λ y. absurd (omega (arith, first-letter, begins-refused s p, begins-accepted t (accepted-by-number t y))))
         (λ y. both-refused p (eqb-false _ _ y)))
 
+-- ---- the sheet shows the amounts, and what settling wrote
+
+read-back : (s : List ℕ) → verdict (hourRows s) ≡ accepted → let h = hourIn s in Shows h (charge h) (final h) (statement s)
+read-back s e = record { charge-shown = charge-read s e; final-shown = final-read s e }
+
+module _ (s : List ℕ) (b : Buffers) (a : Accepts s b) where
+  hour-accepted : verdict (hourRows s) ≡ accepted
+  hour-accepted = accepts-when-whole (hourRows s) (hour-numbered s) .1 (settle-whole s b a .0)
+
+  as-settled : ShowsOutcome (hourIn s) (settle s b .buffers) (statement s)
+  unfolding filled
+  as-settled = let h = hourIn s in let shown = read-back s hour-accepted in record {
+    charge-shown = λ m l. rw (settle-fills s b a .0, getD-replacing (charge h) (members h) (b .charges) m (pos 0) l) (shown .charge-shown m l);
+    final-shown = λ m l. rw (settle-fills s b a .0, getD-replacing (final h) (members h) (b .finals) m (pos 0) l) (shown .final-shown m l);
+  }
+
 -- What is asked of the sheet.
 pub sheet : Sheet
 sheet = record {
-  read-back = λ s e m l. (charge-read s e m l, final-read s e m l);
+  read-back = read-back;
+  as-settled = as-settled;
   tells = λ s t a b e. told s t e a b;
 }

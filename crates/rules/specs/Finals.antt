@@ -2,19 +2,22 @@
 -- Document 02, A1.
 use Prim.Native.Nat.{ℕ, _+_, _*_, _<_}
 use mathlib.Core.Path.{_≡_}
-use mathlib.Core.List.{List}
+use mathlib.Core.Logic.{_↔_}
+use mathlib.Core.Bool.{true}
+use mathlib.Core.List.{List, [], _∷_, _++_}
 use lib.IntN.{ℤ, pos, natAbs, _-ℤ_, _*ℤ_}
 use lib.ListN.{length, take, drop, getD}
 use Rattle.whole.specs.Below.{sumBelow, totalBelow}
 use Rattle.whole.specs.Signed.{withSignOf}
-use Rattle.rules.specs.Record.{Hour, hourNumber, members, areas}
+use Rattle.rules.specs.Record.{Hour, hourNumber, members, areas, entryOf, isLoad}
 use Rattle.rules.specs.Ufe.{demands}
 use Rattle.rules.specs.Charge.{charge}
 use Rattle.rules.specs.Neutrality.{everyMember, memberDemand, hourDemand, neutrality, final}
 use Rattle.rules.specs.HourFile.{hourIn}
-use Rattle.rules.specs.Refusals.{accepted, verdict, hourRows, fileRows, Buffers}
+use Rattle.rules.specs.Refusals.{row, Verdict, accepted, refusedAt, verdict, Buffers, badArea, fileRows, hourRows}
 use Rattle.rules.specs.Settling.{settle, read}
 use Rattle.rules.specs.Statement.{firstLine, statement}
+use Rattle.rules.specs.Explanation.{explain}
 use Rattle.rules.specs.Promises.{Accepts, rankedSize}
 
 -- ---- the finals add up to nothing
@@ -37,7 +40,23 @@ pub record NeutralOutcome (h : Hour) (before after : Buffers) : Type 0 where
   pub past-finals : drop (members h) (after .finals) ≡ drop (members h) (before .finals)
   pub same-length : length (after .finals) ≡ length (before .finals)
 
+-- ---- refusal 12
+
+-- every load's A is 0
+abbrev pub NobodyDemands : Hour → Type 0
+NobodyDemands h = (i : ℕ) → i < h .count → isLoad (entryOf h i .kind) ≡ true → entryOf h i .A ≡ pos 0
+
+-- what is answered of a file: 12 exactly where rows 1 to 5, 14 and 6 are passed, nobody demands anything, and the charges don't add up to 0;
+-- row 7 is never broken
+abbrev pub HeldToDemand : List ℕ → Verdict → Type 0
+HeldToDemand s answered = let h = hourIn s in (answered ≡ refusedAt 12 0) ↔
+    ((verdict (fileRows s ++ row 6 (badArea h) ∷ []) ≡ accepted) × NobodyDemands h × (totalBelow (charge h) (members h) ≡ pos 0 → ⊥))
+
 pub record Neutrality : Type 0 where
+  -- of settling, of the statement and of an explanation
+  pub settle-held : (s : List ℕ) (b : Buffers) → HeldToDemand s (settle s b .verdict)
+  pub statement-held : (s : List ℕ) → HeldToDemand s (verdict (hourRows s))
+  pub explain-held : (s : List ℕ) (m : ℕ) → HeldToDemand s (explain s m .verdict)
   pub settled : (s : List ℕ) (b : Buffers) → Accepts s b → NeutralOutcome (hourIn s) b (settle s b .buffers)
   -- all loads, all areas: of every file that passes rows 1 to 5 and 14 the members demand together what the areas do
   pub all-demand : (s : List ℕ) → verdict (fileRows s) ≡ accepted → let h = hourIn s in hourDemand h ≡ sumBelow (demands h) (areas h)
@@ -69,13 +88,22 @@ pub record SameSheet (s t : List ℕ) : Type 0 where
   pub final-is : verdict (hourRows s) ≡ accepted → let h = hourIn s in let g = hourIn t in
       (m : ℕ) → m < members h → final h m ≡ final g m
 
+-- a sheet that shows these charges and finals: read, the columns of each member's line give them
+pub record Shows (h : Hour) (chargeAt finalAt : ℕ → ℤ) (sheet : List ℕ) : Type 0 where
+  pub charge-shown : (m : ℕ) → m < members h → read (chargeColumn h m sheet) ≡ record { verdict = accepted; amount = chargeAt m }
+  pub final-shown : (m : ℕ) → m < members h → read (finalColumn h m sheet) ≡ record { verdict = accepted; amount = finalAt m }
+
+-- what a settling left in the buffers
+abbrev pub ShowsOutcome : Hour → Buffers → List ℕ → Type 0
+ShowsOutcome h after = Shows h (λ m. getD (after .charges) m (pos 0)) (λ m. getD (after .finals) m (pos 0))
+
 abbrev pub AreBytes : List ℕ → Type 0
 AreBytes s = (i : ℕ) → getD s i 0 < 256
 
 pub record Sheet : Type 0 where
   -- read, each column gives the member's amount
-  pub read-back : (s : List ℕ) → verdict (hourRows s) ≡ accepted → let h = hourIn s in (m : ℕ) → m < members h →
-      (read (chargeColumn h m (statement s)) ≡ record { verdict = accepted; amount = charge h m })
-      × (read (finalColumn h m (statement s)) ≡ record { verdict = accepted; amount = final h m })
+  pub read-back : (s : List ℕ) → verdict (hourRows s) ≡ accepted → let h = hourIn s in Shows h (charge h) (final h) (statement s)
+  -- it is what settling writes, into any buffers in which it accepts the hour
+  pub as-settled : (s : List ℕ) (b : Buffers) → Accepts s b → ShowsOutcome (hourIn s) (settle s b .buffers) (statement s)
   -- no two different settlements print the same sheet
   pub tells : (s t : List ℕ) → AreBytes s → AreBytes t → statement s ≡ statement t → SameSheet s t
