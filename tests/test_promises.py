@@ -59,7 +59,7 @@ class Promises(unittest.TestCase):
                 path = ".".join(part for part in (module, name) if part)
                 alias = re.search(rf"^use Rattle\.{crate}\.proofs\.(?:Port\.)?{re.escape(path)}\.Reads as (\S+)$", laws, re.M)
                 self.assertIsNotNone(alias)
-                self.assertRegex(laws, rf"(?m)^pub one-\S+ :(?:.|\n    )*\({re.escape(alias.group(1))}\.Post ")
+                self.assertRegex(laws, rf"(?m)^pub one-\S+ :(?:.|\n    )*\({re.escape(alias.group(1))}\.Learnt ")
 
     def test_every_exception_is_a_function(self):
         there = {f"{crate}::{name}" for crate, module, name in public_functions()}

@@ -17,38 +17,38 @@ use Rattle.blocks.proofs.bad_block.Reads as bad-block
 use Rattle.blocks.proofs.records.Reads as records
 use Rattle.blocks.proofs.record.Reads as record-of
 
-pub one-whole-word : (κs : Lfts 1) → OneResult (whole-word.Post κs)
+pub one-whole-word : (κs : Lfts 1) → OneResult (whole-word.Learnt κs)
 one-whole-word κs a x y s t = agree
 
-pub one-word : (κs : Lfts 1) → OneResult (word.Post κs)
+pub one-word : (κs : Lfts 1) → OneResult (word.Learnt κs)
 one-word κs a x y s t = agree
 
-pub one-length-bad : (κs : Lfts 1) → OneResult (length-bad.Post κs)
+pub one-length-bad : (κs : Lfts 1) → OneResult (length-bad.Learnt κs)
 one-length-bad κs a x y s t = agree
 
-pub one-count : (κs : Lfts 1) → OneResult (count.Post κs)
+pub one-count : (κs : Lfts 1) → OneResult (count.Learnt κs)
 one-count κs a x y s t = agree
 
-pub one-block : (κs : Lfts 1) → OnePart (block-of.Post κs) now
+pub one-block : (κs : Lfts 1) → OnePart (block-of.Learnt κs) now
 one-block κs a x y s t = agree
 
-pub one-body : (κs : Lfts 1) → OnePart (body.Post κs) now
+pub one-body : (κs : Lfts 1) → OnePart (body.Learnt κs) now
 one-body κs a x y s t = agree
 
-pub one-head-word : (κs : Lfts 1) → OneResult (head-word.Post κs)
+pub one-head-word : (κs : Lfts 1) → OneResult (head-word.Learnt κs)
 one-head-word κs a x y s t = λ p q. agree (p hourly) (q hourly)
 
-pub one-bad-sum : (κs : Lfts 1) → OneResult (bad-sum.Post κs)
+pub one-bad-sum : (κs : Lfts 1) → OneResult (bad-sum.Learnt κs)
 one-bad-sum κs a x y s t = agree-found
 
-pub one-first-not-zero : (κs : Lfts 1) → OneResult (first-not-zero.Post κs)
+pub one-first-not-zero : (κs : Lfts 1) → OneResult (first-not-zero.Learnt κs)
 one-first-not-zero κs a x y s t = agree-found
 
-pub one-bad-block : (κs : Lfts 1) → OneResult (bad-block.Post κs)
+pub one-bad-block : (κs : Lfts 1) → OneResult (bad-block.Learnt κs)
 one-bad-block κs a x y s t = agree-found
 
-pub one-records : (κs : Lfts 1) → OneResult (records.Post κs)
+pub one-records : (κs : Lfts 1) → OneResult (records.Learnt κs)
 one-records κs a x y s t = agree
 
-pub one-record : (κs : Lfts 1) → OnePart (record-of.Post κs) now
+pub one-record : (κs : Lfts 1) → OnePart (record-of.Learnt κs) now
 one-record κs a x y s t = agree

@@ -56,21 +56,21 @@ keeps {s} {b} v u a = record {
   held-to-maximum = rw v (engines .settled s b);
 }
 
-pub settle-keeps-demands : (κs : Lfts 6) → Gives (settle.Post κs) (λ a x s. KeepsDemands (now (a .0))
+pub settle-keeps-demands : (κs : Lfts 6) → Gives (settle.Learnt κs) (λ a x s. KeepsDemands (now (a .0))
     (buffers (now (a .1 .1 .0)) (now (a .1 .1 .1 .0)) (now (a .1 .1 .1 .1 .0)) (now (a .1 .1 .1 .1 .1 .0)) (now (a .1 .0)))
     (verdictOf (x .answer)) (x .ufe)
     (buffers (now (s .1 .1 .0)) (now (s .1 .1 .1 .0)) (now (s .1 .1 .1 .1 .0)) (now (s .1 .1 .1 .1 .1 .0)) (now (s .1 .0))))
 settle-keeps-demands κs a x s p = keeps (p .verdict-is) (p .ufe-is) (p .buffers-are)
 
 -- with the lines that it made itself
-pub settle-unlined-keeps-demands : (κs : Lfts 5) → Gives (settle-unlined.Post κs) (λ a x s. (lines : List Line) × KeepsDemands (now (a .0))
+pub settle-unlined-keeps-demands : (κs : Lfts 5) → Gives (settle-unlined.Learnt κs) (λ a x s. (lines : List Line) × KeepsDemands (now (a .0))
     (withLines (unlined (now (a .1 .0)) (now (a .1 .1 .0)) (now (a .1 .1 .1 .0)) (now (a .1 .1 .1 .1 .0))) ownLines)
     (verdictOf (x .answer)) (x .ufe)
     (withLines (unlined (now (s .1 .0)) (now (s .1 .1 .0)) (now (s .1 .1 .1 .0)) (now (s .1 .1 .1 .1 .0))) lines))
 settle-unlined-keeps-demands κs a x s p =
     (p .lines, keeps (p .fits .verdict-is) (p .fits .ufe-is) (p .fits .buffers-are))
 
-pub sneupelaar-settle-keeps-demands : (κs : Lfts 6) → Gives (sneupelaar-settle.Post κs) (λ a x s. KeepsDemands (now (a .0))
+pub sneupelaar-settle-keeps-demands : (κs : Lfts 6) → Gives (sneupelaar-settle.Learnt κs) (λ a x s. KeepsDemands (now (a .0))
     (buffers (now (a .1 .1 .0)) (now (a .1 .1 .1 .0)) (now (a .1 .1 .1 .1 .0)) (now (a .1 .1 .1 .1 .1 .0)) (now (a .1 .0)))
     (refusedAt (x .number) (x .place)) (x .ufe)
     (buffers (now (s .1 .1 .0)) (now (s .1 .1 .1 .0)) (now (s .1 .1 .1 .1 .0)) (now (s .1 .1 .1 .1 .1 .0)) (now (s .1 .0))))
@@ -79,66 +79,66 @@ sneupelaar-settle-keeps-demands κs a x s p =
 
 -- ---- amounts as text
 
-pub write-promises : (κs : Lfts 1) → Gives (write.Post κs) (λ a x s. Wrote (now (a .1 .0)) (a .0) x (now (s .1 .0)))
+pub write-promises : (κs : Lfts 1) → Gives (write.Learnt κs) (λ a x s. Wrote (now (a .1 .0)) (a .0) x (now (s .1 .0)))
 write-promises κs a x s p = record { verdict-is = p .0; field-is = p .1 }
 
-pub read-promises : (κs : Lfts 1) → Gives (read.Post κs) (λ a x s. HasRead (now (a .0)) x)
+pub read-promises : (κs : Lfts 1) → Gives (read.Learnt κs) (λ a x s. HasRead (now (a .0)) x)
 read-promises κs a x s p = record { verdict-is = p .0; amount-is = p .1 }
 
 -- written, then read
-pub written-is-read : (κs μs : Lfts 1) → Gives (write.Post κs) (λ a x s. x ≡ Accepted →
-    Gives (read.Post μs) (λ b y t. now (b .0) ≡ now (s .1 .0) → y ≡ record { answer = Accepted; amount = a .0 }))
+pub written-is-read : (κs μs : Lfts 1) → Gives (write.Learnt κs) (λ a x s. x ≡ Accepted →
+    Gives (read.Learnt μs) (λ b y t. now (b .0) ≡ now (s .1 .0) → y ≡ record { answer = Accepted; amount = a .0 }))
 written-is-read κs μs a x s p accepts b y t q same = RoundTrips.written-is-read _ _ (a .0) y
     (rw accepts at (write-promises κs a x s p)) (rw same at (read-promises μs b y t q))
 
 -- read, then written at the same width
-pub read-is-written : (κs μs : Lfts 1) → Gives (read.Post κs) (λ a x s. x .answer ≡ Accepted →
-    Gives (write.Post μs) (λ b y t. b .0 ≡ x .amount → length (now (b .1 .0)) ≡ length (now (a .0)) →
+pub read-is-written : (κs μs : Lfts 1) → Gives (read.Learnt κs) (λ a x s. x .answer ≡ Accepted →
+    Gives (write.Learnt μs) (λ b y t. b .0 ≡ x .amount → length (now (b .1 .0)) ≡ length (now (a .0)) →
     (y ≡ Accepted) × (now (t .1 .0) ≡ now (a .0))))
 read-is-written κs μs a x s p accepts b y t q same width = RoundTrips.read-is-written (now (a .0)) _ _ (x .amount) y
     (record { verdict-is = ap verdictOf (sym accepts) ∙ p .0; amount-is = p .1 }) width (rw same at (write-promises μs b y t q))
 
 -- the same for C, with the answer as its number and place
-pub sneupelaar-write-promises : (κs : Lfts 1) → Gives (sneupelaar-write.Post κs) (λ a x s.
+pub sneupelaar-write-promises : (κs : Lfts 1) → Gives (sneupelaar-write.Learnt κs) (λ a x s.
     record { verdict = refusedAt (x .number) (x .place); field = now (s .1 .0) } ≡ writing (now (a .1 .0)) (a .0))
 sneupelaar-write-promises κs a x s p = p
 
-pub sneupelaar-read-promises : (κs : Lfts 1) → Gives (sneupelaar-read.Post κs) (λ a x s.
+pub sneupelaar-read-promises : (κs : Lfts 1) → Gives (sneupelaar-read.Learnt κs) (λ a x s.
     record { verdict = refusedAt (x .number) (x .place); amount = x .amount } ≡ reading (now (a .0)))
 sneupelaar-read-promises κs a x s p = p
 
 -- ---- the file and its statement
 
 -- the bytes at the place that is handed out are the body
-pub sneupelaar-body-promises : (κs : Lfts 1) → Gives (sneupelaar-body.Post κs) (λ a x s.
+pub sneupelaar-body-promises : (κs : Lfts 1) → Gives (sneupelaar-body.Learnt κs) (λ a x s.
     take (x .length) (drop (x .from) (now (a .0))) ≡ body hourly (now (a .0)) (a .1 .0))
 sneupelaar-body-promises κs a x s p = p .1
 
-pub examine-promises : (κs : Lfts 1) → Gives (examine.Post κs) (λ a x s. x ≡ Accepted → FileKept (now (a .0)))
+pub examine-promises : (κs : Lfts 1) → Gives (examine.Learnt κs) (λ a x s. x ≡ Accepted → FileKept (now (a .0)))
 examine-promises κs a x s p accepts = Examined.accepted-kept (now (a .0)) x p accepts
 
-pub statement-promises : (κs : Lfts 2) → Gives (statement.Post κs) (λ a x s. HasStated (now (a .0)) (now (a .1 .0)) x (now (s .1 .0)))
+pub statement-promises : (κs : Lfts 2) → Gives (statement.Learnt κs) (λ a x s. HasStated (now (a .0)) (now (a .1 .0)) x (now (s .1 .0)))
 statement-promises κs a x s p = record { count-is = p .0; out-is = p .1 }
 
-pub statement-is-put : (κs : Lfts 2) → Gives (statement.Post κs) (λ a x s.
+pub statement-is-put : (κs : Lfts 2) → Gives (statement.Learnt κs) (λ a x s.
     IsPut 1095 (Statement.statement (now (a .0))) (now (a .1 .0)) x (now (s .1 .0)))
 statement-is-put κs a x s p = whole-text (statement-promises κs a x s p)
 
 -- read, the columns of a member's line give its charge and its final
-pub statement-is-read-back : (κs : Lfts 2) → Gives (statement.Post κs) (λ a x s. IsReadBack (now (a .0)) (now (a .1 .0)) x (now (s .1 .0)))
+pub statement-is-read-back : (κs : Lfts 2) → Gives (statement.Learnt κs) (λ a x s. IsReadBack (now (a .0)) (now (a .1 .0)) x (now (s .1 .0)))
 statement-is-read-back κs a x s p room accepts = rw (statement-is-put κs a x s p room) (sheet .read-back (now (a .0)) accepts)
 
 -- two statements that are the same say the same of both files
-pub statement-tells : (κs μs : Lfts 2) → Gives (statement.Post κs) (λ a x s. 1095 ≤ length (now (a .1 .0)) →
-    Gives (statement.Post μs) (λ b y t. 1095 ≤ length (now (b .1 .0)) →
+pub statement-tells : (κs μs : Lfts 2) → Gives (statement.Learnt κs) (λ a x s. 1095 ≤ length (now (a .1 .0)) →
+    Gives (statement.Learnt μs) (λ b y t. 1095 ≤ length (now (b .1 .0)) →
     Tells (now (a .0)) (take x (now (s .1 .0))) (now (b .0)) (take y (now (t .1 .0)))))
 statement-tells κs μs a x s p room b y t q room₂ bytes bytes₂ same = sheet .tells (now (a .0)) (now (b .0)) bytes bytes₂
     (sym (statement-is-put κs a x s p room) ∙ same ∙ statement-is-put μs b y t q room₂)
 
 -- ---- settled, then printed: the columns of each member's line, read, give the charge and the final that settling wrote
 
-pub settled-is-printed : (κs : Lfts 6) (μs : Lfts 2) → Gives (settle.Post κs) (λ a x s. x .answer ≡ Accepted →
-    Gives (statement.Post μs) (λ b y t. now (b .0) ≡ now (a .0) → 1095 ≤ length (now (b .1 .0)) → ShowsOutcome (hourIn (now (a .0)))
+pub settled-is-printed : (κs : Lfts 6) (μs : Lfts 2) → Gives (settle.Learnt κs) (λ a x s. x .answer ≡ Accepted →
+    Gives (statement.Learnt μs) (λ b y t. now (b .0) ≡ now (a .0) → 1095 ≤ length (now (b .1 .0)) → ShowsOutcome (hourIn (now (a .0)))
     (buffers (now (s .1 .1 .0)) (now (s .1 .1 .1 .0)) (now (s .1 .1 .1 .1 .0)) (now (s .1 .1 .1 .1 .1 .0)) (now (s .1 .0)))
     (take y (now (t .1 .0)))))
 settled-is-printed κs μs a x s p accepts b y t q same room =
@@ -151,8 +151,8 @@ settled-is-printed κs μs a x s p accepts b y t q same room =
     ) shown
 
 -- the same for C
-pub sneupelaar-settled-is-printed : (κs : Lfts 6) (μs : Lfts 2) → Gives (sneupelaar-settle.Post κs) (λ a x s. x .number ≡ 0 → x .place ≡ 0 →
-    Gives (statement.Post μs) (λ b y t. now (b .0) ≡ now (a .0) → 1095 ≤ length (now (b .1 .0)) → ShowsOutcome (hourIn (now (a .0)))
+pub sneupelaar-settled-is-printed : (κs : Lfts 6) (μs : Lfts 2) → Gives (sneupelaar-settle.Learnt κs) (λ a x s. x .number ≡ 0 → x .place ≡ 0 →
+    Gives (statement.Learnt μs) (λ b y t. now (b .0) ≡ now (a .0) → 1095 ≤ length (now (b .1 .0)) → ShowsOutcome (hourIn (now (a .0)))
     (buffers (now (s .1 .1 .0)) (now (s .1 .1 .1 .0)) (now (s .1 .1 .1 .1 .0)) (now (s .1 .1 .1 .1 .1 .0)) (now (s .1 .0)))
     (take y (now (t .1 .0)))))
 sneupelaar-settled-is-printed κs μs a x s p number place b y t q same room =

@@ -34,10 +34,10 @@ use Rattle.explain.proofs.boundary.sneupelaar_explain.Reads as sneupelaar-expla
 
 -- ---- no second result fits
 
-pub one-put-explanation : (κs : Lfts 1) → OneOutcome (put-explanation.Post κs) (λ s. now (s .0))
+pub one-put-explanation : (κs : Lfts 1) → OneOutcome (put-explanation.Learnt κs) (λ s. now (s .0))
 one-put-explanation κs a x y s t p q = (agree (p .next-is) (q .next-is), agree (p .after-is) (q .after-is))
 
-pub one-explain : (κs : Lfts 1) → OneResult (explain.Post κs)
+pub one-explain : (κs : Lfts 1) → OneResult (explain.Learnt κs)
 one-explain κs a x y s t p q =
     ap₂ (λ (b : Answer) (hs : List ℤ). record { answer = b; heads = hs; decided = x .decided })
     (agree-answer (ap (λ (e : Explanation.Explanation). e .verdict) p) (ap (λ (e : Explanation.Explanation). e .verdict) q))
@@ -45,7 +45,7 @@ one-explain κs a x y s t p q =
     ∙ ap (λ (d : Found). record { answer = y .answer; heads = y .heads; decided = d })
     (agree-found (ap (λ (e : Explanation.Explanation). e .decided) p) (ap (λ (e : Explanation.Explanation). e .decided) q))
 
-pub one-explanation : (κs : Lfts 2) → OneOutcome (explanation.Post κs) (λ s. now (s .1 .0))
+pub one-explanation : (κs : Lfts 2) → OneOutcome (explanation.Learnt κs) (λ s. now (s .1 .0))
 one-explanation κs a x y s t p q = (agree (p .0) (q .0), agree (p .1) (q .1))
 
 -- a count tells the head
@@ -58,7 +58,7 @@ unfolding countOf
 counted zero = refl
 counted (suc k) = refl
 
-pub one-sneupelaar-explain : (κs : Lfts 1) → OneResult (sneupelaar-explain.Post κs)
+pub one-sneupelaar-explain : (κs : Lfts 1) → OneResult (sneupelaar-explain.Learnt κs)
 one-sneupelaar-explain κs a x y s t p q =
     ap (λ (n : ℕ). record { number = x .number; place = x .place; heads = x .heads; decided = n }) (sym (counted (x .decided)))
     ∙ ap (λ (e : Explanation.Explanation). record { number = e .verdict .number; place = e .verdict .place; heads = e .heads; decided = countOf (e .decided) })
@@ -78,18 +78,18 @@ keeps {s} {m} e = subst (KeepsExplaining s m) (sym e) (record {
   held-to-maximum = engines .explained s m;
 })
 
-pub explain-keeps : (κs : Lfts 1) → Gives (explain.Post κs) (λ a x s. KeepsExplaining (now (a .0)) (a .1 .0) (answered x))
+pub explain-keeps : (κs : Lfts 1) → Gives (explain.Learnt κs) (λ a x s. KeepsExplaining (now (a .0)) (a .1 .0) (answered x))
 explain-keeps κs a x s p = keeps p
 
-pub sneupelaar-explain-keeps : (κs : Lfts 1) → Gives (sneupelaar-explain.Post κs) (λ a x s.
+pub sneupelaar-explain-keeps : (κs : Lfts 1) → Gives (sneupelaar-explain.Learnt κs) (λ a x s.
     KeepsExplaining (now (a .0)) (a .1 .0) (handedOut x))
 sneupelaar-explain-keeps κs a x s p = keeps p
 
 -- ---- settled, then explained: the heads add up to what settling wrote into the member's line, and the head named decided on the charge
 -- that it wrote
 
-pub settled-is-explained : (κs : Lfts 6) (μs : Lfts 1) → Gives (settle.Post κs) (λ a x s. x .answer ≡ Accepted →
-    Gives (explain.Post μs) (λ b y t. now (b .0) ≡ now (a .0) → let h = hourIn (now (a .0)) in b .1 .0 < members h →
+pub settled-is-explained : (κs : Lfts 6) (μs : Lfts 1) → Gives (settle.Learnt κs) (λ a x s. x .answer ≡ Accepted →
+    Gives (explain.Learnt μs) (λ b y t. now (b .0) ≡ now (a .0) → let h = hourIn (now (a .0)) in b .1 .0 < members h →
     ExplainsOutcome h
     (buffers (now (s .1 .1 .0)) (now (s .1 .1 .1 .0)) (now (s .1 .1 .1 .1 .0)) (now (s .1 .1 .1 .1 .1 .0)) (now (s .1 .0)))
     (b .1 .0) (y .heads) (answered y .decided)))
@@ -99,8 +99,8 @@ settled-is-explained κs μs a x s p accepts b y t q same there =
     rw (ap (λ (z : Buffers). z .lines) (p .buffers-are), ap (λ (z : Buffers). z .charges) (p .buffers-are)) e
 
 -- the same for C
-pub sneupelaar-settled-is-explained : (κs : Lfts 6) (μs : Lfts 1) → Gives (sneupelaar-settle.Post κs) (λ a x s. x .number ≡ 0 → x .place ≡ 0 →
-    Gives (sneupelaar-explain.Post μs) (λ b y t. now (b .0) ≡ now (a .0) → let h = hourIn (now (a .0)) in b .1 .0 < members h →
+pub sneupelaar-settled-is-explained : (κs : Lfts 6) (μs : Lfts 1) → Gives (sneupelaar-settle.Learnt κs) (λ a x s. x .number ≡ 0 → x .place ≡ 0 →
+    Gives (sneupelaar-explain.Learnt μs) (λ b y t. now (b .0) ≡ now (a .0) → let h = hourIn (now (a .0)) in b .1 .0 < members h →
     ExplainsOutcome h
     (buffers (now (s .1 .1 .0)) (now (s .1 .1 .1 .0)) (now (s .1 .1 .1 .1 .0)) (now (s .1 .1 .1 .1 .1 .0)) (now (s .1 .0)))
     (b .1 .0) (y .heads) (headCounted (y .decided))))
@@ -113,12 +113,12 @@ sneupelaar-settled-is-explained κs μs a x s p number place b y t q same there 
 -- ---- the text
 
 -- with room, the bytes put are the six lines or the refusal's, all of it and nothing else
-pub explanation-is-put : (κs : Lfts 2) → Gives (explanation.Post κs) (λ a x s.
+pub explanation-is-put : (κs : Lfts 2) → Gives (explanation.Learnt κs) (λ a x s.
     IsPut 165 (Explanation.explanation (now (a .0))) (now (a .1 .0)) x (now (s .1 .0)))
 explanation-is-put κs a x s p room = whole-text (record { count-is = p .0; out-is = p .1 }) room
 
 -- a reader that stops one byte past the longest input prints what its whole input asks for
-pub cut-input-is-put : (κs : Lfts 2) (input : List ℕ) → Gives (explanation.Post κs) (λ a x s. now (a .0) ≡ take 13317 input →
+pub cut-input-is-put : (κs : Lfts 2) (input : List ℕ) → Gives (explanation.Learnt κs) (λ a x s. now (a .0) ≡ take 13317 input →
     IsPut 165 (Explanation.explanation input) (now (a .1 .0)) x (now (s .1 .0)))
 cut-input-is-put κs input a x s p cut room =
     explanation-is-put κs a x s p room ∙ ap Explanation.explanation cut ∙ cut-input-same input

@@ -24,59 +24,59 @@ use Rattle.tally.proofs.nobody_demands.Reads as nobody-demands
 use Rattle.lines.proofs.grains.Reads as grains
 use Rattle.neutrality.proofs.no_demand.Reads as no-demand
 
-pub one-head-word : (κs : Lfts 1) → OneResult (head-word.Post κs)
+pub one-head-word : (κs : Lfts 1) → OneResult (head-word.Learnt κs)
 one-head-word κs a x y s t = agree
 
-pub one-records : (κs : Lfts 1) → OneResult (records.Post κs)
+pub one-records : (κs : Lfts 1) → OneResult (records.Learnt κs)
 one-records κs a x y s t = agree
 
-pub one-body : (κs : Lfts 1) → OnePart (body.Post κs) now
+pub one-body : (κs : Lfts 1) → OnePart (body.Learnt κs) now
 one-body κs a x y s t = agree
 
-pub one-record : (κs : Lfts 1) → OnePart (record-of.Post κs) now
+pub one-record : (κs : Lfts 1) → OnePart (record-of.Learnt κs) now
 one-record κs a x y s t = agree
 
-pub one-examine : (κs : Lfts 1) → OneResult (examine.Post κs)
+pub one-examine : (κs : Lfts 1) → OneResult (examine.Learnt κs)
 one-examine κs a x y s t = agree-answer
 
-pub one-head-of : (κs : Lfts 1) → OneResult (head-of.Post κs)
+pub one-head-of : (κs : Lfts 1) → OneResult (head-of.Learnt κs)
 one-head-of κs a x y s t = agree
 
-pub one-kind-in : (κs : Lfts 1) → OneResult (kind-in.Post κs)
+pub one-kind-in : (κs : Lfts 1) → OneResult (kind-in.Learnt κs)
 one-kind-in κs a x y s t = agree
 
-pub one-area-in : (κs : Lfts 1) → OneResult (area-in.Post κs)
+pub one-area-in : (κs : Lfts 1) → OneResult (area-in.Learnt κs)
 one-area-in κs a x y s t = agree
 
-pub one-member-of : (κs : Lfts 1) → OneResult (member-of.Post κs)
+pub one-member-of : (κs : Lfts 1) → OneResult (member-of.Learnt κs)
 one-member-of κs a x y s t = agree
 
-pub one-area-of : (κs : Lfts 1) → OneResult (area-of.Post κs)
+pub one-area-of : (κs : Lfts 1) → OneResult (area-of.Learnt κs)
 one-area-of κs a x y s t = agree
 
-pub one-demand-of : (κs : Lfts 1) → OneResult (demand-of.Post κs)
+pub one-demand-of : (κs : Lfts 1) → OneResult (demand-of.Learnt κs)
 one-demand-of κs a x y s t = agree
 
-pub one-entry-in : (κs : Lfts 1) → OneResult (entry-in.Post κs)
+pub one-entry-in : (κs : Lfts 1) → OneResult (entry-in.Learnt κs)
 one-entry-in κs a x y s t = agree-entry
 
-pub one-entry-of : (κs : Lfts 1) → OneResult (entry-of.Post κs)
+pub one-entry-of : (κs : Lfts 1) → OneResult (entry-of.Learnt κs)
 one-entry-of κs a x y s t = agree-entry
 
-pub one-tally-of : (κs : Lfts 1) → OneResult (tally-of.Post κs)
+pub one-tally-of : (κs : Lfts 1) → OneResult (tally-of.Learnt κs)
 one-tally-of κs a x y s t = agree
 
-pub one-ufe-figures : (κs : Lfts 1) → OneResult (ufe-figures.Post κs)
+pub one-ufe-figures : (κs : Lfts 1) → OneResult (ufe-figures.Learnt κs)
 one-ufe-figures κs a x y s t = agree
 
-pub one-area-without-demand : (κs : Lfts 1) → OneResult (area-without-demand.Post κs)
+pub one-area-without-demand : (κs : Lfts 1) → OneResult (area-without-demand.Learnt κs)
 one-area-without-demand κs a x y s t = agree-found
 
-pub one-nobody-demands : (κs : Lfts 1) → OneResult (nobody-demands.Post κs)
+pub one-nobody-demands : (κs : Lfts 1) → OneResult (nobody-demands.Learnt κs)
 one-nobody-demands κs a x y s t = agree
 
-pub one-grains : (κs : Lfts 1) → OneResult (grains.Post κs)
+pub one-grains : (κs : Lfts 1) → OneResult (grains.Learnt κs)
 one-grains κs a x y s t = agree
 
-pub one-no-demand : (κs : Lfts 1) → OneResult (no-demand.Post κs)
+pub one-no-demand : (κs : Lfts 1) → OneResult (no-demand.Learnt κs)
 one-no-demand κs a x y s t = agree-test

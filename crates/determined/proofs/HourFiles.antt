@@ -44,23 +44,23 @@ module _ (head records before : List ℕ) where
   keeps-as : {w : HourWritten} → w ≡ writeHour head records before → AreWords head → AreWords records → KeepsWriting head records before w
   keeps-as e head-words record-words = subst (KeepsWriting head records before) (sym e) (keeps head-words record-words)
 
-pub write-hour-keeps : (κs : Lfts 3) → Gives (write-hour.Post κs) (λ a x s. KeepsWriting (now (a .0)) (now (a .1 .0)) (now (a .1 .1 .0))
+pub write-hour-keeps : (κs : Lfts 3) → Gives (write-hour.Learnt κs) (λ a x s. KeepsWriting (now (a .0)) (now (a .1 .0)) (now (a .1 .1 .0))
     (record { verdict = verdictOf (x .answer); length = x .length; file = now (s .1 .1 .0) }))
 write-hour-keeps κs a x s p =
     keeps-as (now (a .0)) (now (a .1 .0)) (now (a .1 .1 .0)) (as-written _ _ _ (p .0) (p .1 .0) (p .1 .1 .0))
     (p .1 .1 .1 .0) (p .1 .1 .1 .1)
 
-pub sneupelaar-write-hour-keeps : (κs : Lfts 3) → Gives (sneupelaar-write-hour.Post κs) (λ a x s.
+pub sneupelaar-write-hour-keeps : (κs : Lfts 3) → Gives (sneupelaar-write-hour.Learnt κs) (λ a x s.
     KeepsWriting (now (a .0)) (now (a .1 .0)) (now (a .1 .1 .0))
     (record { verdict = refusedAt (x .number) (x .place); length = x .length; file = now (s .1 .1 .0) }))
 sneupelaar-write-hour-keeps κs a x s p = keeps-as (now (a .0)) (now (a .1 .0)) (now (a .1 .1 .0)) (p .0) (p .1 .0) (p .1 .1)
 
 -- with room, the bytes put are the file or the refusal's line, all of it and nothing else
-pub write-raw-is-put : (κs : Lfts 2) → Gives (write-raw.Post κs) (λ a x s.
+pub write-raw-is-put : (κs : Lfts 2) → Gives (write-raw.Learnt κs) (λ a x s.
     IsPut 13312 (rawWritten (now (a .0))) (now (a .1 .0)) x (now (s .1 .0)))
 write-raw-is-put κs a x s p room = whole-text (record { count-is = p .0; out-is = p .1 }) room
 
 -- a reader that stops one byte past the longest input prints what its whole input asks for
-pub cut-input-is-put : (κs : Lfts 2) (input : List ℕ) → Gives (write-raw.Post κs) (λ a x s. now (a .0) ≡ take 12481 input →
+pub cut-input-is-put : (κs : Lfts 2) (input : List ℕ) → Gives (write-raw.Learnt κs) (λ a x s. now (a .0) ≡ take 12481 input →
     IsPut 13312 (rawWritten input) (now (a .1 .0)) x (now (s .1 .0)))
 cut-input-is-put κs input a x s p cut room = write-raw-is-put κs a x s p room ∙ ap rawWritten cut ∙ cut-input-same input

@@ -29,80 +29,80 @@ use Rattle.blocks.proofs.signed.Reads as signed
 use Rattle.rules.proofs.hourly.Reads as hourly
 use Rattle.rules.proofs.ten_minutes.Reads as ten-minutes
 
-pub one-size-of : (κs : Lfts 0) → OneResult (size-of.Post κs)
+pub one-size-of : (κs : Lfts 0) → OneResult (size-of.Learnt κs)
 one-size-of κs a x y s t = agree
 
-pub one-with-sign-of : (κs : Lfts 0) → OneResult (with-sign-of.Post κs)
+pub one-with-sign-of : (κs : Lfts 0) → OneResult (with-sign-of.Learnt κs)
 one-with-sign-of κs a x y s t = agree
 
-pub one-number-of : (κs : Lfts 0) → OneResult (number-of.Post κs)
+pub one-number-of : (κs : Lfts 0) → OneResult (number-of.Learnt κs)
 one-number-of κs a x y s t = agree
 
-pub one-place-of : (κs : Lfts 0) → OneResult (place-of.Post κs)
+pub one-place-of : (κs : Lfts 0) → OneResult (place-of.Learnt κs)
 one-place-of κs a x y s t = agree
 
-pub one-refused : (κs : Lfts 0) → OneResult (refused.Post κs)
+pub one-refused : (κs : Lfts 0) → OneResult (refused.Learnt κs)
 one-refused κs a x y s t = agree
 
-pub one-digit : (κs : Lfts 0) → OneResult (digit.Post κs)
+pub one-digit : (κs : Lfts 0) → OneResult (digit.Learnt κs)
 one-digit κs a x y s t = agree
 
-pub one-digits : (κs : Lfts 0) → OneResult (digits.Post κs)
+pub one-digits : (κs : Lfts 0) → OneResult (digits.Learnt κs)
 one-digits κs a x y s t = agree
 
-pub one-keeps : (κs : Lfts 0) → OneResult (keeps.Post κs)
+pub one-keeps : (κs : Lfts 0) → OneResult (keeps.Learnt κs)
 one-keeps κs a x y s t = agree
 
-pub one-block-rule : (κs : Lfts 0) → OneResult (block-rule.Post κs)
+pub one-block-rule : (κs : Lfts 0) → OneResult (block-rule.Learnt κs)
 one-block-rule κs a x y s t = agree
 
-pub one-head-rule : (κs : Lfts 0) → OneResult (head-rule.Post κs)
+pub one-head-rule : (κs : Lfts 0) → OneResult (head-rule.Learnt κs)
 one-head-rule κs a x y s t = agree
 
-pub one-record-keeps : (κs : Lfts 0) → OneResult (record-keeps.Post κs)
+pub one-record-keeps : (κs : Lfts 0) → OneResult (record-keeps.Learnt κs)
 one-record-keeps κs a x y s t = agree
 
-pub one-scheduled-above : (κs : Lfts 0) → OneResult (scheduled-above.Post κs)
+pub one-scheduled-above : (κs : Lfts 0) → OneResult (scheduled-above.Learnt κs)
 one-scheduled-above κs a x y s t = agree
 
-pub one-kind-of : (κs : Lfts 0) → OneResult (kind-of.Post κs)
+pub one-kind-of : (κs : Lfts 0) → OneResult (kind-of.Learnt κs)
 one-kind-of κs a x y s t = agree
 
-pub one-is-load : (κs : Lfts 0) → OneResult (is-load.Post κs)
+pub one-is-load : (κs : Lfts 0) → OneResult (is-load.Learnt κs)
 one-is-load κs a x y s t = agree
 
-pub one-deviation : (κs : Lfts 0) → OneResult (deviation.Post κs)
+pub one-deviation : (κs : Lfts 0) → OneResult (deviation.Learnt κs)
 one-deviation κs a x y s t = agree
 
-pub one-entering : (κs : Lfts 0) → OneResult (entering.Post κs)
+pub one-entering : (κs : Lfts 0) → OneResult (entering.Learnt κs)
 one-entering κs a x y s t = agree
 
-pub one-accounted : (κs : Lfts 0) → OneResult (accounted.Post κs)
+pub one-accounted : (κs : Lfts 0) → OneResult (accounted.Learnt κs)
 one-accounted κs a x y s t = agree
 
-pub one-empty-tally : (κs : Lfts 0) → OneResult (empty-tally.Post κs)
+pub one-empty-tally : (κs : Lfts 0) → OneResult (empty-tally.Learnt κs)
 one-empty-tally κs a x y s t = agree
 
-pub one-tallied : (κs : Lfts 0) → OneResult (tallied.Post κs)
+pub one-tallied : (κs : Lfts 0) → OneResult (tallied.Learnt κs)
 one-tallied κs a x y s t = agree
 
-pub one-empty-line : (κs : Lfts 0) → OneResult (empty-line.Post κs)
+pub one-empty-line : (κs : Lfts 0) → OneResult (empty-line.Learnt κs)
 one-empty-line κs a x y s t = agree
 
-pub one-line-with : (κs : Lfts 0) → OneResult (line-with.Post κs)
+pub one-line-with : (κs : Lfts 0) → OneResult (line-with.Learnt κs)
 one-line-with κs a x y s t = agree
 
-pub one-cents : (κs : Lfts 0) → OneResult (cents.Post κs)
+pub one-cents : (κs : Lfts 0) → OneResult (cents.Learnt κs)
 one-cents κs a x y s t = agree
 
-pub one-charge-of : (κs : Lfts 0) → OneResult (charge-of.Post κs)
+pub one-charge-of : (κs : Lfts 0) → OneResult (charge-of.Learnt κs)
 one-charge-of κs a x y s t = agree
 
-pub one-signed : (κs : Lfts 0) → OneResult (signed.Post κs)
+pub one-signed : (κs : Lfts 0) → OneResult (signed.Learnt κs)
 one-signed κs a x y s t = agree
 
-pub one-hourly : (κs : Lfts 0) → OneResult (hourly.Post κs)
+pub one-hourly : (κs : Lfts 0) → OneResult (hourly.Learnt κs)
 one-hourly κs a x y s t = agree
 
-pub one-ten-minutes : (κs : Lfts 0) → OneResult (ten-minutes.Post κs)
+pub one-ten-minutes : (κs : Lfts 0) → OneResult (ten-minutes.Learnt κs)
 one-ten-minutes κs a x y s t = agree
