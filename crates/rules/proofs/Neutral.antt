@@ -17,10 +17,9 @@ use Rattle.whole.proofs.Totals.{total-ext, total-sub, total-within, total-with-
 use Rattle.whole.proofs.Division.{nearest-within}
 use Rattle.rules.specs.Record.{Hour, members, areas, memberOf, areaOf, entry, entryOf, isLoad}
 use Rattle.rules.specs.Ufe.{inArea, demand, demands}
-use Rattle.rules.specs.Share.{allDemand, shareSize, share}
+use Rattle.rules.specs.Share.{allDemand, shareSize, share, rankedSize}
 use Rattle.rules.specs.Charge.{nearestCent, cents, grains, amount, charge}
 use Rattle.rules.specs.Neutrality.{everyMember, memberDemand, hourDemand, neutrality, neutralityShare, final}
-use Rattle.rules.specs.Promises.{rankedSize}
 use Rattle.rules.specs.Finals.{Neutral}
 use Rattle.rules.specs.Inner.Kept.{HourKept}
 use Rattle.rules.specs.Inner.Posting.{demandBy, demandOf}

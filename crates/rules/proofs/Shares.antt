@@ -17,7 +17,7 @@ use Rattle.whole.proofs.Gathering.{passer-before, same-order, sum-gathered, cou
 use Rattle.whole.proofs.Rank.{Order, by-key, why-ahead, count-served}
 use Rattle.whole.proofs.Handing.{Handing, handed}
 use Rattle.rules.specs.Share.{better, firstLargest, isAt, handedOut, allDemand, wholePart, remainder, unitsLeft, shareSize}
-use Rattle.rules.specs.Promises.{ahead, rankedSize}
+use Rattle.rules.specs.Share.{ahead, rankedSize}
 
 -- ---- the first largest of those that wait
 

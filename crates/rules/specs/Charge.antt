@@ -25,12 +25,16 @@ enteringAs Unknown d = pos 0
 unfoldable pub entering : Entry → ℤ
 entering r = enteringAs (r .kind) (deviation r)
 
--- "Charge in cents": grains to the nearest cent, halves away from zero
-unfoldable pub nearestCent : ℕ → ℕ
-nearestCent g = (g + 5000000) / 10000000
+-- "A unit times a price is 1/10,000,000 cent": a cent in grains
+abbrev pub grainsPerCent : ℕ
+grainsPerCent = 10000000
+
+-- "Charge in cents": a size to the nearest cent, of so many parts each, halves away from zero
+unfoldable pub nearestCent : (parts size : ℕ) → ℕ
+nearestCent parts size = (size + parts / 2) / parts
 
 unfoldable pub cents : ℤ → ℤ
-cents g = withSignOf g (nearestCent (natAbs g))
+cents g = withSignOf g (nearestCent grainsPerCent (natAbs g))
 
 module _ (h : Hour) where
   -- "Shares go to load records only": an area's UFE over its loads

@@ -18,7 +18,8 @@ use Rattle.rules.specs.Refusals.{row, Verdict, accepted, refusedAt, verd
 use Rattle.rules.specs.Settling.{settle, read}
 use Rattle.rules.specs.Statement.{firstLine, statement}
 use Rattle.rules.specs.Explanation.{explain}
-use Rattle.rules.specs.Promises.{Accepts, rankedSize}
+use Rattle.rules.specs.Share.{rankedSize}
+use Rattle.rules.specs.Promises.{Accepts}
 
 -- ---- the finals add up to nothing
 

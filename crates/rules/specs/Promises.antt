@@ -2,18 +2,18 @@
 use Prim.Native.Nat.{ℕ, suc, _+_, _*_, _/_, _%_, _≤_, _<_}
 use mathlib.Core.Path.{_≡_}
 use mathlib.Core.Logic.{_↔_}
-use mathlib.Core.Bool.{Bool, true, cond, not, _&&_, _||_}
+use mathlib.Core.Bool.{true, cond, not, _&&_}
 use mathlib.Core.Option.{none, some}
 use mathlib.Core.List.{List, [], _∷_, _++_}
 use lib.IntN.{ℤ, pos, natAbs, _+ℤ_, _-ℤ_, _*ℤ_}
 use lib.ListN.{length, drop, getD, replicate}
-use lib.Dec.{ltb, eqb}
-use Rattle.whole.specs.Below.{oneIf, countBelow, sumBelow, totalBelow, productBelow}
+use lib.Dec.{eqb}
+use Rattle.whole.specs.Below.{sumBelow, totalBelow, productBelow}
 use Rattle.whole.specs.Signed.{withSignOf}
 use Rattle.rules.specs.declared.Settled.{Settled}
 use Rattle.rules.specs.Record.{Hour, members, zones, areas, price, memberOf, areaOf, entryOf, isLoad}
 use Rattle.rules.specs.Ufe.{inArea, ufe, demand, demands}
-use Rattle.rules.specs.Share.{allDemand, wholePart, remainder, unitsLeft}
+use Rattle.rules.specs.Share.{rankedSize}
 use Rattle.rules.specs.Charge.{entering, shareOf, recordsOf, cents, charge, poolTotal}
 use Rattle.rules.specs.Neutrality.{final}
 use Rattle.rules.specs.Text.{bytes, digitByte, amountText, amountField}
@@ -62,16 +62,7 @@ pub record Demand1 : Type 0 where
 
 -- ---- DEMAND 2: every figure by the formulas of 003 (`Tariff`), every text with its sign (document 01, "Text amounts")
 
--- document 01's leftover units a second way, by rank: j stands ahead of i, with a larger remainder, or an equal one and earlier
-unfoldable pub ahead : (ℕ → ℕ) → ℕ → ℕ → Bool
-ahead rem j i = ltb (rem i) (rem j) || (eqb (rem j) (rem i) && ltb j i)
-
--- the size of a share by rank: a unit more exactly if fewer stand ahead than units are left over
-unfoldable pub rankedSize : (ℕ → Bool) → (ℕ → ℕ) → ℕ → ℕ → ℕ → ℕ
-rankedSize takes D n U i = cond (takes i && not (eqb (allDemand takes D n) 0))
-    (wholePart takes D n U i + oneIf (ltb (countBelow (λ j. takes j && ahead (remainder takes D n U) j i) n) (unitsLeft takes D n U))) 0
-
--- the share of record i
+-- the share of record i, its leftover unit by rank
 unfoldable pub rankedShare : Hour → ℕ → ℤ
 rankedShare h i = let a = areaOf h i in withSignOf (ufe h a) (rankedSize (inArea h a isLoad) (demand h) (h .count) (natAbs (ufe h a)) i)
 

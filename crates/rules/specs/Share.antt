@@ -4,7 +4,7 @@ use mathlib.Core.Bool.{Bool, false, not, cond, _&&_, _||_}
 use mathlib.Core.Option.{Option, none, some}
 use lib.IntN.{ℤ, natAbs}
 use lib.Dec.{ltb, eqb}
-use Rattle.whole.specs.Below.{oneIf, sumBelow}
+use Rattle.whole.specs.Below.{oneIf, countBelow, sumBelow}
 use Rattle.whole.specs.Signed.{withSignOf}
 
 -- ---- the units left over, one each to the largest remainders, on equal remainders to the earlier
@@ -51,6 +51,19 @@ module _ (takes : ℕ → Bool) (D : ℕ → ℕ) (n : ℕ) where
     -- nothing where nobody demands anything
     unfoldable pub shareSize : ℕ → ℕ
     shareSize i = cond (takes i && not (eqb allDemand 0)) (wholePart i + oneIf (handedOut remainder takes n unitsLeft i)) 0
+
+-- ---- the same a second way, by rank (document 02, A14)
+
+-- j stands ahead of i: with a larger remainder, or an equal one and earlier
+unfoldable pub ahead : (ℕ → ℕ) → ℕ → ℕ → Bool
+ahead rem j i = ltb (rem i) (rem j) || (eqb (rem j) (rem i) && ltb j i)
+
+-- a unit more exactly if fewer stand ahead than units are left over
+unfoldable pub rankedSize : (ℕ → Bool) → (ℕ → ℕ) → ℕ → ℕ → ℕ → ℕ
+rankedSize takes D n U i = cond (takes i && not (eqb (allDemand takes D n) 0))
+    (wholePart takes D n U i + oneIf (ltb (countBelow (λ j. takes j && ahead (remainder takes D n U) j i) n) (unitsLeft takes D n U))) 0
+
+-- ---- signed
 
 -- the share takes U's sign
 unfoldable pub share : (ℕ → Bool) → (ℕ → ℕ) → ℕ → ℤ → ℕ → ℤ

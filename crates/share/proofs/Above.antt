@@ -11,7 +11,7 @@ use Rattle.whole.specs.Below.{oneIf, countBelow}
 use Rattle.whole.proofs.Tests.{split}
 use Rattle.whole.proofs.Sums.{count-mono, count-less, count-or, count-cut, none-pass}
 use Rattle.whole.proofs.Rank.{by-key, why-ahead}
-use Rattle.rules.specs.Promises.{ahead}
+use Rattle.rules.specs.Share.{ahead}
 
 -- one more on equal numbers, as the code has it
 pub nudged : (bound rest : ℕ) (b : Bool) → ltb bound (rest + oneIf b) ≡ (ltb bound rest || (eqb rest bound && b))

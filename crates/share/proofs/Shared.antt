@@ -12,8 +12,7 @@ use borrow.Author.Tests.{ne-eqb}
 use Rattle.whole.specs.Below.{oneIf, countBelow, replacingFirst}
 use Rattle.whole.proofs.Sums.{sum-at}
 use Rattle.whole.proofs.Buffers.{own-values, length-replacing, take-replacing, replacing-all, replacing-ext, replacing-same, replacing-twice}
-use Rattle.rules.specs.Share.{shareSize}
-use Rattle.rules.specs.Promises.{ahead, rankedSize}
+use Rattle.rules.specs.Share.{shareSize, ahead, rankedSize}
 use Rattle.rules.proofs.Shares.{left-few, ranked, nothing-without-demand}
 use Rattle.share.specs.Shareable.{at, everyone, demanded, Shareable, sharesIn}
 use Rattle.share.specs.Steps.{Dividing, Suffices, wholeOf, restOf, leftOf, countAbove, sizeOf}
