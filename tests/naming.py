@@ -85,11 +85,11 @@ def edits_named(page):
 # ---- definitions and laws: `FILE.name` of `rules`, or `crate/FILE.name`
 
 def stated_in(name, folder):
-    """The text of the file that a name says, under specs/ or proofs/, and the last part of the name."""
+    """The text of the files that a name says, under specs/ or proofs/ and their folders, and the last part of the name."""
     crate, _, rest = name.rpartition("/")
     file, _, last = rest.partition(".")
     found = sorted((CRATES / (crate or "rules") / folder).rglob(f"{file}.antt"))
-    return (found[0].read_text() if found else ""), last
+    return "\n".join(file.read_text() for file in found), last
 
 
 def definition(name):

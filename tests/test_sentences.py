@@ -156,7 +156,7 @@ class OtherTables(PageTest):
         shown = [*under_headings((naming.CRATES / "trial_figures" / "stdout").read_text()),
                  *(naming.ROOT / "tests" / "archive" / "amounts.out").read_text().splitlines(),
                  *(f"{name}: {line}" for name, line, _ in known.cases())]
-        starred = (naming.CRATES / "rules" / "specs" / "Figures.antt").read_text().split("\nstarred =")[1]
+        starred = (naming.CRATES / "rules" / "specs" / "Figures" / "Starred.antt").read_text().split("\nstarred =")[1]
         cases = []
         for row in rows_of("G"):
             with self.subTest(number(row)):

@@ -15,7 +15,7 @@ ghost use Rattle.rules.specs.HourFile as HourFile;
 ghost use Rattle.rules.specs.Inner.Layouts.{FitsBody};
 ghost use Rattle.rules.specs.Ranges as Ranges;
 ghost use Rattle.rules.specs.Refusals as Refusals;
-ghost use Rattle.rules.specs.Inner.Searched.{foundAt};
+ghost use Rattle.rules.specs.Refusals.{foundAt};
 ghost use Rattle.blocks.specs.Part.{recordPart, RecordThere};
 ghost use Rattle.blocks.specs.Broken.{brokenBelow};
 use rules::Found;

@@ -14,7 +14,7 @@ use Rattle.rules.specs.Refusals.{Verdict, refusedAt, verdictOf, verdict, Buffer
 use Rattle.rules.specs.HourFile.{hourly, body, hourIn}
 use Rattle.rules.specs.Settling.{Settlement, settle as settling, write as writing, read as reading}
 use Rattle.rules.specs.Statement as Statement
-use Rattle.rules.specs.Finals.{ShowsOutcome}
+use Rattle.rules.specs.Promised.Finals.{ShowsOutcome}
 use Rattle.rules.specs.Inner.Kept.{FileKept}
 use Rattle.rules.proofs.Rows.{settle-verdict, settle-changes-nothing}
 use Rattle.rules.proofs.Demands.{demand2, demand3}

@@ -12,8 +12,8 @@ use Rattle.rules.specs.HourWords.{headWords, recordWords}
 use Rattle.rules.specs.Refusals.{accepted, refusedAt, verdictOf, verdict, fileRows}
 use Rattle.rules.specs.Settling.{HourWritten, writeHour}
 use Rattle.rules.specs.RawHour.{rawWritten}
-use Rattle.rules.specs.Finals.{AreBytes}
-use Rattle.rules.specs.Writing.{AreWords}
+use Rattle.rules.specs.Promised.Finals.{AreBytes}
+use Rattle.rules.specs.Promised.Writing.{AreWords}
 use Rattle.rules.proofs.Writing.{verdict-is, as-written, writing}
 use Rattle.rules.proofs.Imports.{imports}
 use Rattle.rules.proofs.Engines.{engines}

@@ -7,8 +7,7 @@ use Rattle.rules.specs.declared.Answer.{Answer}
 use Rattle.rules.specs.declared.Found.{Found}
 use Rattle.rules.specs.declared.Found.the-variants.{At, Nothing}
 use Rattle.rules.specs.Record as Record
-use Rattle.rules.specs.Refusals.{Verdict, verdictOf, placeZeroIf, isBroken}
-use Rattle.rules.specs.Inner.Searched.{foundAt}
+use Rattle.rules.specs.Refusals.{Verdict, verdictOf, placeZeroIf, isBroken, foundAt}
 use Rattle.rules.proofs.Rows.{one-answer}
 use Rattle.formula.specs.declared.entry.Entry.{Entry}
 use Rattle.formula.specs.Meant.{meant}

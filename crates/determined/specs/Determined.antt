@@ -15,12 +15,12 @@ use Rattle.rules.specs.Refusals.{Verdict, accepted, refusedAt, verdict, Buffers
 use Rattle.rules.specs.Refusals.{blockRows, formRows, fileRows, hourRows, settleRows, explainRows, listFormRows, writerRows}
 use Rattle.rules.specs.Settling.{settle, noFigures, emptyLine, HourWritten}
 use Rattle.rules.specs.Explanation.{Explanation, noHeads}
-use Rattle.rules.specs.Promises.{Accepts, ByFormula, FairOutcome}
-use Rattle.rules.specs.Finals.{NeutralOutcome, HeldToDemand, AreBytes, SameSheet, Shows}
-use Rattle.rules.specs.Writing.{fileIn}
-use Rattle.rules.specs.Imports.{FirstMetered}
-use Rattle.rules.specs.Engines.{HeldToMaximum}
-use Rattle.rules.specs.Explaining.{Explains}
+use Rattle.rules.specs.Promised.Demands.{Accepts, ByFormula, FairOutcome}
+use Rattle.rules.specs.Promised.Finals.{NeutralOutcome, HeldToDemand, AreBytes, SameSheet, Shows}
+use Rattle.rules.specs.Promised.Writing.{fileIn}
+use Rattle.rules.specs.Promised.Imports.{FirstMetered}
+use Rattle.rules.specs.Promised.Engines.{HeldToMaximum}
+use Rattle.rules.specs.Promised.Explanation.{Explains}
 use Rattle.rules.specs.Ranges.{hourlyForm}
 
 module _ {A X S : Type 0} (promise : A → X → S → Type 0) where

@@ -6,7 +6,7 @@ use Prim.Native.Nat.{ℕ}
 use Rattle.rules.specs.declared.Answer.{Answer}
 use Rattle.rules.specs.declared.Answer.the-variants.{Accepted}
 use Rattle.rules.specs.Refusals.{verdictOf, verdict, fileRows}
-use Rattle.rules.specs.Promises.{AllWhole}
+use Rattle.rules.specs.Promised.Demands.{AllWhole}
 use Rattle.rules.specs.Inner.Kept.{FileKept}
 use Rattle.rules.proofs.Rows.{accepts-when-whole, file-numbered, form-whole, one-answer}
 use Rattle.rules.proofs.Kept.{file-kept}

@@ -18,7 +18,7 @@ use Rattle.rules.specs.Settling.{isAccepted}
 use Rattle.rules.specs.Statement.{refusedLine}
 use Rattle.rules.specs.Explanation.{heads, noHeads, decided, explain, explanationLines}
 use Rattle.rules.specs.Explanation.{memberAsked, hourAsked, explanation, worded}
-use Rattle.rules.specs.Promises.{AllWhole}
+use Rattle.rules.specs.Promised.Demands.{AllWhole}
 use Rattle.rules.proofs.Rows.{accepts-when-whole, hour-numbered}
 use Rattle.rules.proofs.Explaining.{rows-refused-alike, rows-member, rows-no-member, explain-accepted, explain-refused}
 use Rattle.rules.proofs.Worded.{four-bytes}

@@ -4,9 +4,8 @@ use mathlib.Core.Path.{_≡_}
 use mathlib.Core.List.{List}
 use lib.IntN.{ℤ}
 use Rattle.rules.specs.declared.Explained.{Explained}
-use Rattle.rules.specs.Refusals.{accepted, verdictOf, verdict, hourRows}
+use Rattle.rules.specs.Refusals.{accepted, verdictOf, verdict, hourRows, foundAt}
 use Rattle.rules.specs.Explanation.{Explanation, explanation}
-use Rattle.rules.specs.Inner.Searched.{foundAt}
 use Rattle.neutrality.specs.Charged.{Charged}
 use Rattle.lines.specs.Lined.{AllWorked}
 use Rattle.printing.specs.Shown.{Shown, shown}

@@ -5,7 +5,7 @@ ghost use mathlib.Core.Path.{_≡_};
 ghost use mathlib.Core.Option.{some};
 ghost use Prim.Native.Nat.{ℕ, _<_};
 ghost use Rattle.rules.specs.Explanation as Explanation;
-ghost use Rattle.rules.specs.Inner.Searched.{foundAt};
+ghost use Rattle.rules.specs.Refusals.{foundAt};
 ghost use Rattle.explain.specs.HandedOut.{handedOut, headCounted};
 use rules::Found;
 

@@ -15,9 +15,9 @@ use Rattle.rules.specs.Ranges
 use Rattle.rules.specs.Refusals
 use Rattle.rules.specs.Settling
 use Rattle.rules.specs.Statement
-use Rattle.rules.specs.Printed.{wordBytes}
-use Rattle.rules.specs.Refused.{sealed}
-use Rattle.rules.specs.EveryKind.{EveryKindRight, everyKind, longBuffers, everySettlement}
+use Rattle.rules.specs.Figures.Printed.{wordBytes}
+use Rattle.rules.specs.Figures.Refused.{sealed}
+use Rattle.rules.specs.Figures.EveryKind.{EveryKindRight, everyKind, longBuffers, everySettlement}
 
 pub every-kind-right : EveryKindRight
 unfolding Below.countBelow Below.sumBelow Below.totalBelow Below.valuesBelow Below.replacingFirst Below.firstBelow orElse minℤ maxℤ

@@ -15,10 +15,10 @@ use Rattle.rules.specs.Ranges
 use Rattle.rules.specs.Refusals
 use Rattle.rules.specs.Statement
 use Rattle.rules.specs.Explanation
-use Rattle.rules.specs.Printed.{wordBytes}
-use Rattle.rules.specs.Refused.{sealed}
-use Rattle.rules.specs.EveryKind.{everyKind}
-use Rattle.rules.specs.Explanations.{ExplainedRight, explanations}
+use Rattle.rules.specs.Figures.Printed.{wordBytes}
+use Rattle.rules.specs.Figures.Refused.{sealed}
+use Rattle.rules.specs.Figures.EveryKind.{everyKind}
+use Rattle.rules.specs.Figures.Explanation.{ExplainedRight, explanations}
 
 pub explained-right : ExplainedRight
 unfolding Below.sumBelow Below.totalBelow Below.firstBelow orElse minℤ maxℤ Record.signed Record.kindOf Record.actual Record.entry

@@ -1,4 +1,4 @@
--- Figures of whole files, computed. What they state stands in specs/ of `rules`, in modules of the same names.
+-- Figures of whole files, computed. What they state stands in specs/Figures of `rules`.
 pub mod Limits
 pub mod Printed
 pub mod Refused

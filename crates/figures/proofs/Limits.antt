@@ -6,7 +6,7 @@ use Rattle.rules.specs.Record
 use Rattle.rules.specs.HourWords
 use Rattle.rules.specs.Ranges
 use Rattle.rules.specs.Refusals
-use Rattle.rules.specs.Limits
+use Rattle.rules.specs.Figures.Limits
 
 pub limits-right : Limits.LimitsRight
 unfolding Below.firstBelow orElse Record.signed Record.kindOf HourWords.hourFrom Ranges.keeps Ranges.firstBroken Ranges.areaRule

@@ -15,7 +15,7 @@ use Rattle.rules.specs.Ranges
 use Rattle.rules.specs.Refusals
 use Rattle.rules.specs.Settling
 use Rattle.rules.specs.Statement
-use Rattle.rules.specs.Printed.{PrintedRight, wordBytes, printedFile, usedBuffers, printedSettlement}
+use Rattle.rules.specs.Figures.Printed.{PrintedRight, wordBytes, printedFile, usedBuffers, printedSettlement}
 
 pub printed-right : PrintedRight
 unfolding Below.countBelow Below.sumBelow Below.totalBelow Below.valuesBelow Below.replacingFirst Below.firstBelow orElse minℤ maxℤ

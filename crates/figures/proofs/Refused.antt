@@ -12,8 +12,8 @@ use Rattle.rules.specs.HourFile
 use Rattle.rules.specs.Ranges
 use Rattle.rules.specs.Refusals
 use Rattle.rules.specs.Settling
-use Rattle.rules.specs.Printed.{wordBytes, usedBuffers}
-use Rattle.rules.specs.Refused.{RefusedRight, sealed, refusals}
+use Rattle.rules.specs.Figures.Printed.{wordBytes, usedBuffers}
+use Rattle.rules.specs.Figures.Refused.{RefusedRight, sealed, refusals}
 
 pub refused-right : RefusedRight
 unfolding Below.sumBelow Below.totalBelow Below.firstBelow orElse Record.signed Record.kindOf Record.zoneOf Record.tieIn Record.tieOut

@@ -25,7 +25,7 @@ use Rattle.rules.specs.Refusals.{row, accepted, verdictOf, verdict, placeZeroIf
 use Rattle.rules.specs.Refusals.{sumRows, fileRows, settleRows}
 use Rattle.rules.specs.Settling.{lineOf, filled, ufeFigures, noFigures, settle, emptyLine}
 use Rattle.rules.specs.Inner.Posting.{linesAfter}
-use Rattle.rules.specs.Promises.{Accepts, Fits}
+use Rattle.rules.specs.Promised.Demands.{Accepts, Fits}
 use Rattle.rules.specs.Inner.Kept.{FileKept}
 use Rattle.rules.proofs.Rows.{file-decides, file-passed, one-answer}
 use Rattle.rules.proofs.Rows.{settle-verdict, settle-whole, settle-changes-nothing, settle-fills}

@@ -7,7 +7,7 @@ use Rattle.rules.specs.declared.Line.{Line}
 use Rattle.rules.specs.declared.Settled.{Settled}
 use Rattle.rules.specs.Refusals.{Buffers}
 use Rattle.rules.specs.Settling.{emptyLine}
-use Rattle.rules.specs.Promises.{Fits}
+use Rattle.rules.specs.Promised.Demands.{Fits}
 use Rattle.pool.specs.Buffers.{buffers}
 
 -- the caller's four buffers

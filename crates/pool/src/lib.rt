@@ -8,7 +8,7 @@ ghost use lib.ListN.{length};
 ghost use Rattle.whole.specs.Below.{replacingFirst};
 ghost use Rattle.rules.specs.Settling as Settling;
 ghost use Rattle.rules.specs.Charge.{shareOf};
-ghost use Rattle.rules.specs.Promises.{Fits};
+ghost use Rattle.rules.specs.Promised.Demands.{Fits};
 ghost use Rattle.rules.specs.Refusals.{accepted, verdict, fileRows};
 ghost use Rattle.rules.specs.HourFile.{hourIn};
 ghost use Rattle.hour.specs.Hour.{Headed};

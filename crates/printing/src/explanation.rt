@@ -3,7 +3,7 @@
 ghost use Prim.Native.Nat.{_+_, _≤_};
 ghost use lib.ListN.{length};
 ghost use Rattle.rules.specs.Explanation.{signedDecimal, headName, headLine, decidedName, decidedLine, explanationLines};
-ghost use Rattle.rules.specs.Inner.Searched.{foundAt};
+ghost use Rattle.rules.specs.Refusals.{foundAt};
 ghost use Rattle.printing.specs.Put.{Put};
 use crate::text::put_bytes;
 use crate::text::put_number;

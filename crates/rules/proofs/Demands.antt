@@ -27,7 +27,7 @@ use Rattle.rules.specs.Refusals.{Buffers, badArea, tooShort, hourRows}
 use Rattle.rules.specs.Settling.{Written, settle, filled, ufeFigures, lineOf, emptyLine}
 use Rattle.rules.specs.Statement.{column, memberLine}
 use Rattle.rules.specs.Inner.Kept.{HourKept}
-use Rattle.rules.specs.Promises.{Accepts, AllWhole, Demand1, ByFormula, allZones, Demand2, FairOutcome, Demand3}
+use Rattle.rules.specs.Promised.Demands.{Accepts, AllWhole, Demand1, ByFormula, allZones, Demand2, FairOutcome, Demand3}
 use Rattle.rules.proofs.Tariff.{deviation-renders, ufe-renders, amount-is-IEC}
 use Rattle.rules.proofs.Rows.{no-place, accepts-when-whole, hour-numbered, areas-whole, settle-accepts, settle-whole, settle-refuses}
 use Rattle.rules.proofs.Rows.{settle-changes-nothing, settle-fills, write-accepts, write-refuses, write-changes-nothing}

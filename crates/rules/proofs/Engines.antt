@@ -23,7 +23,7 @@ use Rattle.rules.specs.Refusals.{noMember, tooShort, noRoom, blockRows, 
 use Rattle.rules.specs.Refusals.{Buffers, settleRows, explainRows, listFormRows, listRows, writerRows}
 use Rattle.rules.specs.Settling.{settle, writeHour}
 use Rattle.rules.specs.Explanation.{explain}
-use Rattle.rules.specs.Engines.{WithinMaximum, AllWithin, FirstAbove, HeldToMaximum, Engines}
+use Rattle.rules.specs.Promised.Engines.{WithinMaximum, AllWithin, FirstAbove, HeldToMaximum, Engines}
 use Rattle.rules.proofs.Rows.{Numbered, numbered-on, hasRow, only-row, accepts-when-whole, whole-parts, form-numbered, settle-verdict}
 use Rattle.rules.proofs.Writing.{verdict-is}
 use Rattle.rules.proofs.Explaining.{explain-verdict}

@@ -25,7 +25,7 @@ use Rattle.rules.specs.Deviation.{generatorDeviation, loadDeviation, imp
 use Rattle.rules.specs.Ufe.{inArea, areaSum, ufe, demand, demands}
 use Rattle.rules.specs.Share.{allDemand, shareSize, share}
 use Rattle.rules.specs.Charge.{entering, enteringAs, nearestCent, cents, shareOf, grains, amount, charge, poolTotal}
-use Rattle.rules.specs.Promises.{rankedShare, nonZeroT, allT, otherT, exactFraction, unrounded, loadPrices, Fair}
+use Rattle.rules.specs.Promised.Demands.{rankedShare, nonZeroT, allT, otherT, exactFraction, unrounded, loadPrices, Fair}
 use Rattle.rules.proofs.Shares.{ranked, nothing-for-others, nothing-without-demand, sizes-add-up-to, sizes-at-most, size-near}
 
 pub record Sound (h : Hour) : Type 0 where

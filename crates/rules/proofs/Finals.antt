@@ -19,7 +19,7 @@ use Rattle.rules.specs.Neutrality.{memberDemand, hourDemand, neutrality,
 use Rattle.rules.specs.HourFile.{hourIn}
 use Rattle.rules.specs.Refusals.{accepted, verdict, Buffers, noDemand, fileRows}
 use Rattle.rules.specs.Settling.{filled}
-use Rattle.rules.specs.Finals.{NeutralOutcome, Neutrality}
+use Rattle.rules.specs.Promised.Finals.{NeutralOutcome, Neutrality}
 use Rattle.rules.specs.Inner.Kept.{HourKept}
 use Rattle.rules.proofs.Rows.{no-place, accepts-when-whole, file-numbered, form-whole, demand-whole, settle-whole, settle-fills}
 use Rattle.rules.proofs.Kept.{file-kept}

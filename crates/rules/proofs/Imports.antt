@@ -16,7 +16,7 @@ use Rattle.rules.specs.Refusals.{Row, row, accepted, refusedAt, verdict,
 use Rattle.rules.specs.Refusals.{blockRows, wordRows, recordRows, sumRows, formRows, fileRows, hourRows, settleRows}
 use Rattle.rules.specs.Refusals.{listFormRows, listRows, writerRows}
 use Rattle.rules.specs.Settling.{settle, writeHour}
-use Rattle.rules.specs.Imports.{FirstMetered, Imports}
+use Rattle.rules.specs.Promised.Imports.{FirstMetered, Imports}
 use Rattle.rules.proofs.Rows.{accepts-when-whole, passed-on, block-numbered, settle-verdict}
 use Rattle.rules.proofs.Kept.{unbroken, all-hold}
 use Rattle.rules.proofs.Writing.{verdict-is}

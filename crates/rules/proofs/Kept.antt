@@ -22,7 +22,7 @@ use Rattle.rules.specs.Record.{kindOf, isGenerator, isImport, signed, ac
 use Rattle.rules.specs.HourFile.{hourly, lengthBad, blocks, blockWord, recordCount, hourOf, hourIn}
 use Rattle.rules.specs.Ranges.{firstBroken, mustBeZero, countRule, blockRule, areaRule, headRule, rulesOf, recordRule, hourlyForm}
 use Rattle.rules.specs.Refusals.{isBroken, badLength, badBlock, badHead, badWord, badRecord, blockRows, wordRows, formRows, hourRows}
-use Rattle.rules.specs.Promises.{AllWhole}
+use Rattle.rules.specs.Promised.Demands.{AllWhole}
 use Rattle.rules.specs.Inner.Kept.{EntryKept, RecordKept, AreaKept, HourKept, FileKept}
 use Rattle.rules.proofs.Rows.{no-place, whole-parts, form-whole, file-whole}
 use Rattle.rules.proofs.Words.{Holds, holds, length-is-whole}

@@ -20,7 +20,7 @@ use Rattle.rules.specs.Ufe.{inArea, demand, demands}
 use Rattle.rules.specs.Share.{allDemand, shareSize, share, rankedSize}
 use Rattle.rules.specs.Charge.{nearestCent, cents, grains, amount, charge}
 use Rattle.rules.specs.Neutrality.{everyMember, memberDemand, hourDemand, neutrality, neutralityShare, final}
-use Rattle.rules.specs.Finals.{Neutral}
+use Rattle.rules.specs.Promised.Finals.{Neutral}
 use Rattle.rules.specs.Inner.Kept.{HourKept}
 use Rattle.rules.specs.Inner.Posting.{demandBy, demandOf}
 use Rattle.rules.proofs.Shares.{ranked, nothing-without-demand, size-at-most, sizes-add-up-to, size-near}

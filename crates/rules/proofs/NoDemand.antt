@@ -22,8 +22,8 @@ use Rattle.rules.specs.Refusals.{Row, row, Verdict, accepted, verdict, B
 use Rattle.rules.specs.Refusals.{tooShort, blockRows, wordRows, recordRows, sumRows, formRows, fileRows, hourRows, settleRows, explainRows}
 use Rattle.rules.specs.Settling.{settle}
 use Rattle.rules.specs.Explanation.{explain}
-use Rattle.rules.specs.Promises.{AllWhole}
-use Rattle.rules.specs.Finals.{NobodyDemands, HeldToDemand}
+use Rattle.rules.specs.Promised.Demands.{AllWhole}
+use Rattle.rules.specs.Promised.Finals.{NobodyDemands, HeldToDemand}
 use Rattle.rules.specs.Inner.Kept.{HourKept}
 use Rattle.rules.specs.Inner.Posting.{demandBy, demandOf}
 use Rattle.rules.proofs.Rows.{Numbered, numbered-on, accepts-when-whole, whole-parts, hasRow, only-row, file-numbered, form-whole}

@@ -17,8 +17,8 @@ use Rattle.rules.specs.HourFile.{hourly, blocks, blockWord, blockSum, re
 use Rattle.rules.specs.HourWords.{closing, blocksFor, heldIn, bodyWord, openWord, fileWord, fileLength}
 use Rattle.rules.specs.Ranges.{firstBroken, countRule, blockRule, hourlyForm}
 use Rattle.rules.specs.Refusals.{badSum, badBlock, blockRows, wordRows, formRows}
-use Rattle.rules.specs.Promises.{AllWhole}
-use Rattle.rules.specs.Finals.{AreBytes}
+use Rattle.rules.specs.Promised.Demands.{AllWhole}
+use Rattle.rules.specs.Promised.Finals.{AreBytes}
 use Rattle.rules.proofs.Rows.{whole-parts}
 use Rattle.rules.proofs.Words.{Holds, WholeBlocks, length-is-whole, record-count, head-word, record-word}
 use Rattle.rules.proofs.Kept.{unbroken, all-hold, file-kept}

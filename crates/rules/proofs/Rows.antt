@@ -22,7 +22,7 @@ use Rattle.rules.specs.Refusals.{Row, row, Verdict, accepted, refusedAt,
 use Rattle.rules.specs.Refusals.{Buffers, tooShort, blockRows, wordRows, recordRows, sumRows, formRows, fileRows, hourRows, settleRows}
 use Rattle.rules.specs.Refusals.{badArea, noDemand, writeRows}
 use Rattle.rules.specs.Settling.{Settlement, isAccepted, filled, ufeFigures, noFigures, settle, write}
-use Rattle.rules.specs.Promises.{Accepts, AllWhole, FirstBrokenRow, OneSettlement}
+use Rattle.rules.specs.Promised.Demands.{Accepts, AllWhole, FirstBrokenRow, OneSettlement}
 use Rattle.rules.specs.Ranges.{Form, hourlyForm}
 
 -- ---- any table

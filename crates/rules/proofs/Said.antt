@@ -21,7 +21,7 @@ use Rattle.rules.specs.HourFile.{hourly, blocks, blockWord, blockSum, le
 use Rattle.rules.specs.HourWords.{byteOf, blocksFor, heldIn, bodyWord, openWord, fileWord, fileByte, fileLength, fileOf}
 use Rattle.rules.specs.Ranges.{firstBroken}
 use Rattle.rules.specs.Refusals.{isBroken, badLength, badSum, badBlock}
-use Rattle.rules.specs.Finals.{AreBytes}
+use Rattle.rules.specs.Promised.Finals.{AreBytes}
 use Rattle.rules.proofs.WordBytes.{word-of-bytes, byte-of-word, closed-sum}
 use Rattle.rules.proofs.FileWords.{OfWords, some-blocks, held-full, held-last, open-body, first-body, record-body}
 use Rattle.rules.proofs.FileWords.{not-seven, still-zero, count-word, file-word-small, block-kept}

@@ -16,7 +16,7 @@ use Rattle.rules.specs.HourFile.{hourIn}
 use Rattle.rules.specs.Refusals.{accepted, verdict, hourRows}
 use Rattle.rules.specs.Settling.{Written, read}
 use Rattle.rules.specs.Statement.{firstLine, column, memberLine, memberLines, acceptedLines, statement}
-use Rattle.rules.specs.Finals.{memberPlace, chargeColumn, finalColumn}
+use Rattle.rules.specs.Promised.Finals.{memberPlace, chargeColumn, finalColumn}
 use Rattle.rules.proofs.Text.{text-fits-14, write-accepted-at, written-read}
 use Rattle.rules.proofs.Bounds.{charge-under}
 use Rattle.rules.proofs.Neutral.{final-under}

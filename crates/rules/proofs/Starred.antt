@@ -10,7 +10,7 @@ use Rattle.rules.specs.Charge.{nearestCent, cents}
 use Rattle.rules.specs.Text.{digitsUpTo, decimal, amountText, amountField}
 use Rattle.rules.specs.Refusals.{verdict, outOfRange, tooNarrow, writeRows}
 use Rattle.rules.specs.Settling.{write}
-use Rattle.rules.specs.Figures.{StarredRight, starred}
+use Rattle.rules.specs.Figures.Starred.{StarredRight, starred}
 
 pub starred-right : StarredRight
 unfolding starred valuesBelow sumBelow minℤ maxℤ signed kindOf actual entry generatorUnavailable generatorDeviation loadUnavailable

@@ -16,7 +16,7 @@ use Rattle.whole.proofs.Tests.{split, never-some}
 use Rattle.rules.specs.Text.{signByte, decimal, amountText, amountField, pastBlanks, amountIn}
 use Rattle.rules.specs.Refusals.{row, Verdict, accepted, refusedAt, nothingRead, verdict, outOfRange, tooNarrow, notAnAmount, writeRows, readRows}
 use Rattle.rules.specs.Settling.{Written, ReadAmount, orRefused, write, read}
-use Rattle.rules.specs.Promises.{IsTextOf}
+use Rattle.rules.specs.Promised.Demands.{IsTextOf}
 use Rattle.rules.proofs.Digits.{decimal-length-at-most}
 use Rattle.rules.proofs.Parts.{blanks-found, blanks-there, centsText, sign-found, sign-there, dollars-found, dollars-there}
 use Rattle.rules.proofs.Parts.{cents-found, cents-there, minus-found, minus-there, WasRead, read-by-parts}

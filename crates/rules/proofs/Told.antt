@@ -27,8 +27,8 @@ use Rattle.rules.specs.Refusals.{blockRows, wordRows, recordRows, sumRow
 use Rattle.rules.specs.Refusals.{badLength, badSum, badBlock, badHead, badRecord, aboveMaximum, badArea, badAmount, noDemand}
 use Rattle.rules.specs.Settling.{ReadAmount, isAccepted, filled, settle, read}
 use Rattle.rules.specs.Statement.{firstLine, memberLines, acceptedLines, refusedLine, statement}
-use Rattle.rules.specs.Finals.{memberPlace, chargeColumn, finalColumn, SameSheet, Shows, ShowsOutcome, AreBytes, Sheet}
-use Rattle.rules.specs.Promises.{Accepts}
+use Rattle.rules.specs.Promised.Finals.{memberPlace, chargeColumn, finalColumn, SameSheet, Shows, ShowsOutcome, AreBytes, Sheet}
+use Rattle.rules.specs.Promised.Demands.{Accepts}
 use Rattle.rules.specs.Inner.Kept.{HourKept}
 use Rattle.rules.proofs.Digits.{all-counted, make-the-number, decimal-digits}
 use Rattle.rules.proofs.Rows.{accepts-when-whole, zero-accepts, hour-numbered, settle-whole, settle-fills}

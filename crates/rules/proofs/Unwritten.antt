@@ -7,7 +7,7 @@ use Rattle.rules.specs.HourWords
 use Rattle.rules.specs.Ranges
 use Rattle.rules.specs.Refusals
 use Rattle.rules.specs.Settling
-use Rattle.rules.specs.Unwritten.{UnwrittenRight, unwrittenCases}
+use Rattle.rules.specs.Figures.Unwritten.{UnwrittenRight, unwrittenCases}
 
 pub unwritten-right : UnwrittenRight
 unfolding Below.firstBelow orElse Record.signed Record.kindOf HourWords.hourFrom HourWords.blocksFor HourWords.fileLength Ranges.keeps

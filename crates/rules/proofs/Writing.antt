@@ -19,9 +19,9 @@ use Rattle.rules.specs.HourWords.{hourFrom, headWords, recordWords, file
 use Rattle.rules.specs.Refusals.{row, Verdict, accepted, refusedAt, verdict, badLists, noRoom}
 use Rattle.rules.specs.Refusals.{blockRows, wordRows, recordRows, formRows, fileRows, listFormRows, listRows, writerRows}
 use Rattle.rules.specs.Settling.{HourWritten, isAccepted, writeHour}
-use Rattle.rules.specs.Promises.{AllWhole, FirstBrokenRow}
-use Rattle.rules.specs.Finals.{AreBytes}
-use Rattle.rules.specs.Writing.{AreWords, fileIn, Writing}
+use Rattle.rules.specs.Promised.Demands.{AllWhole, FirstBrokenRow}
+use Rattle.rules.specs.Promised.Finals.{AreBytes}
+use Rattle.rules.specs.Promised.Writing.{AreWords, fileIn, Writing}
 use Rattle.rules.proofs.Rows.{Numbered, accepts-when-whole, zero-accepts, refuses-at-first, whole-parts, file-numbered, form-whole, no-place}
 use Rattle.rules.proofs.Words.{record-count}
 use Rattle.rules.proofs.Kept.{file-kept}

@@ -1,5 +1,5 @@
--- Documents 01 and 02 as definitions, in the order in which a reader wants them. What is stated here is proved in proofs/; but `Printed`,
--- `Refused` and `Explanations`, whole files computed, are proved in the crate `figures`, which takes three times as long.
+-- Documents 01 and 02 as definitions, in the order in which a reader wants them; then what is promised of them, and figures. What is stated
+-- here is proved in proofs/; but the figures of whole files are proved in the crate `figures`, which takes three times as long.
 pub mod Record
 pub mod Deviation
 pub mod Ufe
@@ -15,18 +15,6 @@ pub mod Settling
 pub mod Statement
 pub mod Explanation
 pub mod RawHour
-pub mod Tariff
-pub mod Promises
-pub mod Finals
-pub mod Writing
-pub mod Imports
-pub mod Engines
-pub mod Explaining
+pub mod Promised
 pub mod Figures
-pub mod Limits
-pub mod Printed
-pub mod Refused
-pub mod EveryKind
-pub mod Unwritten
-pub mod Explanations
 pub mod Inner

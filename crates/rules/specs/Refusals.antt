@@ -9,6 +9,8 @@ use lib.ListN.{length}
 use lib.Dec.{ltb, leb, eqb}
 use Rattle.whole.specs.Below.{firstBelow}
 use Rattle.rules.specs.declared.Line.{Line}
+use Rattle.rules.specs.declared.Found.{Found}
+use Rattle.rules.specs.declared.Found.the-variants.{At, Nothing}
 use Rattle.rules.specs.declared.Answer.{Answer}
 use Rattle.rules.specs.declared.Answer.the-variants.{Accepted, BadLength, BadSum, BadBlock, BadHead, BadRecord, BadArea, BadAmount}
 use Rattle.rules.specs.declared.Answer.the-variants.{OutOfRange, TooNarrow, NotAnAmount, TooShort, NoDemand, NoMember, AboveMaximum}
@@ -52,6 +54,11 @@ verdictOf TooShort = refusedAt 11 0
 verdictOf NoDemand = refusedAt 12 0
 verdictOf NoMember = refusedAt 13 0
 verdictOf (AboveMaximum i) = refusedAt 14 i
+
+-- the place that a search of the code answers
+abbrev pub foundAt : Found → Option ℕ
+foundAt (At i) = some i
+foundAt Nothing = none
 
 abbrev pub numberOf : Answer → ℕ
 numberOf a = verdictOf a .number

@@ -12,7 +12,7 @@ use Rattle.whole.proofs.Tests.{split}
 use Rattle.rules.specs.declared.Answer.{Answer}
 use Rattle.rules.specs.declared.Settled.{Settled}
 use Rattle.rules.specs.HourFile.{hourly, lengthBad, blocks, body}
-use Rattle.rules.specs.Promises.{Fits}
+use Rattle.rules.specs.Promised.Demands.{Fits}
 use Rattle.rules.specs.Refusals.{Verdict, refusedAt, verdictOf, numberOf, placeOf, Buffers}
 use Rattle.rules.specs.Settling.{settle}
 use Rattle.rules.proofs.Words.{body-length, body-empty-bad, body-empty-past}

@@ -5,7 +5,7 @@ ghost use lib.ListN.{drop, take};
 ghost use Rattle.rules.specs.HourFile.{body, hourly};
 ghost use Rattle.rules.specs.Refusals.{numberOf, placeOf};
 ghost use Rattle.rules.specs.Settling as Settling;
-ghost use Rattle.rules.specs.Writing.{AreWords};
+ghost use Rattle.rules.specs.Promised.Writing.{AreWords};
 ghost use Rattle.pool.specs.Buffers.{buffers};
 ghost use Rattle.sneupelaar.specs.HandedOut.{bodyPart, hourWritten, readAmount, settlement, written};
 use rules::Line;

@@ -9,7 +9,7 @@ ghost use Rattle.rules.specs.HourFile.{hourly};
 ghost use Rattle.rules.specs.HourWords as HourWords;
 ghost use Rattle.rules.specs.Refusals as Refusals;
 ghost use Rattle.rules.specs.Settling as Settling;
-ghost use Rattle.rules.specs.Writing.{AreWords};
+ghost use Rattle.rules.specs.Promised.Writing.{AreWords};
 ghost use Rattle.writer.specs.Lists.{hourOfLists, ListsWhole};
 ghost use Rattle.writer.specs.Stored.{blockBytes, blockPlaced, heldWords};
 

@@ -9,7 +9,7 @@ ghost use Rattle.rules.specs.HourWords as HourWords;
 ghost use Rattle.rules.specs.HourFile.{hourly};
 ghost use Rattle.rules.specs.Ranges as Ranges;
 ghost use Rattle.rules.specs.Refusals as Refusals;
-ghost use Rattle.rules.specs.Inner.Searched.{foundAt};
+ghost use Rattle.rules.specs.Refusals.{foundAt};
 ghost use Rattle.writer.specs.Lists.{hourOfLists, recordBad};
 use rules::Answer;
 use rules::Found;

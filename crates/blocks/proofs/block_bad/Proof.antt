@@ -7,8 +7,7 @@ use native.Mathlib.Nat.{mul-le-mul-right}
 use native.Mathlib.Omega.{arith}
 use Rattle.rules.specs.declared.Found.{Found}
 use Rattle.rules.specs.HourFile.{word}
-use Rattle.rules.specs.Refusals.{isBroken}
-use Rattle.rules.specs.Inner.Searched.{foundAt}
+use Rattle.rules.specs.Refusals.{isBroken, foundAt}
 use Rattle.rules.proofs.Layouts.{few-to-a-record}
 use Rattle.rules.proofs.Faults.{front-broken, first-block-whole, past-front}
 use Rattle.blocks.specs.Broken.{brokenBelow}

@@ -7,8 +7,7 @@ use Prim.Native.Nat.{ℕ}
 use native.Mathlib.Omega.{arith}
 use Rattle.rules.specs.declared.Layout.{Layout}
 use Rattle.rules.specs.HourFile.{hourly, lengthBad}
-use Rattle.rules.specs.Refusals.{verdict, badLength, badSum, badBlock, blockRows, wordRows, formRows, fileRows}
-use Rattle.rules.specs.Inner.Searched.{foundAt}
+use Rattle.rules.specs.Refusals.{verdict, badLength, badSum, badBlock, blockRows, wordRows, formRows, fileRows, foundAt}
 use Rattle.rules.proofs.Layouts.{hourly-fits}
 use Rattle.rules.proofs.Words.{length-is-whole}
 use Rattle.rules.proofs.Faults.{few-records}

@@ -4,8 +4,7 @@ use mathlib.Core.Path.{_≡_, sym, _∙_, ap}
 use mathlib.Core.Option.{none}
 use native.Mathlib.Omega.{arith}
 use Rattle.rules.specs.HourFile.{hourly, hourIn}
-use Rattle.rules.specs.Refusals.{badHead, verdict, wordRows, recordRows}
-use Rattle.rules.specs.Inner.Searched.{foundAt}
+use Rattle.rules.specs.Refusals.{badHead, verdict, wordRows, recordRows, foundAt}
 use Rattle.rules.proofs.Words.{length-is-whole}
 use Rattle.rules.proofs.Faults.{fault-record, fault-nowhere}
 use Rattle.examine.specs.Fault.{faultAt, aboveAt}

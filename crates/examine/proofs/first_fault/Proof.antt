@@ -13,8 +13,7 @@ use Rattle.whole.proofs.Search.{first-next, first-hit, first-less, first-so-far
 use Rattle.rules.specs.Record.{Hour, members, areas}
 use Rattle.rules.specs.HourFile.{hourly, word, lengthBad, blocks, hourIn}
 use Rattle.rules.specs.Ranges.{keeps, recordRule, firstBroken, hourlyForm}
-use Rattle.rules.specs.Refusals.{isBroken, badWord, badRecord, firstFault, scheduledAbove, overScheduled, aboveMaximum}
-use Rattle.rules.specs.Inner.Searched.{foundAt}
+use Rattle.rules.specs.Refusals.{isBroken, badWord, badRecord, firstFault, scheduledAbove, overScheduled, aboveMaximum, foundAt}
 use Rattle.rules.proofs.Words.{record-count}
 use Rattle.rules.proofs.Faults.{fault-at, no-fault}
 use Rattle.blocks.specs.Part.{recordPart}

@@ -2,7 +2,7 @@
 use mathlib.Core.Path.{_≡_, refl}
 use mathlib.Core.Option.{Option, none, some, orElse}
 use Prim.Native.Nat.{ℕ}
-use Rattle.rules.specs.Inner.Searched.{foundAt}
+use Rattle.rules.specs.Refusals.{foundAt}
 use Rattle.examine.proofs.first_found.Statement.{statement}
 use Rattle.examine.proofs.first_found.Tie as tie
 

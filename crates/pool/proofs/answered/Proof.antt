@@ -2,8 +2,7 @@
 use mathlib.Core.Path.{_≡_, sym, _∙_, ap}
 use mathlib.Core.Option.{none}
 use borrow.Author.Needs.{needs}
-use Rattle.rules.specs.Refusals.{placeZeroIf, badArea, noDemand}
-use Rattle.rules.specs.Inner.Searched.{foundAt}
+use Rattle.rules.specs.Refusals.{placeZeroIf, badArea, noDemand, foundAt}
 use Rattle.rules.specs.HourFile.{hourIn}
 use Rattle.tally.specs.Posted.{Tallied}
 use Rattle.pool.proofs.Answers.{area-refused, demand-refused, some-short, all-pass}

@@ -9,7 +9,7 @@ use borrow.Author.Needs.{needs}
 use Rattle.rules.specs.declared.Line.{Line}
 use Rattle.rules.specs.declared.Settled.{Settled}
 use Rattle.rules.specs.Settling.{emptyLine}
-use Rattle.rules.specs.Promises.{Fits}
+use Rattle.rules.specs.Promised.Demands.{Fits}
 use Rattle.pool.specs.Unlined.{Unlined, withLines, FitsUnlined}
 use Rattle.pool.proofs.settle_unlined.Statement.{statement}
 use Rattle.pool.proofs.settle_unlined.Proof.Tie as tie

@@ -39,7 +39,7 @@ use denote.Triple.Table.{entered, cited}
 use denote.Triple.End.{Kepts}
 use denote.Triple.Walked.{says, Stays, walkOf, AllGo, Walks, ends-at, walked, walk-meets}
 use Rattle.rules.specs.declared.Settled.{Settled}
-use Rattle.rules.specs.Promises.{Fits}
+use Rattle.rules.specs.Promised.Demands.{Fits}
 use Rattle.rules.specs.Refusals.{numberOf, placeOf, Buffers}
 use Rattle.rules.proofs.Line as L
 use Rattle.rules.proofs.Settled as S

@@ -6,7 +6,7 @@ use native.Mathlib.Omega.{arith}
 use lib.ListN.{length}
 use Rattle.rules.specs.Refusals.{verdictOf, verdict, accepted, writerRows}
 use Rattle.rules.specs.Settling.{HourWritten}
-use Rattle.rules.specs.Writing.{AreWords}
+use Rattle.rules.specs.Promised.Writing.{AreWords}
 use Rattle.answer.proofs.Refusing.{no-other}
 use Rattle.writer.proofs.Written.{refused-leaves, accepted-fills, accepted-whole}
 use Rattle.writer.proofs.write_hour.Statement.{statement}

@@ -4,7 +4,7 @@ use mathlib.Core.Option.{some}
 use native.Mathlib.Numerals.{add-one}
 use native.Mathlib.Omega.{arith}
 use borrow.Author.Needs.{needs}
-use Rattle.rules.specs.Inner.Searched.{foundAt}
+use Rattle.rules.specs.Refusals.{foundAt}
 use Rattle.explain.proofs.boundary.head_number.Statement.{statement}
 use Rattle.explain.proofs.boundary.head_number.Tie as tie
 

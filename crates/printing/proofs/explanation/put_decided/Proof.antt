@@ -2,7 +2,7 @@
 use native.Mathlib.Omega.{arith}
 use borrow.Author.Needs.{needs}
 use Rattle.rules.specs.Explanation.{decidedLine}
-use Rattle.rules.specs.Inner.Searched.{foundAt}
+use Rattle.rules.specs.Refusals.{foundAt}
 use Rattle.rules.proofs.Worded.{decided-name-most}
 use Rattle.printing.proofs.Putting.{put-on, put-length}
 use Rattle.printing.proofs.explanation.put_decided.Statement.{statement}

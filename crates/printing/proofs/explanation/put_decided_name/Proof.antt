@@ -4,7 +4,7 @@ use native.Mathlib.Omega.{arith}
 use borrow.Author.Needs.{needs}
 use Rattle.rules.specs.declared.Found.{Found}
 use Rattle.rules.specs.Explanation.{decidedName}
-use Rattle.rules.specs.Inner.Searched.{foundAt}
+use Rattle.rules.specs.Refusals.{foundAt}
 use Rattle.rules.proofs.Worded.{head-name-most}
 use Rattle.printing.proofs.Putting.{put-as}
 use Rattle.printing.proofs.explanation.put_decided_name.Statement.{statement}

@@ -6,8 +6,8 @@ use mathlib.Core.List.{List, [], _∷_, _++_}
 use lib.ListN.{take, drop, replicate}
 use Rattle.rules.specs.Refusals.{refusedAt}
 use Rattle.rules.specs.Settling.{noFigures, settle}
-use Rattle.rules.specs.Figures.{Case, _is_, AllRight}
-use Rattle.rules.specs.Printed.{block, usedBuffers}
+use Rattle.rules.specs.Figures.Starred.{Case, _is_, AllRight}
+use Rattle.rules.specs.Figures.Printed.{block, usedBuffers}
 
 abbrev pub sumOf : List ℕ → ℕ
 sumOf [] = 0

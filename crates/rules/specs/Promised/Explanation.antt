@@ -15,8 +15,8 @@ use Rattle.rules.specs.HourFile.{hourIn}
 use Rattle.rules.specs.Refusals.{accepted, refusedAt, verdict, hourRows, explainRows, Buffers}
 use Rattle.rules.specs.Settling.{settle, emptyLine}
 use Rattle.rules.specs.Explanation.{noHeads, headAt, sameSign, explain}
-use Rattle.rules.specs.Tariff.{genDev, loadDev, impDev, expDev, coordinatorSum, UFEC}
-use Rattle.rules.specs.Promises.{Accepts, AllWhole, FirstBrokenRow}
+use Rattle.rules.specs.Promised.Tariff.{genDev, loadDev, impDev, expDev, coordinatorSum, UFEC}
+use Rattle.rules.specs.Promised.Demands.{Accepts, AllWhole, FirstBrokenRow}
 
 -- the five heads a second way: the terms of a member's IEC, in every zone
 module _ (h : Hour) (m : ℕ) where

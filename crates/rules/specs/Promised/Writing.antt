@@ -9,8 +9,8 @@ use Rattle.rules.specs.HourFile.{hourly, hourIn}
 use Rattle.rules.specs.HourWords.{hourFrom, headWords, recordWords}
 use Rattle.rules.specs.Refusals.{accepted, refusedAt, verdict, fileRows, writerRows}
 use Rattle.rules.specs.Settling.{HourWritten, writeHour}
-use Rattle.rules.specs.Promises.{AllWhole, FirstBrokenRow}
-use Rattle.rules.specs.Finals.{AreBytes}
+use Rattle.rules.specs.Promised.Demands.{AllWhole, FirstBrokenRow}
+use Rattle.rules.specs.Promised.Finals.{AreBytes}
 
 -- words of 32 bits
 abbrev pub AreWords : List ℕ → Type 0

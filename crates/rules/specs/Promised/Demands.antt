@@ -21,7 +21,7 @@ use Rattle.rules.specs.HourFile.{hourIn}
 use Rattle.rules.specs.Refusals.{Row, row, accepted, refusedAt, verdictOf, verdict, hourRows, writeRows, readRows, Buffers, settleRows}
 use Rattle.rules.specs.Settling.{settle, noFigures, write, read, emptyLine}
 use Rattle.rules.specs.Statement.{memberLine}
-use Rattle.rules.specs.Tariff.{devAs, ufeOfTerritory, IEC}
+use Rattle.rules.specs.Promised.Tariff.{devAs, ufeOfTerritory, IEC}
 
 abbrev pub Accepts : List ℕ → Buffers → Type 0
 Accepts s b = settle s b .verdict ≡ accepted

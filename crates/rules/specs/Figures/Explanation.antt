@@ -8,10 +8,10 @@ use lib.ListN.{replicate}
 use Rattle.rules.specs.Text.{bytes}
 use Rattle.rules.specs.Refusals.{refusedAt}
 use Rattle.rules.specs.Explanation.{Explanation, noHeads, decidedBy, explain, explanation}
-use Rattle.rules.specs.Figures.{Case, _is_, AllRight}
-use Rattle.rules.specs.Printed.{wordBytes}
-use Rattle.rules.specs.Refused.{first, plainHead}
-use Rattle.rules.specs.EveryKind.{everyKind}
+use Rattle.rules.specs.Figures.Starred.{Case, _is_, AllRight}
+use Rattle.rules.specs.Figures.Printed.{wordBytes}
+use Rattle.rules.specs.Figures.Refused.{first, plainHead}
+use Rattle.rules.specs.Figures.EveryKind.{everyKind}
 
 abbrev pub unexplained : (number place : ℕ) → Explanation
 unexplained number place = record { verdict = refusedAt number place; heads = noHeads; decided = none }

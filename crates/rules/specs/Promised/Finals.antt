@@ -19,7 +19,7 @@ use Rattle.rules.specs.Settling.{settle, read}
 use Rattle.rules.specs.Statement.{firstLine, statement}
 use Rattle.rules.specs.Explanation.{explain}
 use Rattle.rules.specs.Share.{rankedSize}
-use Rattle.rules.specs.Promises.{Accepts}
+use Rattle.rules.specs.Promised.Demands.{Accepts}
 
 -- ---- the finals add up to nothing
 
