@@ -3,4 +3,4 @@ pub mod Limits
 pub mod Printed
 pub mod Refused
 pub mod EveryKind
-pub mod Explanations
+pub mod Explanation

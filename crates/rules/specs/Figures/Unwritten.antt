@@ -1,4 +1,5 @@
--- Refusals of the writer as figures: for each row lists that break it and every row after it, so that the order shows.
+-- Refusals of the writer as figures: for each row lists that break it and every row after it, so that the order shows; 5 and 14 twice, so that
+-- the first place does.
 -- Document 02, A2 and A6.
 use Prim.Native.Nat.{ℕ}
 use mathlib.Core.List.{List, [], _∷_, _++_}
@@ -21,20 +22,20 @@ unwritten number place head records =
 abbrev pub headTo : ℕ → List ℕ
 headTo last = plainHead 2 ++ replicate 114 0 ++ last ∷ []
 
--- an engine scheduled above its maximum, and a record of kind 6
-abbrev pub twoRecords : List ℕ
-twoRecords = engine 2 ++ 6 ∷ replicate 11 0
+-- an engine scheduled above its maximum, and two records of kind 6
+abbrev pub badRecords : List ℕ
+badRecords = engine 2 ++ 6 ∷ replicate 11 0 ++ 6 ∷ replicate 11 0
 
 unfoldable pub unwrittenCases : List Case
 unwrittenCases =
     -- a head a word short; a record a word long; a 251st record
-    unwritten 1 0 (plainHead 2 ++ replicate 113 0 ++ 1 ∷ []) twoRecords
-    ∷ unwritten 1 0 (headTo 1) (twoRecords ++ 6 ∷ [])
+    unwritten 1 0 (plainHead 2 ++ replicate 113 0 ++ 1 ∷ []) badRecords
+    ∷ unwritten 1 0 (headTo 1) (badRecords ++ 6 ∷ [])
     ∷ unwritten 1 0 (headTo 1) (replicate 3012 6)
     -- the head's last word is word 127 of its block
-    ∷ unwritten 4 127 (headTo 1) twoRecords
-    ∷ unwritten 5 1 (headTo 0) twoRecords
-    ∷ unwritten 14 1 (headTo 0) (engine 1 ++ engine 2)
+    ∷ unwritten 4 127 (headTo 1) badRecords
+    ∷ unwritten 5 1 (headTo 0) badRecords
+    ∷ unwritten 14 1 (headTo 0) (engine 1 ++ engine 2 ++ engine 2)
     ∷ unwritten 11 0 (headTo 0) []
     ∷ []
 
