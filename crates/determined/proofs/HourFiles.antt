@@ -35,6 +35,7 @@ module _ (head records before : List ℕ) where
     by-the-table = verdict-is head records before;
     unchanged = writing .changes-nothing head records before;
     read-back = writing .read-back head records before head-words record-words;
+    length-told = writing .length-told head records before;
     past-file = writing .past-file head records before;
     same-bytes = own-bytes;
     metered-import = imports .unwritten head records before;

@@ -67,6 +67,7 @@ pub record KeepsWriting (head records before : List ℕ) (w : HourWritten) : Typ
   -- what was written passes rows 1 to 5 and 14 and is read back as the same hour
   pub read-back : w .verdict ≡ accepted →
       (verdict (fileRows (fileIn w)) ≡ accepted) × (hourIn (fileIn w) ≡ hourFrom hourly head records)
+  pub length-told : w .verdict ≡ accepted → length (fileIn w) ≡ w .length
   pub past-file : w .verdict ≡ accepted → (drop (w .length) (w .file) ≡ drop (w .length) before) × (length (w .file) ≡ length before)
   -- the head and records of a file that passes rows 1 to 5 and 14 give its bytes again, whatever the buffer held
   pub same-bytes : (s : List ℕ) → AreBytes s → verdict (fileRows s) ≡ accepted → head ≡ headWords s → records ≡ recordWords hourly s →

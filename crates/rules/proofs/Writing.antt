@@ -26,7 +26,7 @@ use Rattle.rules.proofs.Rows.{Numbered, accepts-when-whole, zero-accept
 use Rattle.rules.proofs.Words.{record-count}
 use Rattle.rules.proofs.Kept.{file-kept}
 use Rattle.rules.proofs.FileWords.{OfWords}
-use Rattle.rules.proofs.Said.{file-says, length-whole, sums-whole, blocks-whole, says-holds, same-hour, only-file}
+use Rattle.rules.proofs.Said.{file-says, length-whole, sums-whole, blocks-whole, says-holds, same-hour, only-file, length-of-file}
 use Rattle.rules.proofs.OwnHour.{own-hour}
 use Rattle.rules.specs.Ranges.{hourlyForm}
 
@@ -116,6 +116,9 @@ module _ (head records : List ℕ) where
     unfolding replacingFirst fileOf
     file-is e = rw (written e) (take-at (valuesBelow (fileByte hourly h) (fileLength hourly h)) (drop (fileLength hourly h) file)
         (fileLength hourly h) (length-values (fileByte hourly h) (fileLength hourly h)))
+
+    length-told : w .verdict ≡ accepted → length (fileIn w) ≡ w .length
+    length-told e = ap length (file-is e) ∙ length-of-file h ∙ sym (ap (λ (x : HourWritten). x .length) (written e))
 
     read-back : AreWords head → AreWords records → w .verdict ≡ accepted →
         (verdict (fileRows (fileIn w)) ≡ accepted) × (hourIn (fileIn w) ≡ h)
@@ -226,6 +229,7 @@ writing = record {
   refuses = refuses;
   changes-nothing = changes-nothing;
   read-back = read-back;
+  length-told = length-told;
   past-file = past-file;
   same-bytes = λ s file bytes passes. same-bytes s bytes passes file;
 }
