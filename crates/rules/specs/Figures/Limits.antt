@@ -1,12 +1,14 @@
 -- Limits as figures: for each kind a record at its limits, and each of its words one past them; the same of the head.
 -- Document 01, "Units and ranges", "The hour file"; document 02, A3.
-use Prim.Native.Nat.{ℕ, _-_}
+use Prim.Native.Nat.{ℕ, _+_, _-_}
+use mathlib.Core.Bool.{false}
 use mathlib.Core.Option.{Option, none, some}
 use mathlib.Core.List.{List, [], _∷_, _++_}
 use lib.ListN.{set, replicate}
+use Rattle.whole.specs.Below.{valuesBelow}
 use Rattle.rules.specs.HourFile.{hourly}
 use Rattle.rules.specs.HourWords.{hourFrom}
-use Rattle.rules.specs.Ranges.{hourlyForm}
+use Rattle.rules.specs.Ranges.{keeps, headRule, hourlyForm}
 use Rattle.rules.specs.Refusals.{badHead, badWord}
 use Rattle.rules.specs.Figures.Starred.{Case, _is_, AllRight}
 
@@ -109,11 +111,13 @@ headLimits =
     -- the first area and the last: a zone that isn't there, the ties, the fourth word
     ∷ headBreaks fullHead ((16, 4) ∷ (17, 10000001) ∷ (18, 10000001) ∷ (19, 1) ∷ [])
     ∷ headBreaks fullHead ((44, 4) ∷ (45, 10000001) ∷ (46, 10000001) ∷ (47, 1) ∷ [])
-    -- the words behind them
+    -- the words behind them, 48 to 127: none may be 1
     ∷ headBreaks fullHead ((48, 1) ∷ (127, 1) ∷ [])
+    ∷ valuesBelow (λ k. keeps (headRule 4 8 (48 + k)) 1) 80 is replicate 80 false
     ∷ headFault leastHead is none
-    -- a price and an area past their counts, a zone that isn't there
-    ∷ headBreaks leastHead ((13, 1) ∷ (15, 1) ∷ (16, 1) ∷ (20, 1) ∷ (21, 1) ∷ (22, 1) ∷ (45, 1) ∷ [])
+    -- the prices past their count, a zone that isn't there, the fourth word, and from the areas past their count on every word
+    ∷ headBreaks leastHead ((13, 1) ∷ (14, 1) ∷ (15, 1) ∷ (16, 1) ∷ (19, 1) ∷ (20, 1) ∷ (47, 1) ∷ [])
+    ∷ valuesBelow (λ k. keeps (headRule 1 1 (20 + k)) 1) 108 is replicate 108 false
     ∷ []
 
 pub record LimitsRight : Type 0 where
