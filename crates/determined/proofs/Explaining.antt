@@ -99,7 +99,8 @@ settled-is-explained κs μs a x s p accepts b y t q same there =
     rw (ap (λ (z : Buffers). z .lines) (p .buffers-are), ap (λ (z : Buffers). z .charges) (p .buffers-are)) e
 
 -- the same for C
-pub sneupelaar-settled-is-explained : (κs : Lfts 6) (μs : Lfts 1) → Gives (sneupelaar-settle.Learnt κs) (λ a x s. x .number ≡ 0 → x .place ≡ 0 →
+pub sneupelaar-settled-is-explained : (κs : Lfts 6) (μs : Lfts 1) → Gives (sneupelaar-settle.Learnt κs) (λ a x s.
+    x .number ≡ 0 → x .place ≡ 0 →
     Gives (sneupelaar-explain.Learnt μs) (λ b y t. now (b .0) ≡ now (a .0) → let h = hourIn (now (a .0)) in b .1 .0 < members h →
     ExplainsOutcome h
     (buffers (now (s .1 .1 .0)) (now (s .1 .1 .1 .0)) (now (s .1 .1 .1 .1 .0)) (now (s .1 .1 .1 .1 .1 .0)) (now (s .1 .0)))

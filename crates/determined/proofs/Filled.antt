@@ -57,7 +57,8 @@ one-shares κs a x y s t p q = (refl, agree p q)
 pub one-put-deviations : (κs : Lfts 2) → OneOutcome (put-deviations.Learnt κs) (λ s. now (s .1 .1 .0))
 one-put-deviations κs a x y s t p q = (refl, agree p q)
 
-pub one-put-shares : (κs : Lfts 3) → OneOutcome (put-shares.Learnt κs) {B = List ℕ × List ℤ} (λ s. (now (s .1 .1 .1 .0), now (s .1 .1 .1 .1 .0)))
+pub one-put-shares : (κs : Lfts 3) →
+    OneOutcome (put-shares.Learnt κs) {B = List ℕ × List ℤ} (λ s. (now (s .1 .1 .1 .0), now (s .1 .1 .1 .1 .0)))
 one-put-shares κs a x y s t p q = (refl, ap₂ (λ (room : List ℕ) (out : List ℤ). (room, out)) (agree (p .1) (q .1)) (agree (p .0) (q .0)))
 
 pub one-put-lines : (κs : Lfts 4) → OneOutcome (put-lines.Learnt κs) (λ s. now (s .1 .1 .1 .1 .0))

@@ -31,9 +31,9 @@ unfolding Below.countBelow Below.sumBelow Below.totalBelow Below.valuesBelow Bel
     Ranges.blockRule Ranges.areaRule Ranges.headRule Ranges.rulesOf Ranges.recordRule Refusals.verdict Refusals.badLength Refusals.badSum
     Refusals.badBlock Refusals.badHead Refusals.badWord Refusals.badRecord Refusals.scheduledAbove Refusals.aboveMaximum Refusals.badArea
     Refusals.badAmount Neutrality.neutrality Neutrality.memberDemand Neutrality.hourDemand Neutrality.neutralityShare Neutrality.final
-    Refusals.noDemand Refusals.tooShort Refusals.outOfRange Refusals.tooNarrow Refusals.blockRows
-    Refusals.wordRows Refusals.recordRows Refusals.sumRows Refusals.formRows Refusals.fileRows Refusals.hourRows Refusals.settleRows Refusals.writeRows
-    Settling.lineOf Settling.filled Settling.ufeFigures Settling.settle Settling.write Statement.firstLine Statement.column
-    Statement.memberLine Statement.memberLines Statement.acceptedLines Statement.statement wordBytes Deviation.importDeviation
-    Deviation.exportDeviation sealed everyKind longBuffers everySettlement
+    Refusals.noDemand Refusals.tooShort Refusals.outOfRange Refusals.tooNarrow Refusals.blockRows Refusals.wordRows Refusals.recordRows
+    Refusals.sumRows Refusals.formRows Refusals.fileRows Refusals.hourRows Refusals.settleRows Refusals.writeRows Settling.lineOf
+    Settling.filled Settling.ufeFigures Settling.settle Settling.write Statement.firstLine Statement.column Statement.memberLine
+    Statement.memberLines Statement.acceptedLines Statement.statement wordBytes Deviation.importDeviation Deviation.exportDeviation sealed
+    everyKind longBuffers everySettlement
 every-kind-right = record { settled = refl; stated = refl }

@@ -9,9 +9,9 @@ use Rattle.rules.specs.Refusals
 use Rattle.rules.specs.Figures.Limits
 
 pub limits-right : Limits.LimitsRight
-unfolding Below.valuesBelow Below.firstBelow orElse Record.signed Record.kindOf HourWords.hourFrom Ranges.keeps Ranges.firstBroken Ranges.areaRule
-    Ranges.headRule Ranges.rulesOf Ranges.recordRule Refusals.badHead Refusals.badWord Limits.faults Limits.ownPlaces Limits.recordFault
-    Limits.recordLimits Limits.headFault Limits.fullHead Limits.headLimits
+unfolding Below.valuesBelow Below.firstBelow orElse Record.signed Record.kindOf HourWords.hourFrom Ranges.keeps Ranges.firstBroken
+    Ranges.areaRule Ranges.headRule Ranges.rulesOf Ranges.recordRule Refusals.badHead Refusals.badWord Limits.faults Limits.ownPlaces
+    Limits.recordFault Limits.recordLimits Limits.headFault Limits.fullHead Limits.headLimits
 limits-right = record {
   of-records = (refl, (refl, (refl, (refl, (refl, (refl, (refl, (refl, (refl, (refl, (refl, tt)))))))))));
   of-the-head = (refl, (refl, (refl, (refl, (refl, (refl, (refl, (refl, (refl, (refl, tt))))))))));

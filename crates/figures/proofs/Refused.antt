@@ -24,6 +24,6 @@ unfolding Below.sumBelow Below.totalBelow Below.firstBelow orElse Record.signed 
     Refusals.aboveMaximum Refusals.badArea Refusals.badAmount Record.actual Record.entry Record.memberOf Record.areaOf Record.entryOf
     Record.price Record.zonePrice Deviation.deviation Deviation.exportDeviation Ufe.inArea Share.shareSize Share.share Charge.entering
     Charge.shareOf Charge.grains Charge.nearestCent Charge.cents Charge.charge Neutrality.neutrality Neutrality.memberDemand
-    Neutrality.hourDemand Refusals.noDemand Refusals.tooShort Refusals.blockRows Refusals.wordRows Refusals.recordRows
-    Refusals.sumRows Refusals.formRows Refusals.fileRows Refusals.hourRows Refusals.settleRows Settling.settle wordBytes usedBuffers sealed refusals
+    Neutrality.hourDemand Refusals.noDemand Refusals.tooShort Refusals.blockRows Refusals.wordRows Refusals.recordRows Refusals.sumRows
+    Refusals.formRows Refusals.fileRows Refusals.hourRows Refusals.settleRows Settling.settle wordBytes usedBuffers sealed refusals
 refused-right = (refl, (refl, (refl, (refl, (refl, (refl, (refl, (refl, (refl, (refl, (refl, tt)))))))))))

@@ -100,11 +100,13 @@ module _ (s : List ℕ) where
 
   settled : (b : Buffers) → HeldToMaximum (formRows hourlyForm s) h (settle s b .verdict)
   unfolding blockRows wordRows recordRows sumRows formRows fileRows hourRows settleRows hasRow
-  settled b = held h (formRows hourlyForm s) (to-last (row 11 (tooShort h b))) (form-numbered hourlyForm s) (omega arith) refl refl (settle-verdict s b)
+  settled b = held h (formRows hourlyForm s) (to-last (row 11 (tooShort h b))) (form-numbered hourlyForm s) (omega arith) refl refl
+      (settle-verdict s b)
 
   explained : (m : ℕ) → HeldToMaximum (formRows hourlyForm s) h (explain s m .verdict)
   unfolding blockRows wordRows recordRows sumRows formRows fileRows hourRows explainRows hasRow
-  explained m = held h (formRows hourlyForm s) (to-last (row 13 (noMember h m))) (form-numbered hourlyForm s) (omega arith) refl refl (explain-verdict s m)
+  explained m = held h (formRows hourlyForm s) (to-last (row 13 (noMember h m))) (form-numbered hourlyForm s) (omega arith) refl refl
+      (explain-verdict s m)
 
 written : (head records file : List ℕ) →
     HeldToMaximum (listFormRows head records) (hourFrom hourly head records) (writeHour head records file .verdict)

@@ -12,7 +12,8 @@ use Rattle.rules.specs.Record.{Hour, members, areas, kindOf}
 use Rattle.rules.specs.HourFile.{hourly, hourIn}
 use Rattle.rules.specs.HourWords.{hourFrom}
 use Rattle.rules.specs.Ranges.{rulesOf, recordRule, hourlyForm}
-use Rattle.rules.specs.Refusals.{Row, row, accepted, refusedAt, verdict, Buffers, isBroken, badWord, badRecord, tooShort, badLists, noRoom}
+use Rattle.rules.specs.Refusals.{Row, row, accepted, refusedAt, verdict, Buffers, isBroken, badWord, badRecord, tooShort, badLists}
+use Rattle.rules.specs.Refusals.{noRoom}
 use Rattle.rules.specs.Refusals.{blockRows, wordRows, recordRows, sumRows, formRows, fileRows, hourRows, settleRows}
 use Rattle.rules.specs.Refusals.{listFormRows, listRows, writerRows}
 use Rattle.rules.specs.Settling.{settle, writeHour}

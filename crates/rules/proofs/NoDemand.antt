@@ -19,7 +19,8 @@ use Rattle.rules.specs.Neutrality.{hourDemand, neutrality}
 use Rattle.rules.specs.HourFile.{hourIn}
 use Rattle.rules.specs.Ranges.{hourlyForm}
 use Rattle.rules.specs.Refusals.{Row, row, Verdict, accepted, verdict, Buffers, placeZeroIf, badArea, badAmount, noDemand, noMember}
-use Rattle.rules.specs.Refusals.{tooShort, blockRows, wordRows, recordRows, sumRows, formRows, fileRows, hourRows, settleRows, explainRows}
+use Rattle.rules.specs.Refusals.{tooShort, blockRows, wordRows, recordRows, sumRows, formRows, fileRows, hourRows, settleRows}
+use Rattle.rules.specs.Refusals.{explainRows}
 use Rattle.rules.specs.Settling.{settle}
 use Rattle.rules.specs.Explanation.{explain}
 use Rattle.rules.specs.Promised.Demands.{AllWhole}

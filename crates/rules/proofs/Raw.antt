@@ -14,7 +14,8 @@ use Rattle.whole.proofs.Tests.{split}
 use Rattle.whole.proofs.Buffers.{length-values}
 use Rattle.rules.specs.HourFile.{hourly, word}
 use Rattle.rules.specs.HourWords.{hourFrom, fileLength, fileOf}
-use Rattle.rules.specs.Refusals.{accepted, refusedAt, verdict, badLists, noRoom, wordRows, recordRows, listFormRows, listRows, writerRows}
+use Rattle.rules.specs.Refusals.{accepted, refusedAt, verdict, badLists, noRoom, wordRows, recordRows, listFormRows, listRows}
+use Rattle.rules.specs.Refusals.{writerRows}
 use Rattle.rules.specs.Settling.{isAccepted}
 use Rattle.rules.specs.Statement.{refusedLine}
 use Rattle.rules.specs.RawHour.{rawWords, rawHead, rawRecords, rawRows, rawWritten}

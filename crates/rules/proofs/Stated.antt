@@ -14,7 +14,8 @@ use Rattle.rules.specs.Record.{Hour, hourNumber, members}
 use Rattle.rules.specs.Charge.{charge}
 use Rattle.rules.specs.Neutrality.{final}
 use Rattle.rules.specs.HourFile.{lengthBad, hourOf, blockWord, hourIn}
-use Rattle.rules.specs.Refusals.{Verdict, accepted, refusedAt, verdict, Buffers, badLength, tooShort, blockRows, formRows, fileRows, hourRows, settleRows}
+use Rattle.rules.specs.Refusals.{Verdict, accepted, refusedAt, verdict, Buffers, badLength, tooShort, blockRows, formRows, fileRows}
+use Rattle.rules.specs.Refusals.{hourRows, settleRows}
 use Rattle.rules.specs.Settling.{isAccepted}
 use Rattle.rules.specs.Statement.{firstLine, column, memberLine, memberLines, acceptedLines, refusedLine, statement}
 use Rattle.rules.specs.Inner.Kept.{HourKept, FileKept}

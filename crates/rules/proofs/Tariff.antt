@@ -20,7 +20,8 @@ use Rattle.rules.specs.Deviation.{importDeviation, exportDeviation, devi
 use Rattle.rules.specs.Ufe.{inArea, areaSum, losses, ufe}
 use Rattle.rules.specs.Charge.{enteringAs, entering, shareOf, grains, amount}
 use Rattle.rules.specs.Inner.Posting.{accountedAs, accounted}
-use Rattle.rules.specs.Promised.Tariff.{genDev, loadDev, impDev, expDev, devAs, transmissionLosses, ufeOfTerritory, coordinatorSum, UFEC, IEC}
+use Rattle.rules.specs.Promised.Tariff.{genDev, loadDev, impDev, expDev, devAs, transmissionLosses, ufeOfTerritory, coordinatorSum}
+use Rattle.rules.specs.Promised.Tariff.{UFEC, IEC}
 use Rattle.rules.specs.Promised.Demands.{allZones}
 
 -- ---- deviations

@@ -99,7 +99,8 @@ module _ (s : List ℕ) (b : AreBytes s) where
   blocks-small l = omega arith
 
   rows-small : length s ≤ 13312 → SmallRows (hourRows s)
-  unfolding hourRows fileRows formRows blockRows wordRows recordRows sumRows badLength badSum badBlock badHead badRecord aboveMaximum badArea badAmount noDemand firstBroken
+  unfolding hourRows fileRows formRows blockRows wordRows recordRows sumRows badLength badSum badBlock badHead badRecord aboveMaximum
+      badArea badAmount noDemand firstBroken
   rows-small l =
       let h = hourIn s in
       small-row 1 (omega arith) (zero-small (lengthBad hourly s)) (
@@ -247,8 +248,10 @@ module _ (s : List ℕ) (b : Buffers) (a : Accepts s b) where
   as-settled : ShowsOutcome (hourIn s) (settle s b .buffers) (statement s)
   unfolding filled
   as-settled = let h = hourIn s in let shown = read-back s hour-accepted in record {
-    charge-shown = λ m l. rw (settle-fills s b a .0, getD-replacing (charge h) (members h) (b .charges) m (pos 0) l) (shown .charge-shown m l);
-    final-shown = λ m l. rw (settle-fills s b a .0, getD-replacing (final h) (members h) (b .finals) m (pos 0) l) (shown .final-shown m l);
+    charge-shown = λ m l.
+        rw (settle-fills s b a .0, getD-replacing (charge h) (members h) (b .charges) m (pos 0) l) (shown .charge-shown m l);
+    final-shown = λ m l.
+        rw (settle-fills s b a .0, getD-replacing (final h) (members h) (b .finals) m (pos 0) l) (shown .final-shown m l);
   }
 
 -- What is asked of the sheet.

@@ -22,7 +22,8 @@ use Rattle.rules.specs.Settling.{HourWritten, isAccepted, writeHour}
 use Rattle.rules.specs.Promised.Demands.{AllWhole, FirstBrokenRow}
 use Rattle.rules.specs.Promised.Finals.{AreBytes}
 use Rattle.rules.specs.Promised.Writing.{AreWords, fileIn, Writing}
-use Rattle.rules.proofs.Rows.{Numbered, accepts-when-whole, zero-accepts, refuses-at-first, whole-parts, file-numbered, form-whole, no-place}
+use Rattle.rules.proofs.Rows.{Numbered, accepts-when-whole, zero-accepts, refuses-at-first, whole-parts, file-numbered, form-whole}
+use Rattle.rules.proofs.Rows.{no-place}
 use Rattle.rules.proofs.Words.{record-count}
 use Rattle.rules.proofs.Kept.{file-kept}
 use Rattle.rules.proofs.FileWords.{OfWords}
@@ -202,10 +203,12 @@ module _ (s : List ℕ) where
           eq-eqb (length records % 12) 0 (omega (arith, records-length)),
           le-ltb 250 (length records / 12) (omega (arith, records-length, few)),
         ) refl in
-        let form : AllWhole (listFormRows head records) = (lists, subst (λ (g : Hour). AllWhole (wordRows hourlyForm g)) (sym own-lists) words) in
+        let own-words = subst (λ (g : Hour). AllWhole (wordRows hourlyForm g)) (sym own-lists) words in
+        let form : AllWhole (listFormRows head records) = (lists, own-words) in
         let records-too = subst (λ (g : Hour). AllWhole (recordRows g)) (sym own-lists) (file .1) in
+        let own-length = own-hour s bytes (form-whole s whole) .length-is in
         let room-there : noRoom (hourFrom hourly head records) room ≡ none =
-        rw (own-lists, le-ltb room (fileLength hourly (hourIn s)) (omega (arith, own-hour s bytes (form-whole s whole) .length-is, enough))) refl in
+        rw (own-lists, le-ltb room (fileLength hourly (hourIn s)) (omega (arith, own-length, enough))) refl in
         whole-parts (listRows head records) _ .1
         (whole-parts (listFormRows head records) (recordRows (hourFrom hourly head records)) .1 (form, records-too), (room-there, tt))
       where

@@ -55,7 +55,8 @@ returns-2 : tie.Need-returns-2
 unfolding verdict wordRows recordRows
 returns-2 c =
     let searched = c .before .before .before in
-    simp (head-good (searched .before), fault-record hourlyForm _ _ _ (sym (searched .first-fault .ensures .0) ∙ ap faultAt (c .before .i .given .1)))
+    let found = sym (searched .first-fault .ensures .0) ∙ ap faultAt (c .before .i .given .1) in
+    simp (head-good (searched .before), fault-record hourlyForm _ _ _ found)
 
 -- Answer::AboveMaximum(i)
 returns-3 : tie.Need-returns-3

@@ -95,7 +95,8 @@ module _ (turn : tie.At-rows Inv-loop μ-loop Inv-rows μ-rows) where
     stops w m passed broken =
         let h = hourIn file in
         let word-first : badWord hourlyForm h at ≡ some w = first-hit (word-bad file at) w 12 passed (sym (told w m) ∙ broken) m in
-        fault-at hourlyForm h at w (first-hit (record-bad file) at (h .count) (turn .rows .inv .1) (ap isBroken word-first) (there l)) word-first
+        let record-first = first-hit (record-bad file) at (h .count) (turn .rows .inv .1) (ap isBroken word-first) (there l) in
+        fault-at hourlyForm h at w record-first word-first
 
 -- hour::head_word(file, 9)
 head-word-requires : tie.Need-head-word-requires Inv-loop μ-loop Inv-rows μ-rows

@@ -12,7 +12,8 @@ use Rattle.rules.specs.Settling.{Settlement, settle}
 use Rattle.rules.specs.Statement.{statement}
 use Rattle.rules.specs.Figures.Refused.{first, other}
 
--- three members; zone 0 at 5,000 and zone 1 at 3,000 below zero; area 0 in zone 1 with 40 coming in and 15 going out, area 1 in zone 0 with 5 and 30
+-- three members; zone 0 at 5,000 and zone 1 at 3,000 below zero; area 0 in zone 1 with 40 coming in and 15 going out, area 1 in zone 0 with
+-- 5 and 30
 abbrev pub twoZones : List ℕ
 twoZones = 7 ∷ 3 ∷ 2 ∷ 2 ∷ 5000 ∷ 4294964296 ∷ 0 ∷ 0 ∷ 1 ∷ 40 ∷ 15 ∷ 0 ∷ 0 ∷ 5 ∷ 30 ∷ 0 ∷ []
 
@@ -59,4 +60,5 @@ everySettlement = record {
 pub record EveryKindRight : Type 0 where
   pub settled : settle everyKind longBuffers ≡ everySettlement
   pub stated : statement everyKind ≡
-      bytes "hour 7 members 3 records 7\n00          -3.00          -3.00\n01          +3.69         -14.34\n02         +28.76         +17.34\n"
+      bytes "hour 7 members 3 records 7\n00          -3.00          -3.00\n"
+      ++ bytes "01          +3.69         -14.34\n02         +28.76         +17.34\n"

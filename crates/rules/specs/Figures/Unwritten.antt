@@ -1,5 +1,5 @@
--- Refusals of the writer as figures: for each row lists that break it and every row after it, so that the order shows; 5 and 14 twice, so that
--- the first place does.
+-- Refusals of the writer as figures: for each row lists that break it and every row after it, so that the order shows; 5 and 14 twice, so
+-- that the first place does.
 -- Document 02, A2 and A6.
 use Prim.Native.Nat.{ℕ}
 use mathlib.Core.List.{List, [], _∷_, _++_}

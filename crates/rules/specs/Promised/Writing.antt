@@ -33,7 +33,8 @@ pub record Writing : Type 0 where
   pub read-back : (head records file : List ℕ) → AreWords head → AreWords records → let w = writeHour head records file in
       w .verdict ≡ accepted → (verdict (fileRows (fileIn w)) ≡ accepted) × (hourIn (fileIn w) ≡ hourFrom hourly head records)
   -- the length told is that of what was written
-  pub length-told : (head records file : List ℕ) → let w = writeHour head records file in w .verdict ≡ accepted → length (fileIn w) ≡ w .length
+  pub length-told : (head records file : List ℕ) → let w = writeHour head records file in
+      w .verdict ≡ accepted → length (fileIn w) ≡ w .length
   -- what stands past it is as it was, and so is the buffer's length
   pub past-file : (head records file : List ℕ) → let w = writeHour head records file in
       w .verdict ≡ accepted → (drop (w .length) (w .file) ≡ drop (w .length) file) × (length (w .file) ≡ length file)

@@ -2,7 +2,8 @@
 use mathlib.Core.Path.{_≡_, sym, _∙_, ap}
 use mathlib.Core.Option.{none}
 use native.Mathlib.Omega.{arith}
-use Rattle.rules.specs.Refusals.{badLists, badHead, badRecord, aboveMaximum, verdict, placeZeroIf, wordRows, recordRows, listFormRows, listRows, writerRows}
+use Rattle.rules.specs.Refusals.{badLists, badHead, badRecord, aboveMaximum, verdict, placeZeroIf, wordRows, recordRows, listFormRows}
+use Rattle.rules.specs.Refusals.{listRows, writerRows}
 use Rattle.rules.specs.Refusals.{foundAt}
 use Rattle.writer.specs.Lists.{hourOfLists, ListsWhole}
 use Rattle.writer.proofs.Said.{lists-whole, few-blocks, no-room, has-room}
