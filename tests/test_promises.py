@@ -1,4 +1,4 @@
-"""That docs/PROMISES.md and the crate `determined` are whole: every public function stands in both but for those that the page excepts, every
+"""That docs/PROMISES.md and the crate `theorems` are whole: every public function stands in both but for those that the page excepts, every
 `requires` is explained, and the page names each must-fail edit once, and none that is gone. Run from the project's root:
 python3 -m unittest tests/test_promises.py"""
 
@@ -53,7 +53,7 @@ class Promises(unittest.TestCase):
                 self.assertRegex(own, rf"(?m)^\| .*\b{name}`")
 
     def test_every_public_function_is_determined(self):
-        laws = "".join(path.read_text() for path in (CRATES / "determined" / "proofs").glob("*.antt"))
+        laws = "".join(path.read_text() for path in (CRATES / "theorems" / "proofs").glob("*.antt"))
         for crate, module, name in promising_functions():
             with self.subTest(crate=crate, function=name):
                 path = ".".join(part for part in (module, name) if part)

@@ -12,8 +12,8 @@ use Rattle.rules.specs.Settling.{Settlement, HourWritten, Written, ReadAmount}
 use Rattle.pool.specs.Buffers.{buffers}
 use Rattle.pool.specs.Unlined.{unlined}
 use Rattle.rules.proofs.Rows.{one-settlement}
-use Rattle.determined.specs.Determined.{OneResult, OneOutcome}
-use Rattle.determined.proofs.Laws.{agree, agree-answer}
+use Rattle.theorems.specs.Determined.{OneResult, OneOutcome}
+use Rattle.theorems.proofs.Laws.{agree, agree-answer}
 use Rattle.amount.proofs.write.Reads as write
 use Rattle.amount.proofs.read.Reads as read
 use Rattle.amount.proofs.decimal.put_digits.Reads as put-digits

@@ -23,8 +23,8 @@ use Rattle.printing.proofs.Showing.{whole-text}
 use Rattle.pool.specs.Buffers.{buffers}
 use Rattle.explain.specs.Answered.{answered}
 use Rattle.explain.specs.HandedOut.{handedOut, headCounted}
-use Rattle.determined.specs.Determined.{OneResult, OneOutcome, Gives, KeepsExplaining, ExplainsOutcome, IsPut}
-use Rattle.determined.proofs.Laws.{agree, agree-answer, agree-found}
+use Rattle.theorems.specs.Determined.{OneResult, OneOutcome, Gives, KeepsExplaining, ExplainsOutcome, IsPut}
+use Rattle.theorems.proofs.Laws.{agree, agree-answer, agree-found}
 use Rattle.printing.proofs.explanation.put_explanation.Reads as put-explanation
 use Rattle.explain.proofs.explain.Reads as explain
 use Rattle.explain.proofs.explanation.Reads as explanation

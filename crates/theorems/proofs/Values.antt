@@ -1,7 +1,7 @@
 -- Functions of values: numbers, kinds, answers, entries, tallies, lines.
 use contract.Lifetimes.{Lfts}
-use Rattle.determined.specs.Determined.{OneResult}
-use Rattle.determined.proofs.Laws.{agree}
+use Rattle.theorems.specs.Determined.{OneResult}
+use Rattle.theorems.proofs.Laws.{agree}
 use Rattle.sign.proofs.size_of.Reads as size-of
 use Rattle.sign.proofs.with_sign_of.Reads as with-sign-of
 use Rattle.answer.proofs.number_of.Reads as number-of

@@ -2,8 +2,8 @@
 use contract.Lifetimes.{Lfts}
 use denote.Ref.{now}
 use Rattle.rules.specs.HourFile.{hourly}
-use Rattle.determined.specs.Determined.{OneResult, OnePart}
-use Rattle.determined.proofs.Laws.{agree, agree-found}
+use Rattle.theorems.specs.Determined.{OneResult, OnePart}
+use Rattle.theorems.proofs.Laws.{agree, agree-found}
 use Rattle.blocks.proofs.whole_word.Reads as whole-word
 use Rattle.blocks.proofs.word.Reads as word
 use Rattle.blocks.proofs.length_bad.Reads as length-bad

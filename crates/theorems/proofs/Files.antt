@@ -2,8 +2,8 @@
 -- searches and tests.
 use contract.Lifetimes.{Lfts}
 use denote.Ref.{now}
-use Rattle.determined.specs.Determined.{OneResult, OnePart}
-use Rattle.determined.proofs.Laws.{agree, agree-answer, agree-entry, agree-found, agree-test}
+use Rattle.theorems.specs.Determined.{OneResult, OnePart}
+use Rattle.theorems.proofs.Laws.{agree, agree-answer, agree-entry, agree-found, agree-test}
 use Rattle.hour.proofs.head_word.Reads as head-word
 use Rattle.hour.proofs.records.Reads as records
 use Rattle.hour.proofs.body.Reads as body

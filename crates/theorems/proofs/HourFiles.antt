@@ -19,7 +19,7 @@ use Rattle.rules.proofs.Imports.{imports}
 use Rattle.rules.proofs.Engines.{engines}
 use Rattle.rules.proofs.Raw.{cut-input-same}
 use Rattle.printing.proofs.Showing.{whole-text}
-use Rattle.determined.specs.Determined.{Gives, KeepsWriting, IsPut}
+use Rattle.theorems.specs.Determined.{Gives, KeepsWriting, IsPut}
 use Rattle.writer.proofs.write_hour.Reads as write-hour
 use Rattle.rawhour.proofs.write_raw.Reads as write-raw
 use Rattle.sneupelaar.proofs.sneupelaar_write_hour.Reads as sneupelaar-write-hour

@@ -29,7 +29,7 @@ use Rattle.pool.specs.Buffers.{buffers}
 use Rattle.pool.specs.Unlined.{unlined, withLines, ownLines}
 use Rattle.report.specs.Stated.{HasStated}
 use Rattle.printing.proofs.Showing.{whole-text}
-use Rattle.determined.specs.Determined.{Gives, KeepsDemands, IsPut, IsReadBack, Tells}
+use Rattle.theorems.specs.Determined.{Gives, KeepsDemands, IsPut, IsReadBack, Tells}
 use Rattle.amount.proofs.write.Reads as write
 use Rattle.amount.proofs.read.Reads as read
 use Rattle.examine.proofs.examine.Reads as examine

@@ -1,0 +1,11 @@
+-- For each public function, crate by crate: no second result fits its contract; what the contracts of the entry points give; and figures
+-- of whole files.
+pub mod Laws
+pub mod Values
+pub mod Blocks
+pub mod Files
+pub mod Filled
+pub mod Demanded
+pub mod HourFiles
+pub mod Explaining
+pub mod Figures
