@@ -1,4 +1,4 @@
-// The deviation of each record, by document 01's formula for its kind. Each is worked once: `lines` takes it from the buffer that is filled
+// The deviation of each record, by document 01's formula for its kind. Each is worked once: `bymember` takes it from the buffer that is filled
 // here. No area and no price is looked at, and nothing is refused.
 ghost use mathlib.Core.Path.{_≡_};
 ghost use Prim.Native.Nat.{_≤_, _<_};

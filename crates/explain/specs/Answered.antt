@@ -6,8 +6,8 @@ use lib.IntN.{ℤ}
 use Rattle.rules.specs.declared.Explained.{Explained}
 use Rattle.rules.specs.Refusals.{accepted, verdictOf, verdict, hourRows, foundAt}
 use Rattle.rules.specs.Explanation.{Explanation, explanation}
-use Rattle.neutrality.specs.Charged.{Charged}
-use Rattle.lines.specs.Lined.{AllWorked}
+use Rattle.bymember.specs.Charged.{Charged}
+use Rattle.bymember.specs.Lined.{AllWorked}
 use Rattle.printing.specs.Shown.{Shown, shown}
 
 -- the answer as number and place, the head that decided by its place

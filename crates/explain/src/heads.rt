@@ -4,7 +4,7 @@ ghost use Prim.Native.Nat.{_+_, _<_};
 ghost use Rattle.rules.specs.Explanation as Explanation;
 ghost use Rattle.rules.specs.Inner.Posting as Posting;
 ghost use Rattle.rules.specs.Refusals.{foundAt};
-ghost use Rattle.lines.specs.Lined.{Worked, AllWorked};
+ghost use Rattle.bymember.specs.Lined.{Worked, AllWorked};
 ghost use Rattle.rules.specs.HourFile.{hourIn};
 ghost use Rattle.hour.specs.Hour.{Headed};
 ghost use Rattle.explain.specs.Room.{HeadRoom, HeadsRoom};

@@ -37,9 +37,9 @@ use Rattle.hour.specs.declared.Head.{Head}
 use Rattle.rules.specs.HourFile.{hourIn}
 use Rattle.hour.specs.Hour.{Headed}
 use Rattle.hour.proofs.Figures.{head-members, head-records}
-use Rattle.lines.specs.Lined.{AllWorked}
-use Rattle.neutrality.specs.Charged.{Charged}
-use Rattle.lines.proofs.Worked.{all-worked}
+use Rattle.bymember.specs.Lined.{AllWorked}
+use Rattle.bymember.specs.Charged.{Charged}
+use Rattle.bymember.proofs.Worked.{all-worked}
 use Rattle.pool.specs.AsSettled.{Lengths, Says}
 use Rattle.pool.specs.Buffers.{buffers}
 

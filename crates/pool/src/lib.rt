@@ -64,12 +64,12 @@ fn answered(
     requires { ⌜ (verdict (fileRows (now file)) ≡ accepted) × Headed (now file) head ⌝ }
     ensures { λ r. ⌜ AsSettled (now (file .entry)) charges finals lines shares deviations r ⌝ }
 {
-    let tally = tally::tally_of(file, head);
-    let figures = tally::ufe_figures(file, head, tally);
-    if let Found::At(a) = tally::area_without_demand(file, head, tally, figures) {
+    let tally = byarea::tally_of(file, head);
+    let figures = byarea::ufe_figures(file, head, tally);
+    if let Found::At(a) = byarea::area_without_demand(file, head, tally, figures) {
         return answer::refused(Answer::BadArea(a));
     }
-    if neutrality::no_demand(file, head, tally) {
+    if bymember::neutrality::no_demand(file, head, tally) {
         return answer::refused(Answer::NoDemand);
     }
     if too_short(head, charges, finals, lines, shares, deviations) {
@@ -128,9 +128,9 @@ pub fn settle(
     byrecord::deviations::put_deviations(file, head, deviations);
     let figures = settled.ufe;
     put_shares(file, head, figures, shares);
-    lines::put_lines(file, head, deviations, shares, lines);
-    lines::put_charges(lines, head.members, charges);
-    neutrality::put_finals(file, head, charges, finals);
+    bymember::put_lines(file, head, deviations, shares, lines);
+    bymember::put_charges(lines, head.members, charges);
+    bymember::neutrality::put_finals(file, head, charges, finals);
     settled
 }
 

@@ -11,7 +11,7 @@ use Rattle.rules.specs.Neutrality.{final}
 use Rattle.rules.specs.Refusals.{verdictOf, verdict, hourRows}
 use Rattle.rules.specs.Statement.{statement}
 use Rattle.rules.specs.HourFile.{hourIn}
-use Rattle.neutrality.specs.Charged.{Charged}
+use Rattle.bymember.specs.Charged.{Charged}
 use Rattle.printing.specs.Shown.{Shown, shown, HasShown}
 
 -- the statement of any byte string, in a slice with room for the longest

@@ -17,12 +17,12 @@ use Rattle.hour.proofs.area_of.Reads as area-of
 use Rattle.hour.proofs.demand_of.Reads as demand-of
 use Rattle.hour.proofs.entry_in.Reads as entry-in
 use Rattle.hour.proofs.entry_of.Reads as entry-of
-use Rattle.tally.proofs.tally_of.Reads as tally-of
-use Rattle.tally.proofs.ufe_figures.Reads as ufe-figures
-use Rattle.tally.proofs.area_without_demand.Reads as area-without-demand
-use Rattle.tally.proofs.nobody_demands.Reads as nobody-demands
-use Rattle.lines.proofs.grains.Reads as grains
-use Rattle.neutrality.proofs.no_demand.Reads as no-demand
+use Rattle.byarea.proofs.tally_of.Reads as tally-of
+use Rattle.byarea.proofs.ufe_figures.Reads as ufe-figures
+use Rattle.byarea.proofs.area_without_demand.Reads as area-without-demand
+use Rattle.byarea.proofs.nobody_demands.Reads as nobody-demands
+use Rattle.bymember.proofs.grains.Reads as grains
+use Rattle.bymember.proofs.neutrality.no_demand.Reads as no-demand
 
 pub one-head-word : (κs : Lfts 1) → OneResult (head-word.Learnt κs)
 one-head-word κs a x y s t = agree

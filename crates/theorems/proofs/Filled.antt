@@ -21,9 +21,9 @@ use Rattle.share.proofs.share_in_place.Reads as share-in-place
 use Rattle.share.proofs.shares.Reads as shares
 use Rattle.byrecord.proofs.deviations.put_deviations.Reads as put-deviations
 use Rattle.byrecord.proofs.shares.put_shares.Reads as put-shares
-use Rattle.lines.proofs.Port.put_lines.Reads as put-lines
-use Rattle.lines.proofs.Port.put_charges.Reads as put-charges
-use Rattle.neutrality.proofs.put_finals.Reads as put-finals
+use Rattle.bymember.proofs.Port.put_lines.Reads as put-lines
+use Rattle.bymember.proofs.Port.put_charges.Reads as put-charges
+use Rattle.bymember.proofs.neutrality.put_finals.Reads as put-finals
 use Rattle.writer.proofs.write_hour.Reads as write-hour
 use Rattle.rawhour.proofs.write_raw.Reads as write-raw
 use Rattle.pool.proofs.Port.settle.Reads as settle

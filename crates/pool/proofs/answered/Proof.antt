@@ -4,7 +4,7 @@ use mathlib.Core.Option.{none}
 use borrow.Author.Needs.{needs}
 use Rattle.rules.specs.Refusals.{placeZeroIf, badArea, noDemand, foundAt}
 use Rattle.rules.specs.HourFile.{hourIn}
-use Rattle.tally.specs.Posted.{Tallied}
+use Rattle.byarea.specs.Posted.{Tallied}
 use Rattle.pool.proofs.Answers.{area-refused, demand-refused, some-short, all-pass}
 use Rattle.pool.proofs.answered.Statement.{statement}
 use Rattle.pool.proofs.answered.Tie as tie

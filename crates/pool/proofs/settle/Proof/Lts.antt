@@ -245,7 +245,7 @@ abbrev b31 : Syntax.Body
 b31 = Syntax.assign (Syntax.place 27 List.[]) (Syntax.aggregate (List._∷_ (Syntax.copy (Syntax.place 26 List.[])) (List._∷_ (Syntax.copy (Syntax.place 2 (List._∷_ (Syntax.field 1) List.[]))) List.[])))
 
 abbrev b32 : Syntax.Body
-b32 = Syntax.call "lines::put_lines" (List._∷_ (Syntax.copy (Syntax.place 1 List.[])) (List._∷_ (Syntax.copy (Syntax.place 8 List.[])) (List._∷_ (Syntax.copy (Syntax.place 23 List.[])) (List._∷_ (Syntax.copy (Syntax.place 25 List.[])) (List._∷_ (Syntax.copy (Syntax.place 27 List.[])) List.[]))))) (Syntax.place 17 List.[])
+b32 = Syntax.call "bymember::put_lines" (List._∷_ (Syntax.copy (Syntax.place 1 List.[])) (List._∷_ (Syntax.copy (Syntax.place 8 List.[])) (List._∷_ (Syntax.copy (Syntax.place 23 List.[])) (List._∷_ (Syntax.copy (Syntax.place 25 List.[])) (List._∷_ (Syntax.copy (Syntax.place 27 List.[])) List.[]))))) (Syntax.place 17 List.[])
 
 abbrev b33 : Syntax.Body
 b33 = Syntax.assign (Syntax.place 28 List.[]) (Syntax.addrOf (Syntax.place 2 (List._∷_ (Syntax.field 0) (List._∷_ (Syntax.deref (LineKit.plain-ty)) List.[]))))
@@ -260,7 +260,7 @@ abbrev b36 : Syntax.Body
 b36 = Syntax.assign (Syntax.place 31 List.[]) (Syntax.aggregate (List._∷_ (Syntax.copy (Syntax.place 30 List.[])) (List._∷_ (Syntax.copy (Syntax.place 3 (List._∷_ (Syntax.field 1) List.[]))) List.[])))
 
 abbrev b37 : Syntax.Body
-b37 = Syntax.call "lines::put_charges" (List._∷_ (Syntax.copy (Syntax.place 29 List.[])) (List._∷_ (Syntax.copy (Syntax.place 8 (List._∷_ (Syntax.field 0) List.[]))) (List._∷_ (Syntax.copy (Syntax.place 31 List.[])) List.[]))) (Syntax.place 17 List.[])
+b37 = Syntax.call "bymember::put_charges" (List._∷_ (Syntax.copy (Syntax.place 29 List.[])) (List._∷_ (Syntax.copy (Syntax.place 8 (List._∷_ (Syntax.field 0) List.[]))) (List._∷_ (Syntax.copy (Syntax.place 31 List.[])) List.[]))) (Syntax.place 17 List.[])
 
 abbrev b38 : Syntax.Body
 b38 = Syntax.assign (Syntax.place 32 List.[]) (Syntax.addrOf (Syntax.place 3 (List._∷_ (Syntax.field 0) (List._∷_ (Syntax.deref (Syntax.tyInt Syntax.w64)) List.[]))))
@@ -275,7 +275,7 @@ abbrev b41 : Syntax.Body
 b41 = Syntax.assign (Syntax.place 35 List.[]) (Syntax.aggregate (List._∷_ (Syntax.copy (Syntax.place 34 List.[])) (List._∷_ (Syntax.copy (Syntax.place 4 (List._∷_ (Syntax.field 1) List.[]))) List.[])))
 
 abbrev b42 : Syntax.Body
-b42 = Syntax.call "neutrality::put_finals" (List._∷_ (Syntax.copy (Syntax.place 1 List.[])) (List._∷_ (Syntax.copy (Syntax.place 8 List.[])) (List._∷_ (Syntax.copy (Syntax.place 33 List.[])) (List._∷_ (Syntax.copy (Syntax.place 35 List.[])) List.[])))) (Syntax.place 17 List.[])
+b42 = Syntax.call "bymember::neutrality::put_finals" (List._∷_ (Syntax.copy (Syntax.place 1 List.[])) (List._∷_ (Syntax.copy (Syntax.place 8 List.[])) (List._∷_ (Syntax.copy (Syntax.place 33 List.[])) (List._∷_ (Syntax.copy (Syntax.place 35 List.[])) List.[])))) (Syntax.place 17 List.[])
 
 abbrev b43 : Syntax.Body
 b43 = Syntax.assign (Syntax.place 0 List.[]) (Syntax.rvOpd (Syntax.copy (Syntax.place 9 List.[])))
@@ -1055,7 +1055,7 @@ module _ (claims· : Claims) where
   module _ (Pre· : (κs : Lifetimes.Lfts 6) → Kinds.Dens κs ps → Type 0) (Post· : (κs : Lifetimes.Lfts 6) → (a : Kinds.Dens κs ps) → Kinds.Plain 6 ps r κs) where
     module _ (M : Type 1) where
       abbrev pub Closed : Type 2
-      Closed = (𝓤 : URA.URA M) (H : Wp.Heap 𝓤) (A : Atoms.Atoms 𝓤) (W : Kit.Given 𝓤 H A) (𝓣 : Wp.Tables 𝓤 H) (known0 : Plain.Known 𝓤 H A W 𝓣 1 ps·0 r·0 (claims· .0) (claims· .1) "examine::examine") (known1 : Plain.Known 𝓤 H A W 𝓣 0 ps·1 r·1 (claims· .2) (claims· .3) "answer::refused") (known2 : Plain.Known 𝓤 H A W 𝓣 1 ps·2 r·2 (claims· .4) (claims· .5) "hour::head_of") (known3 : Plain.Known 𝓤 H A W 𝓣 1 ps·3 r·3 (claims· .6) (claims· .7) "pool::answered") (known4 : Plain.Known 𝓤 H A W 𝓣 2 ps·4 r·4 (claims· .8) (claims· .9) "byrecord::deviations::put_deviations") (known5 : Plain.Known 𝓤 H A W 𝓣 2 ps·5 r·5 (claims· .10) (claims· .11) "pool::put_shares") (known6 : Plain.Known 𝓤 H A W 𝓣 4 ps·6 r·6 (claims· .12) (claims· .13) "lines::put_lines") (known7 : Plain.Known 𝓤 H A W 𝓣 2 ps·7 r·7 (claims· .14) (claims· .15) "lines::put_charges") (known8 : Plain.Known 𝓤 H A W 𝓣 3 ps·8 r·8 (claims· .16) (claims· .17) "neutrality::put_finals") → Statement.Triple 𝓤 (Wp.WpFn 𝓤 H (𝓣 .C) (𝓣 .Λ) (Function.fnOf 6 ps r xs m hs body)) (Function.plainOf 𝓤 H A 6 ps r Pre· Post·)
+      Closed = (𝓤 : URA.URA M) (H : Wp.Heap 𝓤) (A : Atoms.Atoms 𝓤) (W : Kit.Given 𝓤 H A) (𝓣 : Wp.Tables 𝓤 H) (known0 : Plain.Known 𝓤 H A W 𝓣 1 ps·0 r·0 (claims· .0) (claims· .1) "examine::examine") (known1 : Plain.Known 𝓤 H A W 𝓣 0 ps·1 r·1 (claims· .2) (claims· .3) "answer::refused") (known2 : Plain.Known 𝓤 H A W 𝓣 1 ps·2 r·2 (claims· .4) (claims· .5) "hour::head_of") (known3 : Plain.Known 𝓤 H A W 𝓣 1 ps·3 r·3 (claims· .6) (claims· .7) "pool::answered") (known4 : Plain.Known 𝓤 H A W 𝓣 2 ps·4 r·4 (claims· .8) (claims· .9) "byrecord::deviations::put_deviations") (known5 : Plain.Known 𝓤 H A W 𝓣 2 ps·5 r·5 (claims· .10) (claims· .11) "pool::put_shares") (known6 : Plain.Known 𝓤 H A W 𝓣 4 ps·6 r·6 (claims· .12) (claims· .13) "bymember::put_lines") (known7 : Plain.Known 𝓤 H A W 𝓣 2 ps·7 r·7 (claims· .14) (claims· .15) "bymember::put_charges") (known8 : Plain.Known 𝓤 H A W 𝓣 3 ps·8 r·8 (claims· .16) (claims· .17) "bymember::neutrality::put_finals") → Statement.Triple 𝓤 (Wp.WpFn 𝓤 H (𝓣 .C) (𝓣 .Λ) (Function.fnOf 6 ps r xs m hs body)) (Function.plainOf 𝓤 H A 6 ps r Pre· Post·)
 
     module _ where
       abbrev at0 : (bs : List.List Nat.ℕ) → Typed.TF T6 O1
@@ -1384,7 +1384,7 @@ module _ (claims· : Claims) where
 
       module _ {M : Type 1} (𝓤 : URA.URA M) (H : Wp.Heap 𝓤) (A : Atoms.Atoms 𝓤) (W : Kit.Given 𝓤 H A) (𝓣 : Wp.Tables 𝓤 H) where
         abbrev Knowns : Type 1
-        Knowns = Plain.Known 𝓤 H A W 𝓣 1 ps·0 r·0 (claims· .0) (claims· .1) "examine::examine" × Plain.Known 𝓤 H A W 𝓣 0 ps·1 r·1 (claims· .2) (claims· .3) "answer::refused" × Plain.Known 𝓤 H A W 𝓣 1 ps·2 r·2 (claims· .4) (claims· .5) "hour::head_of" × Plain.Known 𝓤 H A W 𝓣 1 ps·3 r·3 (claims· .6) (claims· .7) "pool::answered" × Plain.Known 𝓤 H A W 𝓣 2 ps·4 r·4 (claims· .8) (claims· .9) "byrecord::deviations::put_deviations" × Plain.Known 𝓤 H A W 𝓣 2 ps·5 r·5 (claims· .10) (claims· .11) "pool::put_shares" × Plain.Known 𝓤 H A W 𝓣 4 ps·6 r·6 (claims· .12) (claims· .13) "lines::put_lines" × Plain.Known 𝓤 H A W 𝓣 2 ps·7 r·7 (claims· .14) (claims· .15) "lines::put_charges" × Plain.Known 𝓤 H A W 𝓣 3 ps·8 r·8 (claims· .16) (claims· .17) "neutrality::put_finals"
+        Knowns = Plain.Known 𝓤 H A W 𝓣 1 ps·0 r·0 (claims· .0) (claims· .1) "examine::examine" × Plain.Known 𝓤 H A W 𝓣 0 ps·1 r·1 (claims· .2) (claims· .3) "answer::refused" × Plain.Known 𝓤 H A W 𝓣 1 ps·2 r·2 (claims· .4) (claims· .5) "hour::head_of" × Plain.Known 𝓤 H A W 𝓣 1 ps·3 r·3 (claims· .6) (claims· .7) "pool::answered" × Plain.Known 𝓤 H A W 𝓣 2 ps·4 r·4 (claims· .8) (claims· .9) "byrecord::deviations::put_deviations" × Plain.Known 𝓤 H A W 𝓣 2 ps·5 r·5 (claims· .10) (claims· .11) "pool::put_shares" × Plain.Known 𝓤 H A W 𝓣 4 ps·6 r·6 (claims· .12) (claims· .13) "bymember::put_lines" × Plain.Known 𝓤 H A W 𝓣 2 ps·7 r·7 (claims· .14) (claims· .15) "bymember::put_charges" × Plain.Known 𝓤 H A W 𝓣 3 ps·8 r·8 (claims· .16) (claims· .17) "bymember::neutrality::put_finals"
 
       module _ (κs : Lifetimes.Lfts 6) (qs : Lifetimes.Shares 6) where
         abbrev g21 : List.List Row.Entry
@@ -1836,7 +1836,7 @@ module _ (claims· : Claims) where
           d27 = Typed.g-pre 𝓤 H A W 𝓣 E G90 G91 b45 Δ0 (Typed.pass T90 T91 (s87 bs)) (at26 bs) (Scalar.g-room 𝓤 H A W E G90 33 (Syntax.tyStruct (List._∷_ 38 (List._∷_ 91 (List._∷_ 93 List.[]))) (Syntax.tcons (Syntax.tyRef Syntax.erased Syntax.imm (Syntax.tyInt Syntax.w64)) (Syntax.tcons (Syntax.tyInt Syntax.w64) Syntax.tnil))) (Shared.room-sslice 𝓤 H A W (DenSigned.SInt Syntax.w64) (Syntax.tyRef Syntax.erased Syntax.imm (Syntax.tyInt Syntax.w64)) 13)) d26
 
           d28 : Typed.Typed 𝓤 H A 𝓣 E G89 b46 Δ0 (at28 bs)
-          d28 = Typed.s-seq 𝓤 H A W 𝓣 E G89 G90 b42 b45 Δ0 (Typed.both (s86 bs)) (at27 bs) (Plain.t-call-plain 𝓤 H A W 𝓣 3 ps·8 r·8 (claims· .16) (claims· .17) "neutrality::put_finals" (known .8) E (λ pos β. β) G89 (record { pos = 1; ty = Syntax.tyRef (Syntax.named 0) Syntax.imm (Syntax.tyInt Syntax.w8); ref = λ x. x }, (record { pos = 8; st = List.[]; d = 0; at = λ x. x }, (record { pos = 33; ty = Syntax.tyRef Syntax.erased Syntax.imm (Syntax.tyInt Syntax.w64); ref = λ x. x }, (record { pos = 35; ty = Syntax.tyRef Syntax.erased Syntax.mut (Syntax.tyInt Syntax.w64); ref = λ x. x }, tt)))) 17 (List._∷_ 0 (List._∷_ 13 (List._∷_ 14 List.[]))) (Call.sub-id 𝓤 H A W (G89 .slots)) (ShrSlice.spares-sslice 𝓤 H A W (Referent.rtF (Referent.fInt Syntax.w8)) (Syntax.tyRef (Syntax.named 0) Syntax.imm (Syntax.tyInt Syntax.w8)) 0, Shared.reads-sslice 𝓤 H A W (Referent.rtF (Referent.fInt Syntax.w8)) (Syntax.tyRef (Syntax.named 0) Syntax.imm (Syntax.tyInt Syntax.w8)) 0, Path'.refl, ((Yields.yields-copy 𝓤 H A W (λ ρ. Unit) (Declared'.row Head.the-type) Path'.refl (Copies.cStruct Head.the-type Laws.the-laws Laws.the-copy .copy 𝓤 H A W) (Rows'.whole (Declared'.row Head.the-type)) (λ x. x) (λ x. x) (λ ρ told. Local.mem-whole 𝓤 H A W (Declared'.row Head.the-type) ρ) λ ρ told. Local.whole-mem 𝓤 H A W (Declared'.row Head.the-type) ρ, Path'.refl), (ShrSlice.spares-sslice 𝓤 H A W (DenSigned.SInt Syntax.w64) (Syntax.tyRef Syntax.erased Syntax.imm (Syntax.tyInt Syntax.w64)) 13, Shared.reads-sslice 𝓤 H A W (DenSigned.SInt Syntax.w64) (Syntax.tyRef Syntax.erased Syntax.imm (Syntax.tyInt Syntax.w64)) 13, Path'.refl, (Reads'.as-is 𝓤 H A (Mut.mslice (DenSigned.SInt Syntax.w64) (Syntax.tyRef Syntax.erased Syntax.mut (Syntax.tyInt Syntax.w64)) 14), Mut.reads-mslice 𝓤 H A W (DenSigned.SInt Syntax.w64) (Syntax.tyRef Syntax.erased Syntax.mut (Syntax.tyInt Syntax.w64)) 14, Path'.refl, tt)))) (Reads'.room-gone 𝓤 H A Syntax.tyUnit) (tt, (tt, (tt, tt))) Path'.refl) d27
+          d28 = Typed.s-seq 𝓤 H A W 𝓣 E G89 G90 b42 b45 Δ0 (Typed.both (s86 bs)) (at27 bs) (Plain.t-call-plain 𝓤 H A W 𝓣 3 ps·8 r·8 (claims· .16) (claims· .17) "bymember::neutrality::put_finals" (known .8) E (λ pos β. β) G89 (record { pos = 1; ty = Syntax.tyRef (Syntax.named 0) Syntax.imm (Syntax.tyInt Syntax.w8); ref = λ x. x }, (record { pos = 8; st = List.[]; d = 0; at = λ x. x }, (record { pos = 33; ty = Syntax.tyRef Syntax.erased Syntax.imm (Syntax.tyInt Syntax.w64); ref = λ x. x }, (record { pos = 35; ty = Syntax.tyRef Syntax.erased Syntax.mut (Syntax.tyInt Syntax.w64); ref = λ x. x }, tt)))) 17 (List._∷_ 0 (List._∷_ 13 (List._∷_ 14 List.[]))) (Call.sub-id 𝓤 H A W (G89 .slots)) (ShrSlice.spares-sslice 𝓤 H A W (Referent.rtF (Referent.fInt Syntax.w8)) (Syntax.tyRef (Syntax.named 0) Syntax.imm (Syntax.tyInt Syntax.w8)) 0, Shared.reads-sslice 𝓤 H A W (Referent.rtF (Referent.fInt Syntax.w8)) (Syntax.tyRef (Syntax.named 0) Syntax.imm (Syntax.tyInt Syntax.w8)) 0, Path'.refl, ((Yields.yields-copy 𝓤 H A W (λ ρ. Unit) (Declared'.row Head.the-type) Path'.refl (Copies.cStruct Head.the-type Laws.the-laws Laws.the-copy .copy 𝓤 H A W) (Rows'.whole (Declared'.row Head.the-type)) (λ x. x) (λ x. x) (λ ρ told. Local.mem-whole 𝓤 H A W (Declared'.row Head.the-type) ρ) λ ρ told. Local.whole-mem 𝓤 H A W (Declared'.row Head.the-type) ρ, Path'.refl), (ShrSlice.spares-sslice 𝓤 H A W (DenSigned.SInt Syntax.w64) (Syntax.tyRef Syntax.erased Syntax.imm (Syntax.tyInt Syntax.w64)) 13, Shared.reads-sslice 𝓤 H A W (DenSigned.SInt Syntax.w64) (Syntax.tyRef Syntax.erased Syntax.imm (Syntax.tyInt Syntax.w64)) 13, Path'.refl, (Reads'.as-is 𝓤 H A (Mut.mslice (DenSigned.SInt Syntax.w64) (Syntax.tyRef Syntax.erased Syntax.mut (Syntax.tyInt Syntax.w64)) 14), Mut.reads-mslice 𝓤 H A W (DenSigned.SInt Syntax.w64) (Syntax.tyRef Syntax.erased Syntax.mut (Syntax.tyInt Syntax.w64)) 14, Path'.refl, tt)))) (Reads'.room-gone 𝓤 H A Syntax.tyUnit) (tt, (tt, (tt, tt))) Path'.refl) d27
 
           d29 : Typed.Typed 𝓤 H A 𝓣 E G88 b47 Δ0 (at29 bs)
           d29 = Typed.s-seq 𝓤 H A W 𝓣 E G88 G89 b41 b46 Δ0 (Typed.ask (s85 bs)) (at28 bs) (Relend.t-sl-aggregate 𝓤 H A W E (DenSigned.SInt Syntax.w64) 𝓣 (Relend.asMut (DenSigned.SInt Syntax.w64)) G88 34 35 14 (Syntax.tyRef Syntax.erased Syntax.mut (Syntax.tyInt Syntax.w64)) (Syntax.tyRef Syntax.erased Syntax.mut (Syntax.tyInt Syntax.w64)) (λ x. x) (Scalar.oFld 4 (List._∷_ (Syntax.field 1) List.[]) (Syntax.tyInt Syntax.w64) 8 λ v. Shared.lenV (v .0)) (Reads'.as-is 𝓤 H A (Relend.msptr (DenSigned.SInt Syntax.w64) (Syntax.tyRef Syntax.erased Syntax.mut (Syntax.tyInt Syntax.w64)) 14)) (Reads'.room-gone 𝓤 H A (Syntax.tyStruct (List._∷_ 38 (List._∷_ 91 (List._∷_ 93 List.[]))) (Syntax.tcons (Syntax.tyRef Syntax.erased Syntax.mut (Syntax.tyInt Syntax.w64)) (Syntax.tcons (Syntax.tyInt Syntax.w64) Syntax.tnil)))) (Relend.reads-owed-len 𝓤 H A W (DenSigned.SInt Syntax.w64) (Syntax.tyRef (Syntax.named 3) Syntax.mut (Syntax.tyInt Syntax.w64)) 3 14 (Row.lease (κs .1 .1 .1 .0) (qs .1 .1 .1 .0)) 8 Path'.refl, Path'.refl) Path'.refl Path'.refl λ b o k. tt) d28
@@ -1881,7 +1881,7 @@ module _ (claims· : Claims) where
           d42 = Typed.g-pre 𝓤 H A W 𝓣 E G75 G76 b50 Δ0 (Typed.pass T75 T76 (s72 bs)) (at41 bs) (Scalar.g-room 𝓤 H A W E G75 29 (Syntax.tyStruct (List._∷_ 38 (List._∷_ 91 (List._∷_ 93 List.[]))) (Syntax.tcons (Syntax.tyRef Syntax.erased Syntax.imm LineKit.behind) (Syntax.tcons (Syntax.tyInt Syntax.w64) Syntax.tnil))) (Shared.room-sslice 𝓤 H A W (LineKit.R) (Syntax.tyRef Syntax.erased Syntax.imm LineKit.behind) 11)) d41
 
           d43 : Typed.Typed 𝓤 H A 𝓣 E G74 b51 Δ0 (at43 bs)
-          d43 = Typed.s-seq 𝓤 H A W 𝓣 E G74 G75 b37 b50 Δ0 (Typed.both (s71 bs)) (at42 bs) (Plain.t-call-plain 𝓤 H A W 𝓣 2 ps·7 r·7 (claims· .14) (claims· .15) "lines::put_charges" (known .7) E (λ pos β. β) G74 (record { pos = 29; ty = Syntax.tyRef Syntax.erased Syntax.imm LineKit.behind; ref = λ x. x }, (Num.vFld 8 (List._∷_ (Syntax.field 0) List.[]) 0 λ x. Head.struct .as-values x .0, (record { pos = 31; ty = Syntax.tyRef Syntax.erased Syntax.mut (Syntax.tyInt Syntax.w64); ref = λ x. x }, tt))) 17 (List._∷_ 11 (List._∷_ 12 List.[])) (Call.sub-id 𝓤 H A W (G74 .slots)) (ShrSlice.spares-sslice 𝓤 H A W (LineKit.R) (Syntax.tyRef Syntax.erased Syntax.imm LineKit.behind) 11, Shared.reads-sslice 𝓤 H A W (LineKit.R) (Syntax.tyRef Syntax.erased Syntax.imm LineKit.behind) 11, Path'.refl, ((Reads.reads-field 𝓤 H A W Head.the-type Laws.the-laws 0 (Syntax.tyInt Syntax.w64) 0 Path'.refl, Path'.refl), (Reads'.as-is 𝓤 H A (Mut.mslice (DenSigned.SInt Syntax.w64) (Syntax.tyRef Syntax.erased Syntax.mut (Syntax.tyInt Syntax.w64)) 12), Mut.reads-mslice 𝓤 H A W (DenSigned.SInt Syntax.w64) (Syntax.tyRef Syntax.erased Syntax.mut (Syntax.tyInt Syntax.w64)) 12, Path'.refl, tt))) (Reads'.room-gone 𝓤 H A Syntax.tyUnit) (tt, (tt, tt)) Path'.refl) d42
+          d43 = Typed.s-seq 𝓤 H A W 𝓣 E G74 G75 b37 b50 Δ0 (Typed.both (s71 bs)) (at42 bs) (Plain.t-call-plain 𝓤 H A W 𝓣 2 ps·7 r·7 (claims· .14) (claims· .15) "bymember::put_charges" (known .7) E (λ pos β. β) G74 (record { pos = 29; ty = Syntax.tyRef Syntax.erased Syntax.imm LineKit.behind; ref = λ x. x }, (Num.vFld 8 (List._∷_ (Syntax.field 0) List.[]) 0 λ x. Head.struct .as-values x .0, (record { pos = 31; ty = Syntax.tyRef Syntax.erased Syntax.mut (Syntax.tyInt Syntax.w64); ref = λ x. x }, tt))) 17 (List._∷_ 11 (List._∷_ 12 List.[])) (Call.sub-id 𝓤 H A W (G74 .slots)) (ShrSlice.spares-sslice 𝓤 H A W (LineKit.R) (Syntax.tyRef Syntax.erased Syntax.imm LineKit.behind) 11, Shared.reads-sslice 𝓤 H A W (LineKit.R) (Syntax.tyRef Syntax.erased Syntax.imm LineKit.behind) 11, Path'.refl, ((Reads.reads-field 𝓤 H A W Head.the-type Laws.the-laws 0 (Syntax.tyInt Syntax.w64) 0 Path'.refl, Path'.refl), (Reads'.as-is 𝓤 H A (Mut.mslice (DenSigned.SInt Syntax.w64) (Syntax.tyRef Syntax.erased Syntax.mut (Syntax.tyInt Syntax.w64)) 12), Mut.reads-mslice 𝓤 H A W (DenSigned.SInt Syntax.w64) (Syntax.tyRef Syntax.erased Syntax.mut (Syntax.tyInt Syntax.w64)) 12, Path'.refl, tt))) (Reads'.room-gone 𝓤 H A Syntax.tyUnit) (tt, (tt, tt)) Path'.refl) d42
 
           d44 : Typed.Typed 𝓤 H A 𝓣 E G73 b52 Δ0 (at44 bs)
           d44 = Typed.s-seq 𝓤 H A W 𝓣 E G73 G74 b36 b51 Δ0 (Typed.ask (s70 bs)) (at43 bs) (Relend.t-sl-aggregate 𝓤 H A W E (DenSigned.SInt Syntax.w64) 𝓣 (Relend.asMut (DenSigned.SInt Syntax.w64)) G73 30 31 12 (Syntax.tyRef Syntax.erased Syntax.mut (Syntax.tyInt Syntax.w64)) (Syntax.tyRef Syntax.erased Syntax.mut (Syntax.tyInt Syntax.w64)) (λ x. x) (Scalar.oFld 3 (List._∷_ (Syntax.field 1) List.[]) (Syntax.tyInt Syntax.w64) 8 λ v. Shared.lenV (v .0)) (Reads'.as-is 𝓤 H A (Relend.msptr (DenSigned.SInt Syntax.w64) (Syntax.tyRef Syntax.erased Syntax.mut (Syntax.tyInt Syntax.w64)) 12)) (Reads'.room-gone 𝓤 H A (Syntax.tyStruct (List._∷_ 38 (List._∷_ 91 (List._∷_ 93 List.[]))) (Syntax.tcons (Syntax.tyRef Syntax.erased Syntax.mut (Syntax.tyInt Syntax.w64)) (Syntax.tcons (Syntax.tyInt Syntax.w64) Syntax.tnil)))) (Relend.reads-owed-len 𝓤 H A W (DenSigned.SInt Syntax.w64) (Syntax.tyRef (Syntax.named 2) Syntax.mut (Syntax.tyInt Syntax.w64)) 2 12 (Row.lease (κs .1 .1 .0) (qs .1 .1 .0)) 8 Path'.refl, Path'.refl) Path'.refl Path'.refl λ b o k. tt) d43
@@ -1938,7 +1938,7 @@ module _ (claims· : Claims) where
           d61 = Typed.g-pre 𝓤 H A W 𝓣 E G56 G57 b55 Δ0 (Typed.pass T56 T57 (s53 bs)) (at60 bs) (Scalar.g-room 𝓤 H A W E G56 23 (Syntax.tyStruct (List._∷_ 38 (List._∷_ 91 (List._∷_ 93 List.[]))) (Syntax.tcons (Syntax.tyRef Syntax.erased Syntax.imm (Syntax.tyInt Syntax.w64)) (Syntax.tcons (Syntax.tyInt Syntax.w64) Syntax.tnil))) (Shared.room-sslice 𝓤 H A W (DenSigned.SInt Syntax.w64) (Syntax.tyRef Syntax.erased Syntax.imm (Syntax.tyInt Syntax.w64)) 8)) d60
 
           d62 : Typed.Typed 𝓤 H A 𝓣 E G55 b56 Δ0 (at62 bs)
-          d62 = Typed.s-seq 𝓤 H A W 𝓣 E G55 G56 b32 b55 Δ0 (Typed.both (s52 bs)) (at61 bs) (Plain.t-call-plain 𝓤 H A W 𝓣 4 ps·6 r·6 (claims· .12) (claims· .13) "lines::put_lines" (known .6) E (λ pos β. β) G55 (record { pos = 1; ty = Syntax.tyRef (Syntax.named 0) Syntax.imm (Syntax.tyInt Syntax.w8); ref = λ x. x }, (record { pos = 8; st = List.[]; d = 0; at = λ x. x }, (record { pos = 23; ty = Syntax.tyRef Syntax.erased Syntax.imm (Syntax.tyInt Syntax.w64); ref = λ x. x }, (record { pos = 25; ty = Syntax.tyRef Syntax.erased Syntax.imm (Syntax.tyInt Syntax.w64); ref = λ x. x }, (record { pos = 27; ty = Syntax.tyRef Syntax.erased Syntax.mut LineKit.behind; ref = λ x. x }, tt))))) 17 (List._∷_ 0 (List._∷_ 8 (List._∷_ 9 (List._∷_ 10 List.[])))) (Call.sub-id 𝓤 H A W (G55 .slots)) (ShrSlice.spares-sslice 𝓤 H A W (Referent.rtF (Referent.fInt Syntax.w8)) (Syntax.tyRef (Syntax.named 0) Syntax.imm (Syntax.tyInt Syntax.w8)) 0, Shared.reads-sslice 𝓤 H A W (Referent.rtF (Referent.fInt Syntax.w8)) (Syntax.tyRef (Syntax.named 0) Syntax.imm (Syntax.tyInt Syntax.w8)) 0, Path'.refl, ((Yields.yields-copy 𝓤 H A W (λ ρ. Unit) (Declared'.row Head.the-type) Path'.refl (Copies.cStruct Head.the-type Laws.the-laws Laws.the-copy .copy 𝓤 H A W) (Rows'.whole (Declared'.row Head.the-type)) (λ x. x) (λ x. x) (λ ρ told. Local.mem-whole 𝓤 H A W (Declared'.row Head.the-type) ρ) λ ρ told. Local.whole-mem 𝓤 H A W (Declared'.row Head.the-type) ρ, Path'.refl), (ShrSlice.spares-sslice 𝓤 H A W (DenSigned.SInt Syntax.w64) (Syntax.tyRef Syntax.erased Syntax.imm (Syntax.tyInt Syntax.w64)) 8, Shared.reads-sslice 𝓤 H A W (DenSigned.SInt Syntax.w64) (Syntax.tyRef Syntax.erased Syntax.imm (Syntax.tyInt Syntax.w64)) 8, Path'.refl, (ShrSlice.spares-sslice 𝓤 H A W (DenSigned.SInt Syntax.w64) (Syntax.tyRef Syntax.erased Syntax.imm (Syntax.tyInt Syntax.w64)) 9, Shared.reads-sslice 𝓤 H A W (DenSigned.SInt Syntax.w64) (Syntax.tyRef Syntax.erased Syntax.imm (Syntax.tyInt Syntax.w64)) 9, Path'.refl, (Reads'.as-is 𝓤 H A (Mut.mslice (LineKit.R) (Syntax.tyRef Syntax.erased Syntax.mut LineKit.behind) 10), Mut.reads-mslice 𝓤 H A W (LineKit.R) (Syntax.tyRef Syntax.erased Syntax.mut LineKit.behind) 10, Path'.refl, tt))))) (Reads'.room-gone 𝓤 H A Syntax.tyUnit) (tt, (tt, (tt, (tt, tt)))) Path'.refl) d61
+          d62 = Typed.s-seq 𝓤 H A W 𝓣 E G55 G56 b32 b55 Δ0 (Typed.both (s52 bs)) (at61 bs) (Plain.t-call-plain 𝓤 H A W 𝓣 4 ps·6 r·6 (claims· .12) (claims· .13) "bymember::put_lines" (known .6) E (λ pos β. β) G55 (record { pos = 1; ty = Syntax.tyRef (Syntax.named 0) Syntax.imm (Syntax.tyInt Syntax.w8); ref = λ x. x }, (record { pos = 8; st = List.[]; d = 0; at = λ x. x }, (record { pos = 23; ty = Syntax.tyRef Syntax.erased Syntax.imm (Syntax.tyInt Syntax.w64); ref = λ x. x }, (record { pos = 25; ty = Syntax.tyRef Syntax.erased Syntax.imm (Syntax.tyInt Syntax.w64); ref = λ x. x }, (record { pos = 27; ty = Syntax.tyRef Syntax.erased Syntax.mut LineKit.behind; ref = λ x. x }, tt))))) 17 (List._∷_ 0 (List._∷_ 8 (List._∷_ 9 (List._∷_ 10 List.[])))) (Call.sub-id 𝓤 H A W (G55 .slots)) (ShrSlice.spares-sslice 𝓤 H A W (Referent.rtF (Referent.fInt Syntax.w8)) (Syntax.tyRef (Syntax.named 0) Syntax.imm (Syntax.tyInt Syntax.w8)) 0, Shared.reads-sslice 𝓤 H A W (Referent.rtF (Referent.fInt Syntax.w8)) (Syntax.tyRef (Syntax.named 0) Syntax.imm (Syntax.tyInt Syntax.w8)) 0, Path'.refl, ((Yields.yields-copy 𝓤 H A W (λ ρ. Unit) (Declared'.row Head.the-type) Path'.refl (Copies.cStruct Head.the-type Laws.the-laws Laws.the-copy .copy 𝓤 H A W) (Rows'.whole (Declared'.row Head.the-type)) (λ x. x) (λ x. x) (λ ρ told. Local.mem-whole 𝓤 H A W (Declared'.row Head.the-type) ρ) λ ρ told. Local.whole-mem 𝓤 H A W (Declared'.row Head.the-type) ρ, Path'.refl), (ShrSlice.spares-sslice 𝓤 H A W (DenSigned.SInt Syntax.w64) (Syntax.tyRef Syntax.erased Syntax.imm (Syntax.tyInt Syntax.w64)) 8, Shared.reads-sslice 𝓤 H A W (DenSigned.SInt Syntax.w64) (Syntax.tyRef Syntax.erased Syntax.imm (Syntax.tyInt Syntax.w64)) 8, Path'.refl, (ShrSlice.spares-sslice 𝓤 H A W (DenSigned.SInt Syntax.w64) (Syntax.tyRef Syntax.erased Syntax.imm (Syntax.tyInt Syntax.w64)) 9, Shared.reads-sslice 𝓤 H A W (DenSigned.SInt Syntax.w64) (Syntax.tyRef Syntax.erased Syntax.imm (Syntax.tyInt Syntax.w64)) 9, Path'.refl, (Reads'.as-is 𝓤 H A (Mut.mslice (LineKit.R) (Syntax.tyRef Syntax.erased Syntax.mut LineKit.behind) 10), Mut.reads-mslice 𝓤 H A W (LineKit.R) (Syntax.tyRef Syntax.erased Syntax.mut LineKit.behind) 10, Path'.refl, tt))))) (Reads'.room-gone 𝓤 H A Syntax.tyUnit) (tt, (tt, (tt, (tt, tt)))) Path'.refl) d61
 
           d63 : Typed.Typed 𝓤 H A 𝓣 E G54 b57 Δ0 (at63 bs)
           d63 = Typed.s-seq 𝓤 H A W 𝓣 E G54 G55 b31 b56 Δ0 (Typed.ask (s51 bs)) (at62 bs) (Relend.t-sl-aggregate 𝓤 H A W E (LineKit.R) 𝓣 (Relend.asMut (LineKit.R)) G54 26 27 10 (Syntax.tyRef Syntax.erased Syntax.mut LineKit.behind) (Syntax.tyRef Syntax.erased Syntax.mut LineKit.behind) (λ x. x) (Scalar.oFld 2 (List._∷_ (Syntax.field 1) List.[]) (Syntax.tyInt Syntax.w64) 8 λ v. Shared.lenV (v .0)) (Reads'.as-is 𝓤 H A (Relend.msptr (LineKit.R) (Syntax.tyRef Syntax.erased Syntax.mut LineKit.behind) 10)) (Reads'.room-gone 𝓤 H A (Syntax.tyStruct (List._∷_ 38 (List._∷_ 91 (List._∷_ 93 List.[]))) (Syntax.tcons (Syntax.tyRef Syntax.erased Syntax.mut LineKit.behind) (Syntax.tcons (Syntax.tyInt Syntax.w64) Syntax.tnil)))) (Relend.reads-owed-len 𝓤 H A W (LineKit.R) (Syntax.tyRef (Syntax.named 1) Syntax.mut LineKit.behind) 1 10 (Row.lease (κs .1 .0) (qs .1 .0)) 8 Path'.refl, Path'.refl) Path'.refl Path'.refl λ b o k. tt) d62
@@ -2692,6 +2692,6 @@ module _ (claims· : Claims) where
           pub asked : (a : Kinds.Dens κs ps) → (good : Kinds.GoodsP κs ps a) → (pre : Pre· κs a) → (bs : List.List Nat.ℕ) → Φ bs (Any.wantQ 6 ps r xs m κs qs a (Post· κs a)) (Function.init 6 ps r xs m κs qs a)
           asked = λ a good pre bs. laid record { κs = κs; args = record { file = a .0; lines = a .1 .0; charges = a .1 .1 .0; finals = a .1 .1 .1 .0; shares = a .1 .1 .1 .1 .0; deviations = a .1 .1 .1 .1 .1 .0 }; blocks = bs; good = good; pre = pre }
 
-        module _ {M : Type 1} (𝓤 : URA.URA M) (H : Wp.Heap 𝓤) (A : Atoms.Atoms 𝓤) (W : Kit.Given 𝓤 H A) (𝓣 : Wp.Tables 𝓤 H) (known0 : Plain.Known 𝓤 H A W 𝓣 1 ps·0 r·0 (claims· .0) (claims· .1) "examine::examine") (known1 : Plain.Known 𝓤 H A W 𝓣 0 ps·1 r·1 (claims· .2) (claims· .3) "answer::refused") (known2 : Plain.Known 𝓤 H A W 𝓣 1 ps·2 r·2 (claims· .4) (claims· .5) "hour::head_of") (known3 : Plain.Known 𝓤 H A W 𝓣 1 ps·3 r·3 (claims· .6) (claims· .7) "pool::answered") (known4 : Plain.Known 𝓤 H A W 𝓣 2 ps·4 r·4 (claims· .8) (claims· .9) "byrecord::deviations::put_deviations") (known5 : Plain.Known 𝓤 H A W 𝓣 2 ps·5 r·5 (claims· .10) (claims· .11) "pool::put_shares") (known6 : Plain.Known 𝓤 H A W 𝓣 4 ps·6 r·6 (claims· .12) (claims· .13) "lines::put_lines") (known7 : Plain.Known 𝓤 H A W 𝓣 2 ps·7 r·7 (claims· .14) (claims· .15) "lines::put_charges") (known8 : Plain.Known 𝓤 H A W 𝓣 3 ps·8 r·8 (claims· .16) (claims· .17) "neutrality::put_finals") where
+        module _ {M : Type 1} (𝓤 : URA.URA M) (H : Wp.Heap 𝓤) (A : Atoms.Atoms 𝓤) (W : Kit.Given 𝓤 H A) (𝓣 : Wp.Tables 𝓤 H) (known0 : Plain.Known 𝓤 H A W 𝓣 1 ps·0 r·0 (claims· .0) (claims· .1) "examine::examine") (known1 : Plain.Known 𝓤 H A W 𝓣 0 ps·1 r·1 (claims· .2) (claims· .3) "answer::refused") (known2 : Plain.Known 𝓤 H A W 𝓣 1 ps·2 r·2 (claims· .4) (claims· .5) "hour::head_of") (known3 : Plain.Known 𝓤 H A W 𝓣 1 ps·3 r·3 (claims· .6) (claims· .7) "pool::answered") (known4 : Plain.Known 𝓤 H A W 𝓣 2 ps·4 r·4 (claims· .8) (claims· .9) "byrecord::deviations::put_deviations") (known5 : Plain.Known 𝓤 H A W 𝓣 2 ps·5 r·5 (claims· .10) (claims· .11) "pool::put_shares") (known6 : Plain.Known 𝓤 H A W 𝓣 4 ps·6 r·6 (claims· .12) (claims· .13) "bymember::put_lines") (known7 : Plain.Known 𝓤 H A W 𝓣 2 ps·7 r·7 (claims· .14) (claims· .15) "bymember::put_charges") (known8 : Plain.Known 𝓤 H A W 𝓣 3 ps·8 r·8 (claims· .16) (claims· .17) "bymember::neutrality::put_finals") where
           pub spec : Statement.Triple 𝓤 (Wp.WpFn 𝓤 H (𝓣 .C) (𝓣 .Λ) (Function.fnOf 6 ps r xs m hs body)) (Function.plainOf 𝓤 H A 6 ps r Pre· Post·)
           spec = Plain.t-fn-plain 𝓤 H A W 𝓣 6 ps r xs m hs body (λ κs qs bs. Φ bs) (λ κs qs bs bd. typed κs qs 𝓤 H A W 𝓣 (known0, known1, known2, known3, known4, known5, known6, known7, known8) bs bd) Pre· Post· asked

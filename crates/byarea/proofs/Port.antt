@@ -1,0 +1,3 @@
+-- Made by `python3 tools/walk byarea`.
+pub mod TallyKit
+pub mod post

@@ -1,0 +1,142 @@
+-- The steps to the finals: charges added up to N, members' demands gathered, the engine asked with them, each share taken off its charge.
+use mathlib.Core.Path.{_≡_, refl, sym, _∙_, ap}
+use mathlib.Core.Bool.{cond}
+use mathlib.Core.List.{List}
+use Prim.Native.Nat.{ℕ, _+_, _≤_, _<_}
+use native.Mathlib.Nat.{le-refl, le-of-lt}
+use native.Mathlib.Omega.{arith}
+use lib.Dec.{eqb}
+use lib.IntN.{ℤ, natAbs, _+ℤ_, _-ℤ_}
+use lib.ListN.{length, getD}
+use mir.Syntax.{w64}
+use mir.Val.{SFits, toZ}
+use Rattle.whole.specs.Below.{sumBelow, totalBelow, replacingFirst}
+use Rattle.whole.specs.Signed.{withSignOf}
+use Rattle.whole.proofs.Sums.{all-count, sum-ext, sum-prefix, sum-at}
+use Rattle.whole.proofs.Totals.{total-add-one}
+use Rattle.whole.proofs.Buffers.{getD-replacing, length-replacing, replacing-ext}
+use Rattle.whole.proofs.Adding.{Added, sumsBy, all-added}
+use Rattle.whole.proofs.Machine.{Num, local, result, _:+_, _:-_, fits, stored, back}
+use Rattle.rules.specs.Record.{Hour, members, memberOf}
+use Rattle.rules.specs.Share.{allDemand, shareSize, share}
+use Rattle.rules.specs.Charge.{charge}
+use Rattle.rules.specs.Neutrality.{everyMember, memberDemand, hourDemand, neutrality, neutralityShare, final}
+use Rattle.rules.specs.Inner.Posting.{demandOf}
+use Rattle.rules.specs.Inner.Kept.{HourKept}
+use Rattle.rules.proofs.Shares.{gathered-shares, size-at-most}
+use Rattle.rules.proofs.Bounds.{charge-under}
+use Rattle.rules.proofs.Neutral.{member-demand-by-record, hour-demand-most, charges-running, neutrality-under, neutrality-share-under}
+use Rattle.share.specs.Shareable.{at, everyone, demanded, Shareable, sharesIn}
+use Rattle.share.proofs.Uses.{neutrality-shareable}
+use Rattle.rules.specs.HourFile.{hourIn}
+use Rattle.bymember.specs.Charged.{sizeOf, Sized}
+
+module _ {h : Hour} (kept : HourKept h) where
+  -- ---- N: the charges before member m are added up, and its charge is known
+
+  module _ (m : ℕ) (there : m < members h) (sum : ℕ) {x : ℤ} (so-far : toZ w64 sum ≡ totalBelow (charge h) m) (next : x ≡ charge h m) where
+    abbrev more : Num
+    more = local so-far (charges-running kept m (le-of-lt there)) :+ result next (charge-under kept m)
+
+    pub charge-fits : SFits w64 (toZ w64 sum +ℤ back x)
+    charge-fits = fits more tt
+
+    pub charge-added : back (toZ w64 sum +ℤ back x) ≡ totalBelow (charge h) (m + 1)
+    charge-added = stored more tt ∙ sym (total-add-one (charge h) m)
+
+  -- ---- the members' demands, record by record
+
+  abbrev pub demandsAfter : ℕ → ℕ → ℕ
+  demandsAfter = sumsBy (memberOf h) (demandOf h)
+
+  pub demand-running : (i m : ℕ) → i ≤ h .count → m < members h → demandsAfter i m ≤ 25000000
+  unfolding hourDemand allDemand
+  demand-running i m l there = omega (
+    arith,
+    sum-prefix (λ j. cond (eqb (memberOf h j) m) (demandOf h j) 0) i (h .count) l,
+    member-demand-by-record h m,
+    sum-at (memberDemand h) (members h) m there,
+    hour-demand-most kept,
+  )
+
+  pub demands-are : {i : ℕ} {old out : List ℕ} → Added demandsAfter (members h) (h .count) i old out → h .count ≤ i →
+      out ≡ replacingFirst (memberDemand h) (members h) old
+  demands-are {i} {old} added ended =
+      all-added added ended ∙ replacing-ext _ (memberDemand h) (members h) old (λ m l. sym (member-demand-by-record h m))
+
+-- ---- the engine is asked: in `demands` stand the members', which were put where `lent` was
+
+pub record Asked (h : Hour) (lent demands : List ℕ) : Type 0 where
+  pub kept : HourKept h
+  pub room : length lent ≡ members h
+  pub put : demands ≡ replacingFirst (memberDemand h) (members h) lent
+
+module _ {h : Hour} {lent demands : List ℕ} (q : Asked h lent demands) where
+  abbrev n : ℕ
+  n = members h
+
+  abbrev N : ℕ
+  N = natAbs (neutrality h)
+
+  as-many : length demands ≡ n
+  as-many = ap length (q .put) ∙ length-replacing (memberDemand h) n lent (omega (arith, q .room)) ∙ q .room
+
+  demand-at : (m : ℕ) → m < n → at demands m ≡ memberDemand h m
+  demand-at m l = rw (q .put) (getD-replacing (memberDemand h) n lent m 0 l)
+
+  all-demanded : demanded demands ≡ hourDemand h
+  unfolding hourDemand allDemand
+  all-demanded = ap (sumBelow (at demands)) as-many ∙ sum-ext (at demands) (memberDemand h) n demand-at
+
+  pub shareable : Shareable demands N demands
+  shareable = neutrality-shareable demands N demands (le-refl (length demands)) (omega (arith, as-many, q .kept .members-most))
+      (omega (arith, all-demanded, hour-demand-most (q .kept))) (omega (arith, neutrality-under (q .kept) .under))
+
+  -- the sizes stand where the demands stood
+  module _ {got : List ℕ} (shared : got ≡ sharesIn demands N demands) where
+    got-as-many : length got ≡ n
+    got-as-many = ap length shared ∙ length-replacing _ (length demands) demands (le-refl (length demands)) ∙ as-many
+
+    everybody-takes-part : (m : ℕ) → m < n → shareSize everyone (at demands) n N m ≡ sizeOf h m
+    unfolding sizeOf
+    everybody-takes-part m l =
+        rw (all-count n, all-count m)
+        at (gathered-shares everyMember (memberDemand h) (at demands) n N (λ j k t. rw (all-count j) (demand-at j k)) m l refl)
+
+    got-at : (m : ℕ) → m < n → getD got m 0 ≡ sizeOf h m
+    got-at m l =
+        ap (λ (g : List ℕ). getD g m 0) shared
+        ∙ getD-replacing _ (length demands) demands m 0 (omega (arith, as-many))
+        ∙ ap (λ (k : ℕ). shareSize everyone (at demands) k N m) as-many
+        ∙ everybody-takes-part m l
+
+-- N, as it was added up, and the engine's sizes are all that is needed to take the shares off
+pub sized : {s : List ℕ} {lent demands got : List ℕ} {all : ℤ} → Asked (hourIn s) lent demands → all ≡ neutrality (hourIn s) →
+    got ≡ sharesIn demands (natAbs (neutrality (hourIn s))) demands → Sized s all got
+sized q all-is shared = record { all-is = all-is; as-many = got-as-many q shared; sizes-are = got-at q shared }
+
+-- ---- a share is taken off
+
+module _ {h : Hour} (kept : HourKept h) (m : ℕ) (there : m < members h) where
+  pub size-small : sizeOf h m < 9223372036854775808
+  unfolding sizeOf
+  size-small = omega (
+    arith,
+    size-at-most everyMember (memberDemand h) (members h) (natAbs (neutrality h)) m there,
+    neutrality-under kept .under,
+  )
+
+  module _ {x y : ℤ} (charged : x ≡ charge h m) (shared : y ≡ withSignOf (neutrality h) (sizeOf h m)) where
+    share-is : y ≡ neutralityShare h m
+    unfolding neutralityShare share sizeOf
+    share-is = shared
+
+    abbrev less : Num
+    less = result charged (charge-under kept m) :- result share-is (neutrality-share-under kept m there)
+
+    pub final-fits : SFits w64 (back x -ℤ back y)
+    final-fits = fits less tt
+
+    pub final-is : back (back x -ℤ back y) ≡ final h m
+    unfolding final
+    final-is = stored less tt

@@ -1,0 +1,3 @@
+-- Made by `python3 tools/walk bymember`.
+pub mod Kinds
+pub mod Reads

@@ -1,0 +1,31 @@
+-- `bymember::neutrality::no_demand` meets its contract: N is asked for only where nobody demands anything.
+use mathlib.Core.Path.{_≡_, sym, _∙_}
+use borrow.Author.Tests.{eqb-true}
+use Rattle.rules.specs.Neutrality.{hourDemand}
+use Rattle.rules.specs.Refusals.{noDemand}
+use Rattle.rules.specs.HourFile.{hourIn}
+use Rattle.bymember.proofs.neutrality.no_demand.Statement.{statement}
+use Rattle.bymember.proofs.neutrality.no_demand.Tie as tie
+
+nobody-demands-requires : tie.Need-nobody-demands-requires
+nobody-demands-requires c κs = c .before .pre
+
+-- nobody demands anything
+without-demand : (c : tie.Then1) → hourDemand (hourIn (c .before .before .before .args .file .now)) ≡ 0
+without-demand c = eqb-true _ _ (sym (c .before .nobody-demands .ensures) ∙ c .if1 .taken)
+
+left-over-requires : tie.Need-left-over-requires
+left-over-requires c κs = (c .before .before .before .pre .0, without-demand c)
+
+-- return left_over(file, head)
+returns : tie.Need-returns
+unfolding noDemand
+returns c = rw (c .left-over .ensures, without-demand (c .before))
+
+-- false
+returns-2 : tie.Need-returns-2
+unfolding noDemand
+returns-2 c = rw (sym (c .before .nobody-demands .ensures) ∙ c .if1 .left)
+
+pub no-demand-spec : {M : Type 1} → statement M
+no-demand-spec = tie.close (tie.spec nobody-demands-requires left-over-requires returns returns-2)

@@ -1,6 +1,0 @@
--- Made by `python3 tools/walk lines`.
-pub mod LineKit
-pub mod clear_lines
-pub mod post_line
-pub mod put_charges
-pub mod put_lines

@@ -1,2 +1,0 @@
--- What the contracts of `tally`, and of the crates that go on from a tally, cite beside `rules`.
-pub mod Posted
