@@ -20,7 +20,7 @@ pub fn write(cents: i64, field: &mut [u8]) -> Answer
     ensures verdict { λ r. ⌜ verdictOf r ≡ Settling.write (now (field .entry)) cents .verdict ⌝ }
     ensures field { λ r. ⌜ now (field .exit) ≡ Settling.write (now (field .entry)) cents .field ⌝ }
 {
-    if 999999999999 < sign::size_of(cents) {
+    if 999999999999 < whole::size_of(cents) {
         return Answer::OutOfRange;
     }
     let mut text = [b' '; 20];

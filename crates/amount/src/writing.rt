@@ -19,7 +19,7 @@ pub fn write_amount(text: &mut [u8; 20], cents: i64) -> usize
     ensures length { λ r. ⌜ r ≡ length (amountText cents) ⌝ }
     ensures text { λ r. ⌜ now (text .exit) ≡ amountField 20 cents ⌝ }
 {
-    let size = sign::size_of(cents);
+    let size = whole::size_of(cents);
     let tenth = size / 10;
     let dollars = size / 100;
     text[17] = b'.';

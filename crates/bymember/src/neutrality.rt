@@ -60,7 +60,7 @@ fn take_off(file: &[u8], charges: &[i64], all: i64, sizes: &[u64], finals: &mut 
 {
     let mut m = 0;
     while m < sizes.len() {
-        finals[m] = charges[m] - sign::with_sign_of(all, sizes[m]);
+        finals[m] = charges[m] - whole::with_sign_of(all, sizes[m]);
         m += 1;
     }
 }
@@ -74,7 +74,7 @@ fn share_out(file: &[u8], records: usize, charges: &[i64], room: &mut [u64], fin
 {
     let all = sum_of(file, charges, room.len());
     put_demands(file, records, room);
-    share::share_in_place(room, sign::size_of(all));
+    share::share_in_place(room, whole::size_of(all));
     take_off(file, charges, all, room, finals);
 }
 

@@ -78,7 +78,7 @@ fn put_share(
         (set (now (out .entry)) i (withSignOf figure (getD (now (sizes .entry)) loads 0))) (now (out .entry))) ⌝ }
 {
     if load_there(file, a, i) {
-        out[i] = sign::with_sign_of(figure, sizes[loads]);
+        out[i] = whole::with_sign_of(figure, sizes[loads]);
         return loads + 1;
     }
     loads
@@ -109,7 +109,7 @@ fn share_area(file: &[u8], a: usize, figure: i64, room: &mut [u64], out: &mut [i
         return;
     }
     let loads = put_demands(file, a, room);
-    share::share_in_place(&mut room[..loads], sign::size_of(figure));
+    share::share_in_place(&mut room[..loads], whole::size_of(figure));
     put_area(file, a, figure, room, out);
 }
 

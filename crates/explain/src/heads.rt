@@ -114,7 +114,7 @@ fn weight(charge: i64, head: i64) -> u64
     ensures { λ r. ⌜ r ≡ weightOf charge head ⌝ }
 {
     if same_sign(charge, head) {
-        return sign::size_of(head);
+        return whole::size_of(head);
     }
     0
 }

@@ -14,7 +14,7 @@ fn put_signed(out: &mut [u8], at: usize, number: i64) -> usize
     requires { ⌜ at + 21 ≤ length (now out) ⌝ }
     ensures { λ r. ⌜ Put (now (out .entry)) at (signedDecimal number) r (now (out .exit)) ⌝ }
 {
-    let size = sign::size_of(number);
+    let size = whole::size_of(number);
     if number < 0 {
         let after_sign = put_bytes(out, at, b"-");
         return put_number(out, after_sign, size);

@@ -42,5 +42,5 @@ pub fn print_signed(number: i64) {
     if number < 0 {
         print(b"-");
     }
-    say_unless(io::print_decimal(STDOUT_FILENO, sign::size_of(number)));
+    say_unless(io::print_decimal(STDOUT_FILENO, whole::size_of(number)));
 }

@@ -2,8 +2,8 @@
 use contract.Lifetimes.{Lfts}
 use Rattle.theorems.specs.Determined.{OneResult}
 use Rattle.theorems.proofs.Laws.{agree}
-use Rattle.sign.proofs.size_of.Reads as size-of
-use Rattle.sign.proofs.with_sign_of.Reads as with-sign-of
+use Rattle.whole.proofs.size_of.Reads as size-of
+use Rattle.whole.proofs.with_sign_of.Reads as with-sign-of
 use Rattle.answer.proofs.number_of.Reads as number-of
 use Rattle.answer.proofs.place_of.Reads as place-of
 use Rattle.answer.proofs.refused.Reads as refused

@@ -14,7 +14,7 @@ fn print_sizes(u: i64, sizes: &[u64])
     let mut i = 0;
     while i < sizes.len() {
         print(b" ");
-        print_signed(sign::with_sign_of(u, sizes[i]));
+        print_signed(whole::with_sign_of(u, sizes[i]));
         i += 1;
     }
 }
@@ -27,7 +27,7 @@ fn show_into(u: i64, demands: &[u64], sizes: &mut [u64])
     print_signed(u);
     print(b" over D");
     print_sizes(0, demands);
-    share::shares(demands, sign::size_of(u), sizes);
+    share::shares(demands, whole::size_of(u), sizes);
     print(b":");
     print_sizes(u, sizes);
     print(b"\n");

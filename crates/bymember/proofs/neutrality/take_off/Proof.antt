@@ -78,7 +78,7 @@ module _ (c : tie.After-with-sign-of Inv-loop μ-loop) where
       c .with-sign-of .ensures
       ∙ ap₂ withSignOf (read-back (start turn .fits .all) ∙ start turn .pre .1 .all-is) (sized turn)
 
--- charges[m] - sign::with_sign_of(all, sizes[m])
+-- charges[m] - whole::with_sign_of(all, sizes[m])
 sub-finals : tie.Need-sub-finals Inv-loop μ-loop
 sub-finals c = let t = turn c in final-fits (kept t) (at t .loop .m) (there t) (charged t) (shared c)
 
@@ -86,7 +86,7 @@ sub-finals c = let t = turn c in final-fits (kept t) (at t .loop .m) (there t) (
 mul-t16 : tie.Need-mul-t16 Inv-loop μ-loop
 mul-t16 c = let t = turn c in omega (arith, place-there (at t .loop .inv) (there t))
 
--- finals[m] = charges[m] - sign::with_sign_of(all, sizes[m])
+-- finals[m] = charges[m] - whole::with_sign_of(all, sizes[m])
 slice-set-from-finals : tie.Need-slice-set-from-finals Inv-loop μ-loop
 slice-set-from-finals c = let t = turn c in place-there (at t .loop .inv) (there t)
 

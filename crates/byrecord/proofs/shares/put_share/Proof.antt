@@ -43,7 +43,7 @@ with-sign-of-requires c κs =
 mul-t13 : tie.Need-mul-t13
 mul-t13 c = omega (arith, start (c .before .before .before) .pre .2)
 
--- out[i] = sign::with_sign_of(figure, sizes[loads])
+-- out[i] = whole::with_sign_of(figure, sizes[loads])
 slice-set-from-out : tie.Need-slice-set-from-out
 slice-set-from-out c = start (c .before .before .before) .pre .2
 

@@ -17,7 +17,7 @@ same-sign-requires c κs = search needs
 size-of-requires : tie.Need-size-of-requires
 size-of-requires c κs = search needs
 
--- return sign::size_of(head)
+-- return whole::size_of(head)
 returns : tie.Need-returns
 unfolding weightOf
 returns c =

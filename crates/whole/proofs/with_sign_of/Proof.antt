@@ -1,12 +1,12 @@
--- `sign::with_sign_of` meets its contract: a size below 2^63 has a negative.
+-- `whole::with_sign_of` meets its contract: a size below 2^63 has a negative.
 use mathlib.Core.Path.{sym, _∙_}
 use native.Mathlib.Omega.{arith}
 use lib.IntN.{pos, +ℤ-idl}
 use Rattle.whole.specs.Signed.{Upto}
 use Rattle.whole.proofs.Ranges.{u-upto, upto-pos, with-sign-below, with-sign-from-0}
 use Rattle.whole.proofs.Machine.{Num, #, at0, local, _:-_, fits, stored, i64-is, below-0, from-0}
-use Rattle.sign.proofs.with_sign_of.Statement.{statement}
-use Rattle.sign.proofs.with_sign_of.Tie as tie
+use Rattle.whole.proofs.with_sign_of.Statement.{statement}
+use Rattle.whole.proofs.with_sign_of.Tie as tie
 
 module _ (c : tie.Start) where
   in-range : Upto (pos (c .args .size)) 9223372036854775807

@@ -1,9 +1,9 @@
--- `sign::size_of` meets its contract: below zero the size is one more than −1 − z, which fits for the least i64 too.
+-- `whole::size_of` meets its contract: below zero the size is one more than −1 − z, which fits for the least i64 too.
 use borrow.Author.Needs.{needs}
 use native.Mathlib.Omega.{arith}
 use Rattle.whole.proofs.Machine.{OneLess, one-less, none-less}
-use Rattle.sign.proofs.size_of.Statement.{statement}
-use Rattle.sign.proofs.size_of.Tie as tie
+use Rattle.whole.proofs.size_of.Statement.{statement}
+use Rattle.whole.proofs.size_of.Tie as tie
 
 less : (c : tie.Then1) → OneLess (c .before .args .z)
 less c = one-less (c .before .args .z) (c .before .fits .z) (c .if1 .taken)
