@@ -1,11 +1,10 @@
--- What is answered, refused or accepted, is what `explain` says; and its text is what the input asks for.
+-- What is answered, refused or accepted, is what `explain` says.
 use mathlib.Core.Path.{_≡_, refl, sym, _∙_, ap, ap₂}
 use mathlib.Core.Option.{Option}
 use mathlib.Core.List.{List}
 use Prim.Native.Nat.{ℕ, _≤_, _<_}
 use native.Mathlib.Omega.{arith}
 use lib.IntN.{ℤ}
-use lib.ListN.{length}
 use borrow.Author.Tests.{eqb-false}
 use Rattle.whole.proofs.Tests.{never}
 use Rattle.rules.specs.declared.Answer.{Answer}
@@ -15,21 +14,16 @@ use Rattle.rules.specs.declared.Found.the-variants.{Nothing}
 use Rattle.rules.specs.Record.{members}
 use Rattle.rules.specs.Refusals.{accepted, verdictOf, verdict, hourRows, explainRows}
 use Rattle.rules.specs.Settling.{isAccepted}
-use Rattle.rules.specs.Statement.{refusedLine}
-use Rattle.rules.specs.Explanation.{heads, noHeads, decided, explain, explanationLines}
-use Rattle.rules.specs.Explanation.{memberAsked, hourAsked, explanation, worded}
+use Rattle.rules.specs.Explanation.{heads, noHeads, decided, explain}
 use Rattle.rules.specs.Promised.Demands.{AllWhole}
 use Rattle.rules.proofs.Rows.{accepts-when-whole, hour-numbered}
 use Rattle.rules.proofs.Explaining.{rows-refused-alike, rows-member, rows-no-member, explain-accepted, explain-refused}
-use Rattle.rules.proofs.Worded.{four-bytes}
 use Rattle.answer.proofs.Refusing.{numbered}
 use Rattle.rules.specs.HourFile.{hourIn}
 use Rattle.rules.specs.declared.Settled.{Settled as Settlement}
 use Rattle.pool.specs.Unlined.{Unlined, FitsUnlined}
 use Rattle.pool.proofs.Rooms.{Rooms, same-verdict, figured}
 use Rattle.explain.specs.Answered.{answered, Settled}
-
--- ---- as numbers
 
 -- an answer but acceptance, and nothing explained
 abbrev pub unexplained : Answer → Explained
@@ -73,18 +67,3 @@ settled rooms fits accepts = let f = figured rooms fits accepts in record {
     shares-are = f .shares .figures-are;
   };
 }
-
--- ---- as text
-
-pub worded-refused : (e : Explained) → (e .answer ≡ Accepted → ⊥) → refusedLine (verdictOf (e .answer)) ≡ worded (answered e)
-unfolding worded
-worded-refused e n = sym (rw (numbered (e .answer) n) refl)
-
-pub worded-accepted : (e : Explained) → e .answer ≡ Accepted →
-    explanationLines (e .heads) (answered e .decided) ≡ worded (answered e)
-unfolding worded
-worded-accepted e a = sym (rw a refl)
-
--- of an input with four bytes or more
-pub asked : (s : List ℕ) → 4 ≤ length s → worded (explain (hourAsked s) (memberAsked s)) ≡ explanation s
-asked s l = sym (four-bytes s l)

@@ -1,24 +1,17 @@
 // Why a member's charge is what it is (document 02, A5): its exact amount under five heads, and the head that decided, of every file and
-// every member number; and the same as text in the caller's slice, of every byte string, and whole or not at all.
+// every member number. The same as text is `report`'s.
 ghost use mathlib.Core.Path.{_≡_};
 ghost use Prim.Native.Nat.{_≤_};
 ghost use lib.ListN.{length};
 ghost use Rattle.rules.specs.declared.Found.the-variants.{Nothing};
 ghost use Rattle.rules.specs.Explanation as Explanation;
-ghost use Rattle.printing.specs.Put.{Put};
-ghost use Rattle.rules.specs.Explanation.{worded};
-ghost use Rattle.explain.specs.Answered.{answered, explained, Settled};
+ghost use Rattle.explain.specs.Answered.{answered, Settled};
 use rules::Answer;
 use rules::Explained;
 use rules::Found;
 
 pub mod boundary;
 mod heads;
-
-// The most bytes that the explanation of any byte string has: six lines of five numbers of 64 bits (`explanation-fits` of `rules`).
-pub const LONGEST: usize = 165;
-
-// ---- as numbers
 
 fn refused(answer: Answer) -> Explained
     ensures { λ r. ⌜ r ≡ record { answer = answer; heads = Explanation.noHeads; decided = Nothing } ⌝ }
@@ -90,36 +83,4 @@ pub fn explain(file: &[u8], member: u32) -> Explained
         &mut shares,
         &mut deviations,
     )
-}
-
-// ---- as text
-
-fn put_explained(explained: Explained, out: &mut [u8]) -> usize
-    requires { ⌜ 165 ≤ length (now out) ⌝ }
-    ensures { λ r. ⌜ Put (now (out .entry)) 0 (worded (answered explained)) r (now (out .exit)) ⌝ }
-{
-    let answer = explained.answer;
-    let Answer::Accepted = answer else {
-        return printing::put_refused(out, answer);
-    };
-    let heads = explained.heads;
-    let decided = explained.decided;
-    printing::explanation::put_explanation(out, heads, decided)
-}
-
-// Puts the explanation that the input asks for, four bytes of member number and an hour file, at the start of `out`, and hands back how
-// many bytes it has. Where `out` is shorter than the longest explanation nothing is put, and the answer is 0.
-pub fn explanation(input: &[u8], out: &mut [u8]) -> usize
-    ensures count { λ r. ⌜ r ≡ explained (now (input .entry)) (now (out .entry)) .count ⌝ }
-    ensures out { λ r. ⌜ now (out .exit) ≡ explained (now (input .entry)) (now (out .entry)) .out ⌝ }
-{
-    if out.len() < LONGEST {
-        return 0;
-    }
-    if input.len() < 4 {
-        return printing::put_refused(out, Answer::BadLength);
-    }
-    let member = blocks::whole_word(input, 0);
-    let explained = explain(&input[4..], member);
-    put_explained(explained, out)
 }

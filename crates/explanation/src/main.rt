@@ -2,8 +2,8 @@
 use libc::STDIN_FILENO;
 
 fn print_explanation(input: &[u8]) {
-    let mut text = [0u8; explain::LONGEST];
-    let length = explain::explanation(input, &mut text);
+    let mut text = [0u8; report::explanation::LONGEST];
+    let length = report::explanation::explanation(input, &mut text);
     streams::print(&text[..length]);
 }
 

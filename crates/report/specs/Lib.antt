@@ -1,2 +1,4 @@
--- What the contracts of `report` cite beside `rules` and `printing`.
+-- What the contracts of `report` cite beside `rules`, `printing` and `explain`.
 pub mod Stated
+pub mod Worded
+pub mod Filing

@@ -3,8 +3,8 @@
 use libc::STDIN_FILENO;
 
 fn print_statement(file: &[u8]) {
-    let mut text = [0u8; report::LONGEST];
-    let length = report::statement(file, &mut text);
+    let mut text = [0u8; report::statement::LONGEST];
+    let length = report::statement::statement(file, &mut text);
     streams::print(&text[..length]);
 }
 

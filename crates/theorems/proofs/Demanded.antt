@@ -39,7 +39,7 @@ use Rattle.sneupelaar.proofs.Port.sneupelaar_settle.Reads as sneupelaar-settle
 use Rattle.sneupelaar.proofs.sneupelaar_write.Reads as sneupelaar-write
 use Rattle.sneupelaar.proofs.sneupelaar_read.Reads as sneupelaar-read
 use Rattle.sneupelaar.proofs.sneupelaar_body.Reads as sneupelaar-body
-use Rattle.report.proofs.statement.Reads as statement
+use Rattle.report.proofs.statement.statement.Reads as statement
 
 -- ---- settling
 

@@ -27,7 +27,7 @@ use Rattle.theorems.specs.Determined.{OneResult, OneOutcome, Gives, Keep
 use Rattle.theorems.proofs.Laws.{agree, agree-answer, agree-found}
 use Rattle.printing.proofs.explanation.put_explanation.Reads as put-explanation
 use Rattle.explain.proofs.explain.Reads as explain
-use Rattle.explain.proofs.explanation.Reads as explanation
+use Rattle.report.proofs.explanation.explanation.Reads as explanation
 use Rattle.pool.proofs.Port.settle.Reads as settle
 use Rattle.sneupelaar.proofs.Port.sneupelaar_settle.Reads as sneupelaar-settle
 use Rattle.explain.proofs.boundary.sneupelaar_explain.Reads as sneupelaar-explain

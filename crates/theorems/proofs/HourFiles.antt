@@ -21,7 +21,7 @@ use Rattle.rules.proofs.Raw.{cut-input-same}
 use Rattle.printing.proofs.Showing.{whole-text}
 use Rattle.theorems.specs.Determined.{Gives, KeepsWriting, IsPut}
 use Rattle.writer.proofs.write_hour.Reads as write-hour
-use Rattle.rawhour.proofs.write_raw.Reads as write-raw
+use Rattle.report.proofs.written.write_raw.Reads as write-raw
 use Rattle.sneupelaar.proofs.sneupelaar_write_hour.Reads as sneupelaar-write-hour
 
 module _ (head records before : List ℕ) where

@@ -2,8 +2,8 @@
 use libc::STDIN_FILENO;
 
 fn print_written(input: &[u8]) {
-    let mut file = [0u8; rawhour::LONGEST];
-    let length = rawhour::write_raw(input, &mut file);
+    let mut file = [0u8; report::written::LONGEST];
+    let length = report::written::write_raw(input, &mut file);
     streams::print(&file[..length]);
 }
 

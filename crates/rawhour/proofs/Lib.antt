@@ -1,2 +1,0 @@
--- What the input's words and length say of the output.
-pub mod Input
