@@ -14,7 +14,7 @@ use Rattle.whole.proofs.Tests.{split}
 use Rattle.whole.proofs.Tables.{at-each}
 use Rattle.rules.specs.Record.{Hour}
 use Rattle.rules.specs.HourFile.{hourly}
-use Rattle.rules.specs.HourWords.{blocksFor, heldIn, bodyWord, openWord, fileWord}
+use Rattle.rules.specs.HourWords.{blocksFor, heldIn, bodyWord, openBlock, openWord, fileWord}
 use Rattle.rules.specs.declared.Rule.the-variants.{Between}
 use Rattle.rules.specs.Ranges.{keeps, mustBe, countRule, blockRule}
 use Rattle.rules.proofs.Faults.{body-any, past-records}
@@ -63,7 +63,7 @@ module _ (h : Hour) where
 
   -- behind them stands its body
   pub open-body : (b k : ℕ) → openWord hourly h b (8 + k) ≡ bodyWord hourly h b k
-  unfolding openWord
+  unfolding openWord openBlock
   open-body b k =
       List·getD-eq-default (front b) (bodyWord hourly h b (8 + k - 8)) {n = 8 + k} (omega arith)
       ∙ ap (bodyWord hourly h b) (back k)
@@ -91,17 +91,17 @@ module _ (h : Hour) where
   not-seven b w f = rw (ne-eqb w 7 f)
 
   pub still-zero : (b : ℕ) → openWord hourly h b 7 ≡ 0
-  unfolding openWord
+  unfolding openWord openBlock
   still-zero b = refl
 
   pub count-word : (b : ℕ) → 1 ≤ b → openWord hourly h b 2 ≡ heldIn hourly h b
-  unfolding openWord
+  unfolding openWord openBlock
   count-word b one = rw (ne-eqb b 0 (λ e. omega arith))
 
   -- every word has 32 bits
   module _ (of-words : OfWords h) where
     front-small : (b : ℕ) → b < n → (w : ℕ) → w < 8 → openWord hourly h b w < 0x1_0000_0000
-    unfolding openWord
+    unfolding openWord openBlock
     front-small b l = split (eqb b 0)
         (λ t. at-each (λ w. openWord hourly h b w < 0x1_0000_0000) 8 (rw t (omega (arith, few-blocks))))
         (λ t. let some = held-some b (omega (arith, eqb-false b 0 t)) l in
@@ -154,7 +154,7 @@ module _ (h : Hour) (b : ℕ) (there : b < blocksFor hourly h) where
   Keeps w = not (keeps (blockRule hourly last (fileWord hourly h b 2) b w) (fileWord hourly h b w)) ≡ false
 
   front-kept : (w : ℕ) → w < 7 → Keeps w
-  unfolding blockRule fileWord openWord
+  unfolding blockRule fileWord openWord openBlock
   front-kept = at-each Keeps 7
       (((((((tt, own-kept (cond (eqb b 0) 1 2)), own-kept b), count-kept), own-kept 0), own-kept 0), own-kept 0), own-kept 0)
 

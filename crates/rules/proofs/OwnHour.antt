@@ -14,7 +14,7 @@ use Rattle.whole.proofs.Tables.{at-each}
 use Rattle.whole.proofs.Search.{first-none}
 use Rattle.rules.specs.Record.{Hour}
 use Rattle.rules.specs.HourFile.{hourly, blocks, blockWord, blockSum, recordCount, recordWord, hourOf, hourIn}
-use Rattle.rules.specs.HourWords.{closing, blocksFor, heldIn, bodyWord, openWord, fileWord, fileLength}
+use Rattle.rules.specs.HourWords.{closing, blocksFor, heldIn, bodyWord, openBlock, openWord, fileWord, fileLength}
 use Rattle.rules.specs.Ranges.{firstBroken, countRule, blockRule, hourlyForm}
 use Rattle.rules.specs.Refusals.{badSum, badBlock, blockRows, wordRows, formRows}
 use Rattle.rules.specs.Promised.Demands.{AllWhole}
@@ -93,7 +93,7 @@ module _ (s : List ℕ) (bytes : AreBytes s) (whole : AllWhole (formRows hourlyF
 
   -- words 0 to 6
   front-said : (b : ℕ) → b < N → (w : ℕ) → w < 7 → openWord hourly h b w ≡ blockWord s b w
-  unfolding openWord blockRule
+  unfolding openWord openBlock blockRule
   front-said b l = at-each (λ w. openWord hourly h b w ≡ blockWord s b w) 7 (
     (
       (

@@ -38,6 +38,10 @@ byteOf v j = getD (v % 256 ∷ v / 256 % 256 ∷ v / 256 / 256 % 256 ∷ v / 256
 unfoldable pub closing : ℕ → ℕ
 closing sum = (0x1_0000_0000 - sum % 0x1_0000_0000) % 0x1_0000_0000
 
+-- word w of a block with these numbers in front and this body behind them, with word 7 still zero
+unfoldable pub openBlock : (mark position count : ℕ) (body : ℕ → ℕ) → ℕ → ℕ
+openBlock mark position count body w = getD (mark ∷ position ∷ count ∷ 0 ∷ 0 ∷ 0 ∷ 0 ∷ 0 ∷ []) w (body (w - 8))
+
 module _ (l : Layout) (h : Hour) where
   -- the first block, and as many others as the records fill: the last may be filled in part, and none is empty
   unfoldable pub blocksFor : ℕ
@@ -54,9 +58,7 @@ module _ (l : Layout) (h : Hour) where
 
   -- word w of block b, with word 7 still zero
   unfoldable pub openWord : (b w : ℕ) → ℕ
-  openWord b w = getD (
-      cond (eqb b 0) (l .first) (l .other) ∷ b ∷ cond (eqb b 0) (blocksFor - 1) (heldIn b)
-      ∷ 0 ∷ 0 ∷ 0 ∷ 0 ∷ 0 ∷ []) w (bodyWord b (w - 8))
+  openWord b = openBlock (cond (eqb b 0) (l .first) (l .other)) b (cond (eqb b 0) (blocksFor - 1) (heldIn b)) (bodyWord b)
 
   -- word w of block b: word 7 is chosen so that the sum is zero
   unfoldable pub fileWord : (b w : ℕ) → ℕ

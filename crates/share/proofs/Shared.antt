@@ -1,5 +1,5 @@
 -- All steps together: what may be shared can be divided, and with the bound down to which the units left over suffice, the sizes are those
--- of the shares. And demands that are kept: their copies are shared.
+-- of the shares. And the first of more places lent.
 use mathlib.Core.Path.{_≡_, refl, sym, _∙_, ap, ap₂}
 use mathlib.Core.List.{List, _++_}
 use Prim.Native.Nat.{ℕ, _+_, _≤_, _<_}
@@ -11,7 +11,7 @@ use lib.Seq.{length-take-le}
 use borrow.Author.Tests.{ne-eqb}
 use Rattle.whole.specs.Below.{oneIf, countBelow, replacingFirst}
 use Rattle.whole.proofs.Sums.{sum-at}
-use Rattle.whole.proofs.Buffers.{own-values, length-replacing, take-replacing, replacing-all, replacing-ext, replacing-same, replacing-twice}
+use Rattle.whole.proofs.Buffers.{replacing-all, replacing-ext, replacing-same}
 use Rattle.rules.specs.Share.{shareSize, ahead, rankedSize}
 use Rattle.rules.proofs.Shares.{left-few, ranked, nothing-without-demand}
 use Rattle.share.specs.Shareable.{at, everyone, demanded, Shareable, sharesIn}
@@ -64,29 +64,3 @@ module _ (places : List ℕ) (n size : ℕ) (l : n ≤ length places) where
   shared-first shared = ap₂ (λ (a b : List ℕ). a ++ b)
       (shared ∙ replacing-all _ (length (take n places)) (take n places) refl)
       (ap (λ (k : ℕ). drop k places) (sym (length-take-le n places l)))
-
--- ---- demands that are kept, and copied into the first places of `out`
-
-module _ {demands : List ℕ} {size : ℕ} {out copied : List ℕ} (s : Shareable demands size out)
-    (put : copied ≡ replacingFirst (at demands) (length demands) out) where
-  pub copies-there : length demands ≤ length copied
-  copies-there = omega (arith, s .room, ap length put, length-replacing (at demands) (length demands) out (s .room))
-
-  copies-are : take (length demands) copied ≡ demands
-  copies-are = rw put (take-replacing (at demands) (length demands) out ∙ own-values demands 0)
-
-  pub copies-shareable : Shareable (take (length demands) copied) size (take (length demands) copied)
-  copies-shareable = rw copies-are (record {
-    few = s .few;
-    sum-fits = s .sum-fits;
-    products-fit = s .products-fit;
-    room = le-refl (length demands);
-  })
-
-  pub copies-shared : {sizes : List ℕ} → sizes ≡ sharesIn (take (length demands) copied) size (take (length demands) copied) →
-      sizes ++ drop (length demands) copied ≡ sharesIn demands size out
-  copies-shared shared =
-      shared-first copied (length demands) size copies-there shared
-      ∙ ap (λ (d : List ℕ). sharesIn d size copied) copies-are
-      ∙ ap (sharesIn demands size) put
-      ∙ replacing-twice (at demands) _ (length demands) out

@@ -7,7 +7,7 @@ ghost use Prim.Native.Nat.{_/_, _≤_, _<_};
 ghost use lib.Dec.{ltb, eqb};
 ghost use lib.ListN.{length};
 ghost use Rattle.whole.specs.Below.{oneIf, replacingFirst};
-ghost use Rattle.share.specs.Shareable.{at, demanded, Shareable, sharesIn};
+ghost use Rattle.share.specs.Shareable.{demanded, Shareable, sharesIn};
 ghost use Rattle.share.specs.Steps.{Dividing, leftOf, countAbove, Between, Suffices, sizeOf};
 
 // ---- the steps
@@ -161,26 +161,4 @@ pub fn share_in_place(places: &mut [u64], size: u64)
     let over = left_over(places, size, t);
     let cut = threshold(places, size, t, over.units, over.above);
     put_sizes(places, size, t, cut.bound, cut.spare);
-}
-
-// The demands into the first places of `out`.
-fn copy(demands: &[u64], out: &mut [u64])
-    requires { ⌜ length (now demands) ≤ length (now out) ⌝ }
-    ensures { λ _. ⌜ now (out .exit) ≡ replacingFirst (at (now (demands .entry))) (length (now (demands .entry))) (now (out .entry)) ⌝ }
-{
-    let mut i = 0;
-    while i < demands.len() {
-        out[i] = demands[i];
-        i += 1;
-    }
-}
-
-// The same for a caller that keeps its demands: the sizes into the first places of `out`; the places past them are unchanged.
-pub fn shares(demands: &[u64], size: u64, out: &mut [u64])
-    requires { ⌜ Shareable (now demands) size (now out) ⌝ }
-    ensures { λ _. ⌜ now (out .exit) ≡ sharesIn (now (demands .entry)) size (now (out .entry)) ⌝ }
-{
-    let n = demands.len();
-    copy(demands, out);
-    share_in_place(&mut out[..n], size);
 }

@@ -18,7 +18,6 @@ use Rattle.amount.proofs.write.Reads as write
 use Rattle.amount.proofs.read.Reads as read
 use Rattle.amount.proofs.decimal.put_digits.Reads as put-digits
 use Rattle.share.proofs.share_in_place.Reads as share-in-place
-use Rattle.share.proofs.shares.Reads as shares
 use Rattle.byrecord.proofs.deviations.put_deviations.Reads as put-deviations
 use Rattle.byrecord.proofs.shares.put_shares.Reads as put-shares
 use Rattle.bymember.proofs.Port.put_lines.Reads as put-lines
@@ -50,9 +49,6 @@ one-put-digits κs a x y s t p q = (refl, agree p q)
 
 pub one-share-in-place : (κs : Lfts 1) → OneOutcome (share-in-place.Learnt κs) (λ s. now (s .0))
 one-share-in-place κs a x y s t p q = (refl, agree p q)
-
-pub one-shares : (κs : Lfts 2) → OneOutcome (shares.Learnt κs) (λ s. now (s .1 .1 .0))
-one-shares κs a x y s t p q = (refl, agree p q)
 
 pub one-put-deviations : (κs : Lfts 2) → OneOutcome (put-deviations.Learnt κs) (λ s. now (s .1 .1 .0))
 one-put-deviations κs a x y s t p q = (refl, agree p q)

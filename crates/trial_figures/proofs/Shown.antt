@@ -24,13 +24,12 @@ small-at (d ∷ ds) s (suc i) l = small-at ds (s .1) i (omega arith)
 pub small-fits : (ds : List ℕ) → Small ds → (i : ℕ) → i < length ds → getD ds i 0 < 9223372036854775808
 small-fits ds s i l = omega (arith, small-at ds s i l)
 
-module _ (ds : List ℕ) (s : Small ds) (few : length ds ≤ 3) (size : ℕ) (most : size ≤ 1000) (out : List ℕ)
-    (room : length out ≡ length ds) where
-  pub shareable : Shareable ds size out
-  shareable = ufe-shareable ds size out (omega arith) (omega arith) (λ i l. omega (arith, small-at ds s i l)) (omega arith)
+module _ (ds : List ℕ) (s : Small ds) (few : length ds ≤ 3) (size : ℕ) (most : size ≤ 1000) where
+  pub shareable : Shareable ds size ds
+  shareable = ufe-shareable ds size ds (omega arith) (omega arith) (λ i l. omega (arith, small-at ds s i l)) (omega arith)
 
-  pub share-fits : (got : List ℕ) → got ≡ sharesIn ds size out → (i : ℕ) → i < length got → getD got i 0 < 9223372036854775808
+  pub share-fits : (got : List ℕ) → got ≡ sharesIn ds size ds → (i : ℕ) → i < length got → getD got i 0 < 9223372036854775808
   share-fits got e i l =
       let sizes = shareSize everyone (at ds) (length ds) size in
-      let k : i < length ds = omega (arith, ap length e, length-replacing sizes (length ds) out (omega arith)) in
-      rw (e, getD-replacing sizes (length ds) out i 0 k) (omega (arith, size-at-most everyone (at ds) (length ds) size i k))
+      let k : i < length ds = omega (arith, ap length e, length-replacing sizes (length ds) ds (omega arith)) in
+      rw (e, getD-replacing sizes (length ds) ds i 0 k) (omega (arith, size-at-most everyone (at ds) (length ds) size i k))

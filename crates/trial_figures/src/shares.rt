@@ -19,27 +19,26 @@ fn print_sizes(u: i64, sizes: &[u64])
     }
 }
 
-// `sizes` has a place for each demand.
-fn show_into(u: i64, demands: &[u64], sizes: &mut [u64])
-    requires { ⌜ Small (now demands) × (length (now demands) ≤ 3) × (natAbs u ≤ 1000) × (length (now sizes) ≡ length (now demands)) ⌝ }
+// The demands, and then the sizes of their shares, which come to stand in their places.
+fn show_in(u: i64, places: &mut [u64])
+    requires { ⌜ Small (now places) × (length (now places) ≤ 3) × (natAbs u ≤ 1000) ⌝ }
 {
     print(b"U ");
     print_signed(u);
     print(b" over D");
-    print_sizes(0, demands);
-    share::shares(demands, whole::size_of(u), sizes);
+    print_sizes(0, places);
+    share::share_in_place(places, whole::size_of(u));
     print(b":");
-    print_sizes(u, sizes);
+    print_sizes(u, places);
     print(b"\n");
 }
 
-// The first `n` of three demands, with room for their shares.
+// The first `n` of three demands.
 fn show(u: i64, n: usize, first: u64, second: u64, third: u64)
     requires { ⌜ (natAbs u ≤ 1000) × (n ≤ 3) × (first ≤ 1000) × (second ≤ 1000) × (third ≤ 1000) ⌝ }
 {
-    let demands = [first, second, third];
-    let mut sizes = [0u64; 3];
-    show_into(u, &demands[..n], &mut sizes[..n]);
+    let mut places = [first, second, third];
+    show_in(u, &mut places[..n]);
 }
 
 // U 5 over D 2, 1: the second has the larger remainder. U 2 over D 3, 1 and over D 1, 3: equal remainders, the first has the unit.

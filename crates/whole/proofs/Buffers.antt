@@ -3,7 +3,7 @@ use mathlib.Core.Path.{_≡_, refl, sym, _∙_, ap, ap₂}
 use mathlib.Core.Bool.{cond}
 use mathlib.Core.List.{List, [], _∷_, _++_, append-assoc, append-nil}
 use Prim.Native.Nat.{ℕ, zero, suc, _+_, _-_, _≤_, _<_}
-use native.Mathlib.Nat.{add-zero, add-suc, le-refl, not-suc-le-zero}
+use native.Mathlib.Nat.{add-zero, add-suc, not-suc-le-zero}
 use native.Mathlib.Numerals.{add-one}
 use native.Mathlib.Omega.{arith}
 use lib.Dec.{ltb, eqb}
@@ -71,7 +71,7 @@ module _ {ℓ} {A : Type ℓ} (f : ℕ → A) where
   unfolding replacingFirst
   replacing-all n old e = rw (drop-of-length-le old {i = n} (omega arith), append-nil)
 
-  pub take-replacing : (n : ℕ) (old : List A) → take n (replacingFirst f n old) ≡ valuesBelow f n
+  take-replacing : (n : ℕ) (old : List A) → take n (replacingFirst f n old) ≡ valuesBelow f n
   unfolding replacingFirst
   take-replacing n old = take-at (valuesBelow f n) (drop n old) n (length-values n)
 
@@ -123,10 +123,6 @@ module _ {ℓ} {A : Type ℓ} (f : ℕ → A) where
   pub replacing-twice : (g : ℕ → A) (n : ℕ) (old : List A) → replacingFirst g n (replacingFirst f n old) ≡ replacingFirst g n old
   unfolding replacingFirst
   replacing-twice g n old = ap (λ (l : List A). valuesBelow g n ++ l) (drop-replacing n old)
-
--- a list is that of the values in its places
-pub own-values {ℓ} : {A : Type ℓ} (l : List A) (d : A) → valuesBelow (λ i. getD l i d) (length l) ≡ l
-own-values l d = sym (replacing-all _ (length l) l refl) ∙ replacing-same _ (length l) l d (le-refl (length l)) (λ i m. refl)
 
 -- ---- one place changed to g of what it held: what the places then hold
 module _ {ℓ} {A : Type ℓ} where

@@ -15,9 +15,9 @@ use Rattle.whole.proofs.Sums.{sum-ext}
 use Rattle.whole.proofs.Buffers.{replacing-none, replacing-then}
 use Rattle.rules.specs.Record.{Hour}
 use Rattle.rules.specs.HourFile.{hourly}
-use Rattle.rules.specs.HourWords.{closing, blocksFor, heldIn, bodyWord, openWord, fileWord, fileByte}
+use Rattle.rules.specs.HourWords.{closing, openBlock, blocksFor, heldIn, bodyWord, openWord, fileWord, fileByte}
 use Rattle.writer.specs.Lists.{hourOfLists, ListsWhole}
-use Rattle.writer.specs.Stored.{bytesOf, openBlock, closedBlock, blockBytes, blockPlaced, heldWords}
+use Rattle.writer.specs.Stored.{bytesOf, openList, closedBlock, blockBytes, blockPlaced, heldWords}
 use Rattle.writer.proofs.Said.{said-count, said-head, said-word, block-count, gap}
 
 -- ---- a block that says what block b of an hour's file says
@@ -25,7 +25,7 @@ use Rattle.writer.proofs.Said.{said-count, said-head, said-word, block-
 module _ (h : Hour) (b mark count : ℕ) (body : List ℕ) (mark-is : mark ≡ cond (eqb b 0) 1 2)
     (count-is : count ≡ cond (eqb b 0) (blocksFor hourly h - 1) (heldIn hourly h b))
     (body-is : (k : ℕ) → k < 120 → getD body k 0 ≡ bodyWord hourly h b k) where
-  open-same : (w : ℕ) → w < 128 → openBlock mark b count body w ≡ openWord hourly h b w
+  open-same : (w : ℕ) → w < 128 → openList mark b count body w ≡ openWord hourly h b w
   unfolding openBlock openWord
   open-same w l = rw (mark-is, count-is, body-is (w - 8) (omega arith))
 

@@ -8,8 +8,8 @@ use lib.ListN.{length, getD, List·getD-eq-default}
 use borrow.Author.Tests.{ne-eqb}
 use Rattle.whole.specs.Below.{sumBelow}
 use Rattle.whole.proofs.Sums.{sum-then, sum-ext, sum-zero}
-use Rattle.rules.specs.HourWords.{closing}
-use Rattle.writer.specs.Stored.{openBlock, closedBlock}
+use Rattle.rules.specs.HourWords.{closing, openBlock}
+use Rattle.writer.specs.Stored.{openList, closedBlock}
 use Rattle.writer.proofs.Said.{gap}
 
 -- past the end of a list all are 0
@@ -21,19 +21,19 @@ words-sum l n few =
     ap (sumBelow (λ k. getD l k 0)) (sym whole) ∙ sum-then (λ k. getD l k 0) (length l) (n - length l) ∙ omega (arith, rest)
 
 module _ (mark position count : ℕ) (body : List ℕ) where
-  front-sum : sumBelow (openBlock mark position count body) 8 ≡ mark + position + count
+  front-sum : sumBelow (openList mark position count body) 8 ≡ mark + position + count
   unfolding sumBelow openBlock
   front-sum = omega arith
 
-  open-body : (k : ℕ) → openBlock mark position count body (8 + k) ≡ getD body k 0
+  open-body : (k : ℕ) → openList mark position count body (8 + k) ≡ getD body k 0
   unfolding openBlock
   open-body k = List·getD-eq-default (mark ∷ position ∷ count ∷ 0 ∷ 0 ∷ 0 ∷ 0 ∷ 0 ∷ []) (getD body (8 + k - 8) 0) {n = 8 + k} (omega arith)
       ∙ ap (λ (j : ℕ). getD body j 0) (gap 8 k)
 
   pub open-sum : length body ≤ 120 →
-      sumBelow (openBlock mark position count body) 128 ≡ sumBelow (λ k. getD body k 0) (length body) + mark + position + count
+      sumBelow (openList mark position count body) 128 ≡ sumBelow (λ k. getD body k 0) (length body) + mark + position + count
   open-sum few =
-      sum-then (openBlock mark position count body) 8 120
+      sum-then (openList mark position count body) 8 120
       ∙ omega (arith, front-sum, sum-ext _ (λ k. getD body k 0) 120 (λ k l. open-body k) ∙ words-sum body 120 few)
 
 -- what wraps back to zero with a sum modulo 2^32
@@ -63,7 +63,7 @@ module _ (mark position count : ℕ) (body : List ℕ) where
   closed-gap (suc (suc (suc zero))) l = refl
   closed-gap (suc (suc (suc (suc i)))) l = absurd (omega arith)
 
-  pub closed-sum : block 7 ≡ closing (sumBelow (openBlock mark position count body) 128)
+  pub closed-sum : block 7 ≡ closing (sumBelow (openList mark position count body) 128)
   unfolding closedBlock
   closed-sum = refl
 

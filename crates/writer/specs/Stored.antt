@@ -6,7 +6,7 @@ use mathlib.Core.List.{List, [], _∷_, _++_}
 use lib.ListN.{getD, set, take, drop}
 use lib.Dec.{eqb}
 use Rattle.whole.specs.Below.{sumBelow, valuesBelow}
-use Rattle.rules.specs.HourWords.{byteOf, closing}
+use Rattle.rules.specs.HourWords.{byteOf, closing, openBlock}
 
 -- word k: four bytes, the lowest first
 unfoldable pub wordStored : List ℕ → ℕ → ℕ → List ℕ
@@ -26,11 +26,11 @@ bytesOf f k = byteOf (f (k / 4)) (k % 4)
 
 module _ (mark position count : ℕ) (body : List ℕ) where
   -- word w, with word 7 still zero; past the body's words all are zero
-  unfoldable pub openBlock : ℕ → ℕ
-  openBlock w = getD (mark ∷ position ∷ count ∷ 0 ∷ 0 ∷ 0 ∷ 0 ∷ 0 ∷ []) w (getD body (w - 8) 0)
+  abbrev pub openList : ℕ → ℕ
+  openList = openBlock mark position count (λ k. getD body k 0)
 
   unfoldable pub closedBlock : ℕ → ℕ
-  closedBlock w = cond (eqb w 7) (closing (sumBelow openBlock 128)) (openBlock w)
+  closedBlock w = cond (eqb w 7) (closing (sumBelow openList 128)) (openList w)
 
   unfoldable pub blockBytes : List ℕ
   blockBytes = valuesBelow (bytesOf closedBlock) 512

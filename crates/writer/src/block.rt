@@ -5,7 +5,7 @@ ghost use Prim.Native.Nat.{_+_, _*_, _%_, _≤_};
 ghost use lib.ListN.{length, getD};
 ghost use Rattle.whole.specs.Below.{sumBelow};
 ghost use Rattle.rules.specs.HourWords as HourWords;
-ghost use Rattle.writer.specs.Stored.{wordStored, wordsStored, openBlock, blockBytes};
+ghost use Rattle.writer.specs.Stored.{wordStored, wordsStored, openList, blockBytes};
 
 // ---- words into bytes
 
@@ -64,7 +64,7 @@ fn sum_of(words: &[u32]) -> u32
 // Word 7 of the block with these numbers in front and this body.
 fn closing_word(mark: u32, position: u32, count: u32, body: &[u32]) -> u32
     requires { ⌜ length (now body) ≤ 120 ⌝ }
-    ensures { λ r. ⌜ r ≡ HourWords.closing (sumBelow (openBlock mark position count (now (body .entry))) 128) ⌝ }
+    ensures { λ r. ⌜ r ≡ HourWords.closing (sumBelow (openList mark position count (now (body .entry))) 128) ⌝ }
 {
     let with_mark = std::num::wrapping_add_u32(sum_of(body), mark);
     let with_position = std::num::wrapping_add_u32(with_mark, position);

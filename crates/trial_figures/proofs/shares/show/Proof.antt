@@ -1,6 +1,6 @@
--- `trial_figures::shares::show` is safe: the room has a place for each demand.
+-- `trial_figures::shares::show` is safe: of three small demands the first are as small.
 use Prim.Native.Nat.{ℕ, _≤_}
-use mathlib.Core.Path.{_≡_, sym, _∙_}
+use mathlib.Core.Path.{_≡_, sym}
 use mathlib.Core.List.{List, [], _∷_}
 use lib.ListN.{length, take}
 use lib.Seq.{length-take-le}
@@ -12,21 +12,13 @@ use Rattle.trial_figures.proofs.Shown.{small-take}
 use Rattle.trial_figures.proofs.shares.show.Statement.{statement}
 use Rattle.trial_figures.proofs.shares.show.Tie as tie
 
--- &demands[..n]
-array-share-prefix-demands : tie.Need-array-share-prefix-demands
-array-share-prefix-demands c = search needs
+-- &mut places[..n]
+array-borrow-prefix-places : tie.Need-array-borrow-prefix-places
+array-borrow-prefix-places c = search needs
 
--- &demands[..n]
-slice-aggregate-show-into : tie.Need-slice-aggregate-show-into
-slice-aggregate-show-into c = sym (length-take-le _ _ (array-share-prefix-demands (c .before)))
-
--- &mut sizes[..n]
-array-borrow-prefix-sizes : tie.Need-array-borrow-prefix-sizes
-array-borrow-prefix-sizes c = search needs
-
--- &mut sizes[..n]
-slice-aggregate-show-into-2 : tie.Need-slice-aggregate-show-into-2
-slice-aggregate-show-into-2 c = sym (length-take-le _ _ (array-borrow-prefix-sizes (c .before)))
+-- &mut places[..n]
+slice-aggregate-show-in : tie.Need-slice-aggregate-show-in
+slice-aggregate-show-in c = sym (length-take-le _ _ (array-borrow-prefix-places (c .before)))
 
 module _ (start : tie.Start) where
   abbrev demands : List ℕ
@@ -41,10 +33,9 @@ module _ (start : tie.Start) where
   few : length (take (start .args .n) demands) ≤ 3
   few = rw counted (start .pre .1)
 
-show-into-requires : tie.Need-show-into-requires
-show-into-requires c κs = let start = c .before .before in
-    rw (toZ-ofZ w64 (start .args .u) (start .fits .u))
-    (small start, few start, start .pre .0, length-take-le (start .args .n) _ (start .pre .1) ∙ sym (counted start))
+show-in-requires : tie.Need-show-in-requires
+show-in-requires c κs = let start = c .before in
+    rw (toZ-ofZ w64 (start .args .u) (start .fits .u)) (small start, few start, start .pre .0)
 
 returns : tie.Need-returns
 returns c = search needs
@@ -53,9 +44,7 @@ pub show-spec : {M : Type 1} → statement M
 show-spec =
     tie.close
     (tie.spec
-    array-share-prefix-demands
-    slice-aggregate-show-into
-    array-borrow-prefix-sizes
-    slice-aggregate-show-into-2
-    show-into-requires
+    array-borrow-prefix-places
+    slice-aggregate-show-in
+    show-in-requires
     returns)
