@@ -3,6 +3,7 @@ pub mod Starred
 pub mod Limits
 pub mod Printed
 pub mod Refused
+pub mod Written
 pub mod Unwritten
 pub mod EveryKind
 pub mod Explanation

@@ -3,5 +3,6 @@
 pub mod Limits
 pub mod Printed
 pub mod Refused
+pub mod Written
 pub mod EveryKind
 pub mod Explanation

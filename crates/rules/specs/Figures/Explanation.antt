@@ -10,7 +10,7 @@ use Rattle.rules.specs.Refusals.{refusedAt}
 use Rattle.rules.specs.Explanation.{Explanation, noHeads, decidedBy, explain, explanation}
 use Rattle.rules.specs.Figures.Starred.{Case, _is_, AllRight}
 use Rattle.rules.specs.Figures.Printed.{wordBytes}
-use Rattle.rules.specs.Figures.Refused.{first, plainHead}
+use Rattle.rules.specs.Figures.Refused.{first, other, plainHead}
 use Rattle.rules.specs.Figures.EveryKind.{everyKind}
 
 abbrev pub unexplained : (number place : ℕ) → Explanation
@@ -19,10 +19,17 @@ unexplained number place = record { verdict = refusedAt number place; heads = no
 abbrev pub grainsOf : (generation load import' export' share : ℤ) → List ℤ
 grainsOf g l i e s = g ∷ l ∷ i ∷ e ∷ s ∷ []
 
+-- of member 0, alone in the hour
+unfoldable pub unscheduled : List ℕ
+unscheduled = first 1 (plainHead 2) ++ other 1 1 0 (2 ∷ 0 ∷ 0 ∷ 0 ∷ 1 ∷ [])
+
 unfoldable pub explanations : List Case
 explanations =
     explanation (wordBytes (1 ∷ []) ++ everyKind) is bytes
-    "generation -4900000000\nload 3900000000\nimport 3750000000\nexport -300000000\nshare 1236456000\ndecided load\n"
+    "generation -720000000\nload 4140000000\nimport 4750000000\nexport -300000000\nshare 1962204000\ndecided import\n"
+    -- a load that takes a kWh unscheduled: its share takes off again what it adds
+    ∷ explanation (wordBytes (0 ∷ []) ++ unscheduled) is bytes
+    "generation 0\nload 50000000\nimport 0\nexport 0\nshare -50000000\ndecided none\n"
     -- the first of two that are as large; the smaller with the charge's sign; a charge of zero, whatever the heads
     ∷ decidedBy (pos 1) (grainsOf (pos 3) (pos 7) (negℤ (pos 9)) (pos 7) (pos 0)) is some 1
     ∷ decidedBy (negℤ (pos 1)) (grainsOf (pos 9) (negℤ (pos 4)) (pos 0) (negℤ (pos 5)) (negℤ (pos 5))) is some 3

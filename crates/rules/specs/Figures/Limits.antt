@@ -64,11 +64,20 @@ forMultipliers = (9, 0) ∷ (9, 20001) ∷ (10, 0) ∷ (10, 20001) ∷ []
 abbrev pub forLoads : List Change
 forLoads = forEveryKind ++ (4, 100001) ∷ (6, 100001) ∷ (7, 100001) ∷ (8, 1) ∷ (9, 1) ∷ (10, 1) ∷ []
 
+-- a record of this kind at the lower limits: multipliers of 1, or 0 where it has none
+abbrev pub leastOf : (kind multiplier : ℕ) → List ℕ
+leastOf kind multiplier = kind ∷ 0 ∷ 0 ∷ 0 ∷ 0 ∷ leastAdjustment ∷ 0 ∷ 0 ∷ 0 ∷ multiplier ∷ multiplier ∷ 0 ∷ []
+
 unfoldable pub recordLimits : List Case
 recordLimits =
-    -- at the upper limits, and at the lower
-    recordFault generatorAt is none
-    ∷ recordFault (1 ∷ 0 ∷ 0 ∷ 0 ∷ 0 ∷ leastAdjustment ∷ 0 ∷ 0 ∷ 0 ∷ 1 ∷ 1 ∷ 0 ∷ []) is none
+    -- at the lower limits
+    recordFault (leastOf 1 1) is none
+    ∷ recordFault (leastOf 2 0) is none
+    ∷ recordFault (leastOf 3 0) is none
+    ∷ recordFault (leastOf 4 1) is none
+    ∷ recordFault (leastOf 5 0) is none
+    -- at the upper limits, and past each
+    ∷ recordFault generatorAt is none
     ∷ recordBreaks generatorAt (forEveryKind ++ forMultipliers ++ (4, 100001) ∷ (6, 100001) ∷ (7, 100001) ∷ (8, 100001) ∷ [])
     ∷ recordFault (loadAt 2) is none
     ∷ recordBreaks (loadAt 2) forLoads
@@ -101,6 +110,14 @@ fullHead =
 abbrev pub leastHead : List ℕ
 leastHead = 0 ∷ 1 ∷ 1 ∷ 1 ∷ replicate 116 0
 
+-- three zones and one area, which lies in the last of them
+abbrev pub threeZones : List ℕ
+threeZones = 7 ∷ 2 ∷ 3 ∷ 1 ∷ 1 ∷ 2 ∷ 3 ∷ 0 ∷ 2 ∷ 4 ∷ 5 ∷ 0 ∷ replicate 108 0
+
+-- one zone and three areas
+abbrev pub threeAreas : List ℕ
+threeAreas = 7 ∷ 2 ∷ 1 ∷ 3 ∷ 1 ∷ 0 ∷ 0 ∷ 0 ∷ 0 ∷ 2 ∷ 3 ∷ 0 ∷ 0 ∷ 4 ∷ 5 ∷ 0 ∷ 0 ∷ 6 ∷ 7 ∷ 0 ∷ replicate 100 0
+
 unfoldable pub headLimits : List Case
 headLimits =
     headFault fullHead is none
@@ -118,6 +135,11 @@ headLimits =
     -- the prices past their count, a zone that isn't there, the fourth word, and from the areas past their count on every word
     ∷ headBreaks leastHead ((13, 1) ∷ (14, 1) ∷ (15, 1) ∷ (16, 1) ∷ (19, 1) ∷ (20, 1) ∷ (47, 1) ∷ [])
     ∷ valuesBelow (λ k. keeps (headRule 1 1 (20 + k)) 1) 108 is replicate 108 false
+    -- prices are counted by zones, areas by areas
+    ∷ headFault threeZones is none
+    ∷ headBreaks threeZones ((15, 1) ∷ (16, 3) ∷ (20, 1) ∷ (21, 1) ∷ (22, 1) ∷ (24, 1) ∷ [])
+    ∷ headFault threeAreas is none
+    ∷ headBreaks threeAreas ((13, 1) ∷ (14, 1) ∷ (15, 1) ∷ (20, 1) ∷ (24, 1) ∷ (27, 1) ∷ (28, 1) ∷ (29, 1) ∷ [])
     ∷ []
 
 pub record LimitsRight : Type 0 where

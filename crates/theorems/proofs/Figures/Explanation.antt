@@ -18,7 +18,7 @@ use Rattle.rules.specs.Explanation
 use Rattle.rules.specs.Figures.Printed.{wordBytes}
 use Rattle.rules.specs.Figures.Refused.{sealed}
 use Rattle.rules.specs.Figures.EveryKind.{everyKind}
-use Rattle.rules.specs.Figures.Explanation.{ExplainedRight, explanations}
+use Rattle.rules.specs.Figures.Explanation.{ExplainedRight, unscheduled, explanations}
 
 pub explained-right : ExplainedRight
 unfolding Below.sumBelow Below.totalBelow Below.firstBelow orElse minℤ maxℤ Record.signed Record.kindOf Record.actual Record.entry
@@ -35,5 +35,5 @@ unfolding Below.sumBelow Below.totalBelow Below.firstBelow orElse minℤ maxℤ 
     Refusals.fileRows Refusals.hourRows wordBytes Deviation.importDeviation Deviation.exportDeviation Refusals.noMember
     Refusals.explainRows Statement.refusedLine Explanation.pricedSum Explanation.heads Explanation.sameSign Explanation.decidedBy
     Explanation.decided Explanation.explain Explanation.signedDecimal Explanation.headLine Explanation.decidedLine
-    Explanation.explanationLines Explanation.worded Explanation.explanation sealed everyKind explanations Neutrality.neutralityShare
-explained-right = (refl, (refl, (refl, (refl, (refl, (refl, (refl, tt)))))))
+    Explanation.explanationLines Explanation.worded Explanation.explanation sealed everyKind unscheduled explanations Neutrality.neutralityShare
+explained-right = (refl, (refl, (refl, (refl, (refl, (refl, (refl, (refl, tt))))))))

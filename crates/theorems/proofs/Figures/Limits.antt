@@ -13,6 +13,6 @@ unfolding Below.valuesBelow Below.firstBelow orElse Record.signed Record.kindOf 
     Ranges.areaRule Ranges.headRule Ranges.rulesOf Ranges.recordRule Refusals.badHead Refusals.badWord Limits.faults Limits.ownPlaces
     Limits.recordFault Limits.recordLimits Limits.headFault Limits.fullHead Limits.headLimits
 limits-right = record {
-  of-records = (refl, (refl, (refl, (refl, (refl, (refl, (refl, (refl, (refl, (refl, (refl, tt)))))))))));
-  of-the-head = (refl, (refl, (refl, (refl, (refl, (refl, (refl, (refl, (refl, (refl, tt))))))))));
+  of-records = (refl, (refl, (refl, (refl, (refl, (refl, (refl, (refl, (refl, (refl, (refl, (refl, (refl, (refl, (refl, tt)))))))))))))));
+  of-the-head = (refl, (refl, (refl, (refl, (refl, (refl, (refl, (refl, (refl, (refl, (refl, (refl, (refl, (refl, tt))))))))))))));
 }
