@@ -123,7 +123,8 @@ fn first_fault(file: &[u8]) -> Fault
 // Refusals 4, 5 and 14, of a file whose blocks are whole.
 fn examine_hour(file: &[u8]) -> Answer
     requires { ⌜ BlocksWhole (now file) ⌝ }
-    ensures { λ r. ⌜ Refusals.verdictOf r ≡ Refusals.verdict (let h = hourIn (now (file .entry)) in Refusals.wordRows hourlyForm h ++ Refusals.recordRows h) ⌝ }
+    ensures { λ r. ⌜ Refusals.verdictOf r
+        ≡ Refusals.verdict (let h = hourIn (now (file .entry)) in Refusals.wordRows hourlyForm h ++ Refusals.recordRows h) ⌝ }
 {
     if let Found::At(w) = bad_head(file) {
         return Answer::BadHead(w);

@@ -15,13 +15,13 @@ use Rattle.whole.proofs.Tests.{split, both, neither}
 use Rattle.whole.proofs.Buffers.{length-values, getD-values, length-replacing, drop-replacing}
 use Rattle.rules.specs.Record.{Hour}
 use Rattle.rules.specs.HourFile.{hourly, blockWord, recordCount, recordWord, hourOf, hourIn}
-use Rattle.rules.specs.HourWords.{hourFrom, headWords, recordWords, fileByte, fileLength, fileOf}
+use Rattle.rules.specs.HourWords.{hourFrom, headWords, recordWords, blocksFor, fileByte, fileLength, fileOf}
 use Rattle.rules.specs.Refusals.{row, Verdict, accepted, refusedAt, verdict, badLists, noRoom}
 use Rattle.rules.specs.Refusals.{blockRows, wordRows, recordRows, formRows, fileRows, listFormRows, listRows, writerRows}
 use Rattle.rules.specs.Settling.{HourWritten, isAccepted, writeHour}
 use Rattle.rules.specs.Promised.Demands.{AllWhole, FirstBrokenRow}
 use Rattle.rules.specs.Promised.Finals.{AreBytes}
-use Rattle.rules.specs.Promised.Writing.{AreWords, fileIn, Writing}
+use Rattle.rules.specs.Promised.Writing.{AreWords, lengthFor, fileIn, Writing}
 use Rattle.rules.proofs.Rows.{Numbered, accepts-when-whole, zero-accepts, refuses-at-first, whole-parts, file-numbered, form-whole}
 use Rattle.rules.proofs.Rows.{no-place}
 use Rattle.rules.proofs.Words.{record-count}
@@ -118,8 +118,11 @@ module _ (head records : List ℕ) where
     file-is e = rw (written e) (take-at (valuesBelow (fileByte hourly h) (fileLength hourly h)) (drop (fileLength hourly h) file)
         (fileLength hourly h) (length-values (fileByte hourly h) (fileLength hourly h)))
 
-    length-told : w .verdict ≡ accepted → length (fileIn w) ≡ w .length
-    length-told e = ap length (file-is e) ∙ length-of-file h ∙ sym (ap (λ (x : HourWritten). x .length) (written e))
+    length-told : w .verdict ≡ accepted → (w .length ≡ lengthFor records) × (length (fileIn w) ≡ w .length)
+    unfolding fileLength blocksFor hourFrom
+    length-told e =
+        let told = ap (λ (x : HourWritten). x .length) (written e) in
+        (told, ap length (file-is e) ∙ length-of-file h ∙ sym told)
 
     read-back : AreWords head → AreWords records → w .verdict ≡ accepted →
         (verdict (fileRows (fileIn w)) ≡ accepted) × (hourIn (fileIn w) ≡ h)

@@ -17,7 +17,7 @@ use Rattle.rules.specs.Settling.{settle, noFigures, emptyLine, HourWritten}
 use Rattle.rules.specs.Explanation.{Explanation, noHeads}
 use Rattle.rules.specs.Promised.Demands.{Accepts, ByFormula, FairOutcome}
 use Rattle.rules.specs.Promised.Finals.{NeutralOutcome, HeldToDemand, AreBytes, SameSheet, Shows}
-use Rattle.rules.specs.Promised.Writing.{fileIn}
+use Rattle.rules.specs.Promised.Writing.{lengthFor, fileIn}
 use Rattle.rules.specs.Promised.Imports.{FirstMetered}
 use Rattle.rules.specs.Promised.Engines.{HeldToMaximum}
 use Rattle.rules.specs.Promised.Explanation.{Explains}
@@ -67,7 +67,8 @@ pub record KeepsWriting (head records before : List ℕ) (w : HourWritten) : Typ
   -- what was written passes rows 1 to 5 and 14 and is read back as the same hour
   pub read-back : w .verdict ≡ accepted →
       (verdict (fileRows (fileIn w)) ≡ accepted) × (hourIn (fileIn w) ≡ hourFrom hourly head records)
-  pub length-told : w .verdict ≡ accepted → length (fileIn w) ≡ w .length
+  -- the length told is as long as the records ask for, and that of what was written
+  pub length-told : w .verdict ≡ accepted → (w .length ≡ lengthFor records) × (length (fileIn w) ≡ w .length)
   pub past-file : w .verdict ≡ accepted → (drop (w .length) (w .file) ≡ drop (w .length) before) × (length (w .file) ≡ length before)
   -- the head and records of a file that passes rows 1 to 5 and 14 give its bytes again, whatever the buffer held
   pub same-bytes : (s : List ℕ) → AreBytes s → verdict (fileRows s) ≡ accepted → head ≡ headWords s → records ≡ recordWords hourly s →

@@ -37,10 +37,6 @@ other position count six records = sealed (2 ∷ position ∷ count ∷ 0 ∷ 0 
 abbrev pub unsealed : (position count six : ℕ) → List ℕ → List ℕ
 unsealed position count six records = block (2 ∷ position ∷ count ∷ 0 ∷ 0 ∷ 0 ∷ six ∷ 0 ∷ records)
 
--- an hour of two members and so many records, of these words
-abbrev pub withRecords : (count : ℕ) → List ℕ → List ℕ
-withRecords count records = first 1 (plainHead 2) ++ other 1 count 0 records
-
 -- ---- what each row breaks
 
 -- 11: four members, for three places

@@ -2,19 +2,15 @@
 -- refused. Document 02, A2.
 use Prim.Native.Nat.{ℕ}
 use mathlib.Core.List.{List, [], _∷_, _++_}
-use lib.ListN.{replicate}
+use lib.ListN.{take, drop}
 use Rattle.rules.specs.Text.{bytes}
 use Rattle.rules.specs.RawHour.{rawWritten}
 use Rattle.rules.specs.Figures.Starred.{Case, _is_, AllRight}
-use Rattle.rules.specs.Figures.Printed.{wordBytes, printedFile}
-use Rattle.rules.specs.Figures.Refused.{plainHead}
+use Rattle.rules.specs.Figures.Printed.{printedFile}
 
--- 120 words of head, 12 a record
+-- the 480 bytes of the first body, and two records of 48 bytes from the second
 unfoldable pub printedWords : List ℕ
-printedWords = wordBytes (
-    plainHead 2 ++ replicate 115 0
-    ++ 1 ∷ 0 ∷ 0 ∷ 1000 ∷ 900 ∷ 0 ∷ 0 ∷ 0 ∷ 2000 ∷ 10000 ∷ 10000 ∷ 0
-    ∷ 2 ∷ 1 ∷ 0 ∷ 1000 ∷ 870 ∷ 0 ∷ 0 ∷ 0 ∷ 0 ∷ 0 ∷ 0 ∷ 0 ∷ [])
+printedWords = take 480 (drop 32 printedFile) ++ take 96 (drop 544 printedFile)
 
 unfoldable pub writtenCases : List Case
 writtenCases =

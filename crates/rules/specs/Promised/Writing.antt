@@ -1,6 +1,6 @@
 -- What is asked of the writer of hour files, as statements about the definitions: what it writes is read back as the same hour, and an
 -- accepted file's own head and records give its bytes again. Document 02, A2.
-use Prim.Native.Nat.{ℕ, suc, _<_, _≤_}
+use Prim.Native.Nat.{ℕ, suc, _+_, _*_, _/_, _<_, _≤_}
 use mathlib.Core.Path.{_≡_}
 use mathlib.Core.Logic.{_↔_}
 use mathlib.Core.List.{List, _++_}
@@ -15,6 +15,10 @@ use Rattle.rules.specs.Promised.Finals.{AreBytes}
 -- words of 32 bits
 abbrev pub AreWords : List ℕ → Type 0
 AreWords l = (i : ℕ) → getD l i 0 < 0x1_0000_0000
+
+-- in bytes: the first block, and one for every ten records of twelve words and for those left over
+abbrev pub lengthFor : (records : List ℕ) → ℕ
+lengthFor records = 512 * (1 + (length records / 12 + 9) / 10)
 
 -- what was written: the buffer's first bytes
 abbrev pub fileIn : HourWritten → List ℕ
@@ -32,9 +36,9 @@ pub record Writing : Type 0 where
   -- what is written passes rows 1 to 5 and 14 and is read back as the same hour
   pub read-back : (head records file : List ℕ) → AreWords head → AreWords records → let w = writeHour head records file in
       w .verdict ≡ accepted → (verdict (fileRows (fileIn w)) ≡ accepted) × (hourIn (fileIn w) ≡ hourFrom hourly head records)
-  -- the length told is that of what was written
+  -- the length told is as long as the records ask for, and that of what was written
   pub length-told : (head records file : List ℕ) → let w = writeHour head records file in
-      w .verdict ≡ accepted → length (fileIn w) ≡ w .length
+      w .verdict ≡ accepted → (w .length ≡ lengthFor records) × (length (fileIn w) ≡ w .length)
   -- what stands past it is as it was, and so is the buffer's length
   pub past-file : (head records file : List ℕ) → let w = writeHour head records file in
       w .verdict ≡ accepted → (drop (w .length) (w .file) ≡ drop (w .length) file) × (length (w .file) ≡ length file)
