@@ -5,17 +5,16 @@ use mathlib.Core.Path.{_≡_, sym, _∙_, ap, ap₂}
 use mathlib.Core.List.{List}
 use Prim.Native.Nat.{ℕ, _≤_}
 use lib.IntN.{ℤ}
-use lib.ListN.{length, take, drop}
+use lib.ListN.{length, take}
 use contract.Lifetimes.{Lfts}
 use denote.Ref.{now}
 use Rattle.rules.specs.declared.Answer.the-variants.{Accepted}
 use Rattle.rules.specs.declared.Line.{Line}
 use Rattle.rules.specs.Refusals.{Verdict, refusedAt, verdictOf, verdict, Buffers}
-use Rattle.rules.specs.HourFile.{hourly, body, hourIn}
-use Rattle.rules.specs.Settling.{Settlement, settle as settling, write as writing, read as reading}
+use Rattle.rules.specs.HourFile.{hourIn}
+use Rattle.rules.specs.Settling.{Settlement, settle as settling}
 use Rattle.rules.specs.Statement as Statement
 use Rattle.rules.specs.Promised.Finals.{ShowsOutcome}
-use Rattle.rules.specs.Inner.Kept.{FileKept}
 use Rattle.rules.proofs.Rows.{settle-verdict, settle-changes-nothing}
 use Rattle.rules.proofs.Demands.{demand2, demand3}
 use Rattle.rules.proofs.Finals.{neutrality-shared}
@@ -30,6 +29,7 @@ use Rattle.pool.specs.Unlined.{unlined, withLines, ownLines}
 use Rattle.report.specs.Stated.{HasStated}
 use Rattle.printing.proofs.Showing.{whole-text}
 use Rattle.theorems.specs.Determined.{Gives, KeepsDemands, IsPut, IsReadBack, Tells}
+use Rattle.theorems.specs.Given.{IsReadAs, IsWrittenAs, IsWritten, IsRead, IsBody, IsKept}
 use Rattle.amount.proofs.write.Reads as write
 use Rattle.amount.proofs.read.Reads as read
 use Rattle.examine.proofs.examine.Reads as examine
@@ -87,34 +87,32 @@ read-promises κs a x s p = record { verdict-is = p .0; amount-is = p .1 }
 
 -- written, then read
 pub written-is-read : (κs μs : Lfts 1) → Gives (write.Learnt κs) (λ a x s. x ≡ Accepted →
-    Gives (read.Learnt μs) (λ b y t. now (b .0) ≡ now (s .1 .0) → y ≡ record { answer = Accepted; amount = a .0 }))
+    Gives (read.Learnt μs) (λ b y t. IsReadAs (a .0) (now (s .1 .0)) (now (b .0)) y))
 written-is-read κs μs a x s p accepts b y t q same = RoundTrips.written-is-read _ _ (a .0) y
     (rw accepts at (write-promises κs a x s p)) (rw same at (read-promises μs b y t q))
 
 -- read, then written at the same width
 pub read-is-written : (κs μs : Lfts 1) → Gives (read.Learnt κs) (λ a x s. x .answer ≡ Accepted →
-    Gives (write.Learnt μs) (λ b y t. b .0 ≡ x .amount → length (now (b .1 .0)) ≡ length (now (a .0)) →
-    (y ≡ Accepted) × (now (t .1 .0) ≡ now (a .0))))
+    Gives (write.Learnt μs) (λ b y t. IsWrittenAs (x .amount) (now (a .0)) (b .0) (now (b .1 .0)) y (now (t .1 .0))))
 read-is-written κs μs a x s p accepts b y t q same width = RoundTrips.read-is-written (now (a .0)) _ _ (x .amount) y
     (record { verdict-is = ap verdictOf (sym accepts) ∙ p .0; amount-is = p .1 }) width (rw same at (write-promises μs b y t q))
 
 -- the same for C, with the answer as its number and place
 pub sneupelaar-write-promises : (κs : Lfts 1) → Gives (sneupelaar-write.Learnt κs) (λ a x s.
-    record { verdict = refusedAt (x .number) (x .place); field = now (s .1 .0) } ≡ writing (now (a .1 .0)) (a .0))
+    IsWritten (now (a .1 .0)) (a .0) (x .number) (x .place) (now (s .1 .0)))
 sneupelaar-write-promises κs a x s p = p
 
 pub sneupelaar-read-promises : (κs : Lfts 1) → Gives (sneupelaar-read.Learnt κs) (λ a x s.
-    record { verdict = refusedAt (x .number) (x .place); amount = x .amount } ≡ reading (now (a .0)))
+    IsRead (now (a .0)) (x .number) (x .place) (x .amount))
 sneupelaar-read-promises κs a x s p = p
 
 -- ---- the file and its statement
 
--- the bytes at the place that is handed out are the body
 pub sneupelaar-body-promises : (κs : Lfts 1) → Gives (sneupelaar-body.Learnt κs) (λ a x s.
-    take (x .length) (drop (x .from) (now (a .0))) ≡ body hourly (now (a .0)) (a .1 .0))
+    IsBody (now (a .0)) (a .1 .0) (x .from) (x .length))
 sneupelaar-body-promises κs a x s p = p .1
 
-pub examine-promises : (κs : Lfts 1) → Gives (examine.Learnt κs) (λ a x s. x ≡ Accepted → FileKept (now (a .0)))
+pub examine-promises : (κs : Lfts 1) → Gives (examine.Learnt κs) (λ a x s. IsKept (now (a .0)) x)
 examine-promises κs a x s p accepts = Examined.accepted-kept (now (a .0)) x p accepts
 
 pub statement-promises : (κs : Lfts 2) → Gives (statement.Learnt κs) (λ a x s. HasStated (now (a .0)) (now (a .1 .0)) x (now (s .1 .0)))
