@@ -22,7 +22,7 @@ use Rattle.whole.proofs.Sums.{sum-add-one}
 use Rattle.rules.specs.declared.Tally.{Tally}
 use Rattle.rules.specs.Record.{Hour, areas, tieIn, tieOut, areaOf, entryOf}
 use Rattle.rules.specs.Deviation.{unitsPerKWh}
-use Rattle.rules.specs.Ufe.{ufe, demands}
+use Rattle.rules.specs.Ufe.{ufe, areaDemand}
 use Rattle.rules.specs.Neutrality.{hourDemand}
 use Rattle.rules.specs.Inner.Posting.{accounted, tallied, demandOf, tallyAfter}
 use Rattle.rules.specs.Settling.{ufeFigures}
@@ -54,7 +54,7 @@ module _ {s : List ℕ} {t : Tally} (p : Tallied s t) (a : ℕ) (there : a < are
   place : a < 8
   place = omega (arith, p .kept .hour-kept .areas-most)
 
-  demand-at : getD (t .demand) a 0 ≡ demands hour a
+  demand-at : getD (t .demand) a 0 ≡ areaDemand hour a
   demand-at = rw (p .posted) (tally-gives-demands hour a place)
 
   -- an area's energy is at most 5×10^11 units in size
@@ -66,8 +66,8 @@ module _ {s : List ℕ} {t : Tally} (p : Tallied s t) (a : ℕ) (there : a < are
   ufe-is = rw (p .posted) (sym (tally-gives-ufe hour a place))
 
   -- ---- whether anybody demands anything: the areas passed, and one more
-  pub nobody-yet : sumBelow (demands hour) a ≡ 0 → getD (t .demand) a 0 ≡ 0 → sumBelow (demands hour) (a + 1) ≡ 0
-  nobody-yet before z = omega (arith, demand-at, sum-add-one (demands hour) a)
+  pub nobody-yet : sumBelow (areaDemand hour) a ≡ 0 → getD (t .demand) a 0 ≡ 0 → sumBelow (areaDemand hour) (a + 1) ≡ 0
+  nobody-yet before z = omega (arith, demand-at, sum-add-one (areaDemand hour) a)
 
   pub somebody : (getD (t .demand) a 0 ≡ 0 → ⊥) → eqb (hourDemand hour) 0 ≡ false
   somebody n = ne-eqb (hourDemand hour) 0 (λ e. n (demand-at ∙ no-area-demands (p .kept .hour-kept) e a there))
@@ -76,12 +76,12 @@ module _ {s : List ℕ} {t : Tally} (p : Tallied s t) (a : ℕ) (there : a < are
 
 -- an area whose loads demand nothing, and whose UFE isn't 0
 abbrev pub noDemand : Hour → ℕ → Bool
-noDemand h a = eqb (demands h a) 0 && not (eqb (natAbs (ufe h a)) 0)
+noDemand h a = eqb (areaDemand h a) 0 && not (eqb (natAbs (ufe h a)) 0)
 
 module _ {s : List ℕ} {t : Tally} {figures : List ℤ}
     (p : Tallied s t) (figures-of : figures ≡ ufeFigures (hourIn s)) (a : ℕ) (there : a < areas (hourIn s)) where
   abbrev demanded : ℕ
-  demanded = demands (hourIn s) a
+  demanded = areaDemand (hourIn s) a
 
   abbrev U : ℤ
   U = ufe (hourIn s) a

@@ -131,7 +131,7 @@ fn sum_of_cents(file: &[u8], amounts: &[i64]) -> i64
 }
 
 // Whether N isn't 0, with room lent for the records' deviations and the members' amounts.
-fn left_over_in(file: &[u8], head: Head, deviations: &mut [i64], amounts: &mut [i64]) -> bool
+fn left_to_share_in(file: &[u8], head: Head, deviations: &mut [i64], amounts: &mut [i64]) -> bool
     requires { ⌜ Headed (now file) head × (hourDemand (hourIn (now file)) ≡ 0) × (hourIn (now file) .count ≤ length (now deviations))
         × Empty (pos 0) (hourIn (now file)) (now amounts) ⌝ }
     ensures { λ r. ⌜ r ≡ not (eqb (natAbs (neutrality (hourIn (now (file .entry))))) 0) ⌝ }
@@ -145,14 +145,14 @@ fn left_over_in(file: &[u8], head: Head, deviations: &mut [i64], amounts: &mut [
 // Whether N isn't 0, in an hour in which nobody demands anything: then there is nothing to share it by. It is asked before the first store,
 // so that no buffer of the caller has the charges yet. All deviations are worked at once: record by record the compiler would make a call
 // of each, here and in every other hour.
-fn left_over(file: &[u8], head: Head) -> bool
+fn left_to_share(file: &[u8], head: Head) -> bool
     requires { ⌜ Headed (now file) head × (hourDemand (hourIn (now file)) ≡ 0) ⌝ }
     ensures { λ r. ⌜ r ≡ not (eqb (natAbs (neutrality (hourIn (now (file .entry))))) 0) ⌝ }
 {
     let n = head.members;
     let mut deviations = [0i64; 250];
     let mut amounts = [0i64; 32];
-    left_over_in(file, head, &mut deviations, &mut amounts[..n])
+    left_to_share_in(file, head, &mut deviations, &mut amounts[..n])
 }
 
 // Refusal 12: nobody demands anything in the hour, and N isn't 0. N is worked only where nobody demands anything.
@@ -161,7 +161,7 @@ pub fn no_demand(file: &[u8], head: Head, t: Tally) -> bool
     ensures { λ r. ⌜ placeZeroIf r ≡ noDemand (hourIn (now (file .entry))) ⌝ }
 {
     if byarea::nobody_demands(file, head, t) {
-        return left_over(file, head);
+        return left_to_share(file, head);
     }
     false
 }

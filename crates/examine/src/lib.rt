@@ -124,7 +124,7 @@ fn first_fault(file: &[u8]) -> Fault
 fn examine_hour(file: &[u8]) -> Answer
     requires { ⌜ BlocksWhole (now file) ⌝ }
     ensures { λ r. ⌜ Refusals.verdictOf r
-        ≡ Refusals.verdict (let h = hourIn (now (file .entry)) in Refusals.wordRows hourlyForm h ++ Refusals.recordRows h) ⌝ }
+        ≡ Refusals.verdict (let h = hourIn (now (file .entry)) in Refusals.wordRows hourlyForm h ++ Refusals.comparisonRows h) ⌝ }
 {
     if let Found::At(w) = bad_head(file) {
         return Answer::BadHead(w);

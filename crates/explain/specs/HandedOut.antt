@@ -1,7 +1,6 @@
 -- What the function for C hands out, as the result that `rules` defines: the answer is its number and place, the head that decided is counted.
 use Prim.Native.Nat.{ℕ, zero, suc}
 use mathlib.Core.Option.{Option, none, some}
-use Rattle.rules.specs.Refusals.{refusedAt}
 use Rattle.rules.specs.Explanation.{Explanation}
 use Rattle.explain.specs.declared.boundary.NumberedExplained.{NumberedExplained}
 
@@ -10,5 +9,5 @@ abbrev pub headCounted : ℕ → Option ℕ
 headCounted zero = none
 headCounted (suc k) = some k
 
-abbrev pub handedOut : NumberedExplained → Explanation
-handedOut r = record { verdict = refusedAt (r .number) (r .place); heads = r .heads; decided = headCounted (r .decided) }
+abbrev pub explanationOf : NumberedExplained → Explanation
+explanationOf r = record { verdict = record { number = r .number; place = r .place }; heads = r .heads; decided = headCounted (r .decided) }

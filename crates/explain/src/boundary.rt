@@ -6,7 +6,7 @@ ghost use mathlib.Core.Option.{some};
 ghost use Prim.Native.Nat.{ℕ, _<_};
 ghost use Rattle.rules.specs.Explanation as Explanation;
 ghost use Rattle.rules.specs.Refusals.{foundAt};
-ghost use Rattle.explain.specs.HandedOut.{handedOut, headCounted};
+ghost use Rattle.explain.specs.HandedOut.{explanationOf, headCounted};
 use rules::Found;
 
 #[repr(C)]
@@ -31,7 +31,7 @@ fn head_number(decided: Found) -> u64
 // Explains a member's charge.
 #[no_mangle]
 pub extern "C" fn sneupelaar_explain(file: &[u8], member: u32) -> NumberedExplained
-    ensures { λ r. ⌜ handedOut r ≡ Explanation.explain (now (file .entry)) member ⌝ }
+    ensures { λ r. ⌜ explanationOf r ≡ Explanation.explain (now (file .entry)) member ⌝ }
 {
     let explained = crate::explain(file, member);
     let answer = explained.answer;

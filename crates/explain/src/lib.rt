@@ -13,7 +13,7 @@ use rules::Found;
 pub mod boundary;
 mod heads;
 
-fn refused(answer: Answer) -> Explained
+fn unexplained(answer: Answer) -> Explained
     ensures { λ r. ⌜ r ≡ record { answer = answer; heads = Explanation.noHeads; decided = Nothing } ⌝ }
 {
     Explained {
@@ -36,7 +36,7 @@ fn explain_settled(
 {
     let head = hour::head_of(file);
     if head.members <= member {
-        return refused(Answer::NoMember);
+        return unexplained(Answer::NoMember);
     }
     let heads = heads::heads_of(file, head, member, deviations, shares);
     let decided = heads::decided(charges[member], heads);
@@ -62,7 +62,7 @@ fn explain_in(
     let settled = pool::settle_unlined(file, charges, finals, shares, deviations);
     let answer = settled.answer;
     let Answer::Accepted = answer else {
-        return refused(answer);
+        return unexplained(answer);
     };
     explain_settled(file, member, charges, shares, deviations)
 }

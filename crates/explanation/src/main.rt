@@ -3,7 +3,7 @@ use libc::STDIN_FILENO;
 
 fn print_explanation(input: &[u8]) {
     let mut text = [0u8; report::explanation::LONGEST];
-    let length = report::explanation::explanation(input, &mut text);
+    let length = report::explanation::put_explanation(input, &mut text);
     streams::print(&text[..length]);
 }
 

@@ -69,7 +69,7 @@ fn put_decided(out: &mut [u8], at: usize, decided: Found) -> usize
 }
 
 // Five lines, a head each, and a sixth.
-pub fn put_explanation(out: &mut [u8], heads: [i64; 5], decided: Found) -> usize
+pub fn put_six_lines(out: &mut [u8], heads: [i64; 5], decided: Found) -> usize
     requires { ⌜ 165 ≤ length (now out) ⌝ }
     ensures { λ r. ⌜ Put (now (out .entry)) 0 (explanationLines heads (foundAt decided)) r (now (out .exit)) ⌝ }
 {

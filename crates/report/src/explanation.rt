@@ -23,12 +23,12 @@ fn put_explained(explained: Explained, out: &mut [u8]) -> usize
     };
     let heads = explained.heads;
     let decided = explained.decided;
-    printing::explanation::put_explanation(out, heads, decided)
+    printing::explanation::put_six_lines(out, heads, decided)
 }
 
 // Puts the explanation that the input asks for, four bytes of member number and an hour file, at the start of `out`, and hands back how
 // many bytes it has. Where `out` is shorter than the longest explanation nothing is put, and the answer is 0.
-pub fn explanation(input: &[u8], out: &mut [u8]) -> usize
+pub fn put_explanation(input: &[u8], out: &mut [u8]) -> usize
     ensures count { λ r. ⌜ r ≡ explained (now (input .entry)) (now (out .entry)) .count ⌝ }
     ensures out { λ r. ⌜ now (out .exit) ≡ explained (now (input .entry)) (now (out .entry)) .out ⌝ }
 {

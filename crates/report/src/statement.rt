@@ -91,7 +91,7 @@ fn put_settled(file: &[u8], charges: &mut [i64], finals: &mut [i64], out: &mut [
 
 // Puts the statement of a file at the start of `out`, and hands back how many bytes it has. Where `out` is shorter than the longest
 // statement nothing is put, and the answer is 0.
-pub fn statement(file: &[u8], out: &mut [u8]) -> usize
+pub fn put_statement(file: &[u8], out: &mut [u8]) -> usize
     ensures count { λ r. ⌜ r ≡ stated (now (file .entry)) (now (out .entry)) .count ⌝ }
     ensures out { λ r. ⌜ now (out .exit) ≡ stated (now (file .entry)) (now (out .entry)) .out ⌝ }
 {

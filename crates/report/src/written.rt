@@ -64,7 +64,7 @@ fn put_input(input: &[u8], words: &mut [u32], out: &mut [u8]) -> usize
 
 // Puts the hour file of the input, or the line of its refusal, at the start of `out`, and hands back how many bytes it has. Where `out` is
 // shorter than the longest file nothing is put, and the answer is 0.
-pub fn write_raw(input: &[u8], out: &mut [u8]) -> usize
+pub fn put_written_hour(input: &[u8], out: &mut [u8]) -> usize
     ensures count { λ r. ⌜ r ≡ filing (now (input .entry)) (now (out .entry)) .count ⌝ }
     ensures out { λ r. ⌜ now (out .exit) ≡ filing (now (input .entry)) (now (out .entry)) .out ⌝ }
 {

@@ -16,7 +16,7 @@ use Rattle.whole.proofs.Tests.{split, never, neither}
 use Rattle.whole.proofs.Linear.{zr, all5, lt↑, abs-zero}
 use Rattle.rules.specs.Charge.{nearestCent, cents}
 use Rattle.rules.specs.Explanation.{headAt, sameSign, decidedBy}
-use Rattle.rules.specs.Promised.Explanation.{Decides}
+use Rattle.rules.specs.Promised.Deciding.{Decides}
 use Rattle.rules.proofs.Shares.{found, none-waits}
 
 -- ---- signs

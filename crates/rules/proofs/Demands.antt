@@ -18,7 +18,7 @@ use Rattle.whole.proofs.Search.{first-none}
 use Rattle.whole.proofs.Buffers.{length-values, getD-values, getD-replacing, drop-replacing, length-replacing}
 use Rattle.rules.specs.Record.{Hour, members, zones, areas, memberOf, areaOf, zoneOf, entryOf}
 use Rattle.rules.specs.Deviation.{deviation}
-use Rattle.rules.specs.Ufe.{ufe, demands}
+use Rattle.rules.specs.Ufe.{ufe, areaDemand}
 use Rattle.rules.specs.Charge.{shareOf, amount, recordsOf, cents, nearestCent, charge}
 use Rattle.rules.specs.Neutrality.{final}
 use Rattle.rules.specs.Text.{bytes, digitByte, amountText, amountField}
@@ -179,8 +179,8 @@ sound h p = record {
   member-there = λ i l. p .kept .record-kept i l .member-there;
   area-there = λ i l. p .kept .record-kept i l .area-there;
   no-demand-no-ufe = λ a l z.
-      let whole = first-none (λ a. eqb (demands h a) 0 && not (eqb (natAbs (ufe h a)) 0)) (areas h) (p .no-bad-area) a l in
-      abs-zero (ufe h a) (eqb-true _ _ (not-false _ (rw (eq-eqb (demands h a) 0 z) at whole)));
+      let whole = first-none (λ a. eqb (areaDemand h a) 0 && not (eqb (natAbs (ufe h a)) 0)) (areas h) (p .no-bad-area) a l in
+      abs-zero (ufe h a) (eqb-true _ _ (not-false _ (rw (eq-eqb (areaDemand h a) 0 z) at whole)));
 }
 
 -- what settling fills in is what the definitions say, place by place

@@ -19,8 +19,8 @@ use Rattle.rules.specs.Record.{Hour, kindOf, isGenerator, entry, entryOf
 use Rattle.rules.specs.HourFile.{hourly, hourIn}
 use Rattle.rules.specs.HourWords.{hourFrom}
 use Rattle.rules.specs.Refusals.{Row, row, Verdict, verdict, scheduledAbove, overScheduled, aboveMaximum}
-use Rattle.rules.specs.Refusals.{noMember, tooShort, noRoom, blockRows, wordRows, recordRows, sumRows, formRows, fileRows, hourRows}
-use Rattle.rules.specs.Refusals.{Buffers, settleRows, explainRows, listFormRows, listRows, writerRows}
+use Rattle.rules.specs.Refusals.{noMember, tooShort, noRoom, blockRows, wordRows, comparisonRows, sumRows, formRows, fileRows, hourRows}
+use Rattle.rules.specs.Refusals.{Buffers, settleRows, explainRows, listFormRows, listRows, writeHourRows}
 use Rattle.rules.specs.Settling.{settle, writeHour}
 use Rattle.rules.specs.Explanation.{explain}
 use Rattle.rules.specs.Promised.Engines.{WithinMaximum, AllWithin, FirstAbove, HeldToMaximum, Engines}
@@ -99,18 +99,18 @@ module _ (s : List ℕ) where
   to-last last = sumRows h ++ last ∷ []
 
   settled : (b : Buffers) → HeldToMaximum (formRows hourlyForm s) h (settle s b .verdict)
-  unfolding blockRows wordRows recordRows sumRows formRows fileRows hourRows settleRows hasRow
+  unfolding blockRows wordRows comparisonRows sumRows formRows fileRows hourRows settleRows hasRow
   settled b = held h (formRows hourlyForm s) (to-last (row 11 (tooShort h b))) (form-numbered hourlyForm s) (omega arith) refl refl
       (settle-verdict s b)
 
   explained : (m : ℕ) → HeldToMaximum (formRows hourlyForm s) h (explain s m .verdict)
-  unfolding blockRows wordRows recordRows sumRows formRows fileRows hourRows explainRows hasRow
+  unfolding blockRows wordRows comparisonRows sumRows formRows fileRows hourRows explainRows hasRow
   explained m = held h (formRows hourlyForm s) (to-last (row 13 (noMember h m))) (form-numbered hourlyForm s) (omega arith) refl refl
       (explain-verdict s m)
 
 written : (head records file : List ℕ) →
     HeldToMaximum (listFormRows head records) (hourFrom hourly head records) (writeHour head records file .verdict)
-unfolding wordRows recordRows listFormRows listRows writerRows hasRow
+unfolding wordRows comparisonRows listFormRows listRows writeHourRows hasRow
 written head records file =
     let h = hourFrom hourly head records in
     held h (listFormRows head records) (row 11 (noRoom h (length file)) ∷ []) (omega arith) (omega arith) refl refl

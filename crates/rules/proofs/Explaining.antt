@@ -18,7 +18,7 @@ use Rattle.rules.specs.Refusals.{row, accepted, refusedAt, verdict, noMe
 use Rattle.rules.specs.Settling.{isAccepted, settle, filled, lineOf, emptyLine}
 use Rattle.rules.specs.Explanation.{heads, noHeads, decided, explain}
 use Rattle.rules.specs.Promised.Demands.{Accepts, AllWhole, FirstBrokenRow}
-use Rattle.rules.specs.Promised.Explanation.{Explains, Explaining}
+use Rattle.rules.specs.Promised.Deciding.{Explains, Explaining}
 use Rattle.rules.proofs.Rows.{Numbered, numbered-on, accepts-when-whole, zero-accepts, refuses-at-first, refused-first, passed-on, hour-numbered}
 use Rattle.rules.proofs.Rows.{settle-whole, settle-fills}
 use Rattle.rules.proofs.Kept.{passed-kept}

@@ -22,7 +22,7 @@ use Rattle.rules.specs.declared.Kind.{Kind}
 use Rattle.rules.specs.declared.Kind.the-variants.{Generator, RealTimeLoad, ProfileLoad, Import, Export, Unknown}
 use Rattle.rules.specs.Record.{Hour, Entry, members, areas, price, memberOf, areaOf, entryOf, isGenerator, isLoad, isImport, isExport}
 use Rattle.rules.specs.Deviation.{generatorDeviation, loadDeviation, importDeviation, exportDeviation, deviation, deviationAs}
-use Rattle.rules.specs.Ufe.{inArea, areaSum, ufe, demand, demands}
+use Rattle.rules.specs.Ufe.{inArea, areaSum, ufe, demand, areaDemand}
 use Rattle.rules.specs.Share.{allDemand, shareSize, share}
 use Rattle.rules.specs.Charge.{entering, enteringAs, nearestCent, cents, shareOf, grains, amount, charge, poolTotal}
 use Rattle.rules.specs.Promised.Demands.{rankedShare, nonZeroT, allT, otherT, exactFraction, unrounded, loadPrices, Fair}
@@ -31,7 +31,7 @@ use Rattle.rules.proofs.Shares.{ranked, nothing-for-others, nothing-wit
 pub record Sound (h : Hour) : Type 0 where
   pub member-there : (i : ℕ) → i < h .count → memberOf h i < members h
   pub area-there : (i : ℕ) → i < h .count → areaOf h i < areas h
-  pub no-demand-no-ufe : (a : ℕ) → a < areas h → demands h a ≡ 0 → ufe h a ≡ pos 0
+  pub no-demand-no-ufe : (a : ℕ) → a < areas h → areaDemand h a ≡ 0 → ufe h a ≡ pos 0
 
 -- ---- an area's shares
 
@@ -83,17 +83,17 @@ module _ (h : Hour) where
       (sizes-at-most (inArea h a isLoad) (demand h) (h .count) (natAbs (ufe h a)))
 
   -- Each share is less than one unit from its exact fraction.
-  pub near : (i : ℕ) → i < h .count → isLoad (entryOf h i .kind) ≡ true → (demands h (areaOf h i) ≡ 0 → ⊥) →
-      natAbs (shareOf h i *ℤ pos (demands h (areaOf h i)) -ℤ pos (demand h i) *ℤ ufe h (areaOf h i)) < demands h (areaOf h i)
-  unfolding demands allDemand inArea
+  pub near : (i : ℕ) → i < h .count → isLoad (entryOf h i .kind) ≡ true → (areaDemand h (areaOf h i) ≡ 0 → ⊥) →
+      natAbs (shareOf h i *ℤ pos (areaDemand h (areaOf h i)) -ℤ pos (demand h i) *ℤ ufe h (areaOf h i)) < areaDemand h (areaOf h i)
+  unfolding areaDemand allDemand inArea
   near i l t some =
       let a : ℕ = areaOf h i in
       let q = size-near (inArea h a isLoad) (demand h) (h .count) (natAbs (ufe h a)) (omega (arith, some)) i l (rw (eq-eqb a a refl, t)) in
-      rw (own-share i) (near-with-sign (ufe h a) (sizeIn a i) (demands h a) (demand h i) (q .0) (q .1))
+      rw (own-share i) (near-with-sign (ufe h a) (sizeIn a i) (areaDemand h a) (demand h i) (q .0) (q .1))
 
   -- An area without demand shares nothing.
-  pub none-to-share : (i : ℕ) → i < h .count → demands h (areaOf h i) ≡ 0 → shareOf h i ≡ pos 0
-  unfolding demands allDemand
+  pub none-to-share : (i : ℕ) → i < h .count → areaDemand h (areaOf h i) ≡ 0 → shareOf h i ≡ pos 0
+  unfolding areaDemand allDemand
   none-to-share i l z =
       let a : ℕ = areaOf h i in
       own-share i ∙ ap (withSignOf (ufe h a)) (nothing-without-demand (inArea h a isLoad) (demand h) (h .count) (natAbs (ufe h a)) i z)
@@ -101,7 +101,7 @@ module _ (h : Hour) where
 
 module _ (h : Hour) (ok : Sound h) where
   sizes-are-ufe : (a : ℕ) → a < areas h → sumBelow (sizeIn h a) (h .count) ≡ natAbs (ufe h a)
-  unfolding demands allDemand
+  unfolding areaDemand allDemand
   sizes-are-ufe a l =
       sizes-add-up-to (inArea h a isLoad) (demand h) (h .count) (natAbs (ufe h a)) (λ z. ap natAbs (ok .no-demand-no-ufe a l z))
 
@@ -205,9 +205,9 @@ cond-bound true p q = omega arith
 cond-bound false p q = omega arith
 
 module _ (h : Hour) where
-  all-and-other : (a : ℕ) → a < areas h → (demands h a ≡ 0 → ⊥) → allT h ≡ otherT h a * demands h a
+  all-and-other : (a : ℕ) → a < areas h → (areaDemand h a ≡ 0 → ⊥) → allT h ≡ otherT h a * areaDemand h a
   unfolding allT otherT nonZeroT
-  all-and-other a l some = sym (product-but (nonZeroT h) (areas h) a l) ∙ ap (λ (t : ℕ). otherT h a * t) (rw (ne-eqb (demands h a) 0 some))
+  all-and-other a l some = sym (product-but (nonZeroT h) (areas h) a l) ∙ ap (λ (t : ℕ). otherT h a * t) (rw (ne-eqb (areaDemand h a) 0 some))
 
   -- a record's grains with its exact fraction in place of its share
   abbrev exactGrains : ℕ → ℤ
@@ -215,13 +215,13 @@ module _ (h : Hour) where
 
 module _ (h : Hour) (ok : Sound h) where
   -- a share against its exact fraction: at most one unit for a load whose area has demand, otherwise both are 0
-  load-off : (i : ℕ) → i < h .count → isLoad (entryOf h i .kind) ≡ true → (demands h (areaOf h i) ≡ 0 → ⊥) →
+  load-off : (i : ℕ) → i < h .count → isLoad (entryOf h i .kind) ≡ true → (areaDemand h (areaOf h i) ≡ 0 → ⊥) →
       Under (shareOf h i *ℤ pos (allT h) -ℤ pos (demand h i) *ℤ ufe h (areaOf h i) *ℤ pos (otherT h (areaOf h i))) (allT h)
   load-off i l t some =
       let a : ℕ = areaOf h i in
       let w : ℤ = pos (demand h i) *ℤ ufe h a in
-      let u : Under (shareOf h i *ℤ pos (demands h a) -ℤ w) (demands h a) = record { under = le-of-lt (near h i l t some) } in
-      rw (all-and-other h a (ok .area-there i l) some, scaled (shareOf h i) (pos (demands h a)) w (pos (otherT h a)))
+      let u : Under (shareOf h i *ℤ pos (areaDemand h a) -ℤ w) (areaDemand h a) = record { under = le-of-lt (near h i l t some) } in
+      rw (all-and-other h a (ok .area-there i l) some, scaled (shareOf h i) (pos (areaDemand h a)) w (pos (otherT h a)))
       (u-le (u u* u-lit (pos (otherT h a))) (omega arith))
 
   share-off : (i : ℕ) → i < h .count →
@@ -230,8 +230,8 @@ module _ (h : Hour) (ok : Sound h) where
   share-off i l = split (isLoad (entryOf h i .kind))
       (λ t. ⊎-elim
       (λ z. rw (none-to-share h i l z, z, and-false) (nothing-off (allT h) _))
-      (λ (p : 0 < demands h (areaOf h i)). rw (t, ne-eqb (demands h (areaOf h i)) 0 (λ z. omega arith)) (load-off i l t (λ z. omega arith)))
-      (eq-zero-or-pos (demands h (areaOf h i))))
+      (λ (p : 0 < areaDemand h (areaOf h i)). rw (t, ne-eqb (areaDemand h (areaOf h i)) 0 (λ z. omega arith)) (load-off i l t (λ z. omega arith)))
+      (eq-zero-or-pos (areaDemand h (areaOf h i))))
       (λ f. rw (no-load-no-share h i f, f) (nothing-off (allT h) 0))
 
   grains-off : (i : ℕ) → i < h .count →

@@ -24,7 +24,7 @@ use Rattle.rules.specs.Explanation.{pricedSum, heads, headAt}
 use Rattle.rules.specs.Inner.Posting.{headWith, headsWith, headsAfter}
 use Rattle.rules.specs.Inner.Kept.{HourKept, EntryKept}
 use Rattle.rules.specs.Promised.Tariff.{coordinatorSum, UFEC}
-use Rattle.rules.specs.Promised.Explanation.{inEveryZone, tariffHeads}
+use Rattle.rules.specs.Promised.Deciding.{inEveryZone, tariffHeads}
 use Rattle.rules.proofs.Tariff.{generator-renders, load-renders, import-deemed, import-renders, export-renders, only-loads-share}
 use Rattle.rules.proofs.Bounds.{generator-under, load-under, import-under, export-under, priced-running}
 

@@ -14,8 +14,8 @@ use Rattle.rules.specs.HourWords.{hourFrom}
 use Rattle.rules.specs.Ranges.{rulesOf, recordRule, hourlyForm}
 use Rattle.rules.specs.Refusals.{Row, row, accepted, refusedAt, verdict, Buffers, isBroken, badWord, badRecord, tooShort, badLists}
 use Rattle.rules.specs.Refusals.{noRoom}
-use Rattle.rules.specs.Refusals.{blockRows, wordRows, recordRows, sumRows, formRows, fileRows, hourRows, settleRows}
-use Rattle.rules.specs.Refusals.{listFormRows, listRows, writerRows}
+use Rattle.rules.specs.Refusals.{blockRows, wordRows, comparisonRows, sumRows, formRows, fileRows, hourRows, settleRows}
+use Rattle.rules.specs.Refusals.{listFormRows, listRows, writeHourRows}
 use Rattle.rules.specs.Settling.{settle, writeHour}
 use Rattle.rules.specs.Promised.Imports.{FirstMetered, Imports}
 use Rattle.rules.proofs.Rows.{accepts-when-whole, passed-on, block-numbered, settle-verdict}
@@ -46,15 +46,15 @@ metered-refused : (s : List ℕ) (b : Buffers) (i : ℕ) → verdict (blockRows 
 unfolding blockRows wordRows formRows fileRows hourRows settleRows
 metered-refused s b i passed m = let h = hourIn s in
     settle-verdict s b
-    ∙ passed-on (blockRows hourly s) (wordRows hourlyForm h ++ ((recordRows h ++ sumRows h) ++ row 11 (tooShort h b) ∷ []))
+    ∙ passed-on (blockRows hourly s) (wordRows hourlyForm h ++ ((comparisonRows h ++ sumRows h) ++ row 11 (tooShort h b) ∷ []))
     (accepts-when-whole (blockRows hourly s) (block-numbered hourly s) .0 passed)
     ∙ words-refused _ m
 
 metered-unwritten : (head records file : List ℕ) (i : ℕ) → badLists head records ≡ none →
     FirstMetered (hourFrom hourly head records) i → writeHour head records file .verdict ≡ refusedAt 5 i
-unfolding verdict wordRows listFormRows listRows writerRows
+unfolding verdict wordRows listFormRows listRows writeHourRows
 metered-unwritten head records file i passed m = let h = hourFrom hourly head records in
-    verdict-is head records file ∙ rw passed (words-refused (recordRows h ++ row 11 (noRoom h (length file)) ∷ []) m)
+    verdict-is head records file ∙ rw passed (words-refused (comparisonRows h ++ row 11 (noRoom h (length file)) ∷ []) m)
 
 pub imports : Imports
 imports = record { refused = metered-refused; unwritten = metered-unwritten }

@@ -6,8 +6,7 @@ use Rattle.whole.specs.Below
 use Rattle.rules.specs.HourFile
 use Rattle.rules.specs.Ranges
 use Rattle.rules.specs.Refusals
-use Rattle.rules.specs.Figures.Printed.{wordBytes}
-use Rattle.rules.specs.Figures.Refused.{sealed, first, plainHead}
+use Rattle.rules.specs.Figures.Files.{wordBytes, sealed, first, plainHead}
 
 pub missing-block : Refusals.verdict (Refusals.fileRows (first 1 (plainHead 2))) ≡ Refusals.refusedAt 3 0
 unfolding Below.sumBelow Below.firstBelow orElse HourFile.word HourFile.blocks HourFile.blockWord HourFile.blockSum HourFile.lengthBad

@@ -16,7 +16,7 @@ use Rattle.whole.proofs.Sums.{sum-ext, sum-mono, sum-prefix, sum-at, sum-add, s
 use Rattle.whole.proofs.Totals.{total-ext, total-sub, total-within, total-with-sign, own-sign, sign-of-zero}
 use Rattle.whole.proofs.Division.{nearest-within}
 use Rattle.rules.specs.Record.{Hour, members, areas, memberOf, areaOf, entry, entryOf, isLoad}
-use Rattle.rules.specs.Ufe.{inArea, demand, demands}
+use Rattle.rules.specs.Ufe.{inArea, demand, areaDemand}
 use Rattle.rules.specs.Share.{allDemand, shareSize, share, rankedSize}
 use Rattle.rules.specs.Charge.{nearestCent, cents, grains, amount, charge}
 use Rattle.rules.specs.Neutrality.{everyMember, memberDemand, hourDemand, neutrality, neutralityShare, final}
@@ -116,8 +116,8 @@ module _ (h : Hour) where
   member-demand-by-record m =
       sum-ext _ _ (h .count) (λ i l. cond-both (eqb (memberOf h i) m) (isLoad (entryOf h i .kind)) (demand h i))
 
-  area-demand-by-record : (a : ℕ) → demands h a ≡ sumBelow (λ i. cond (eqb (areaOf h i) a) (demandOf h i) 0) (h .count)
-  unfolding demands allDemand inArea demandBy
+  area-demand-by-record : (a : ℕ) → areaDemand h a ≡ sumBelow (λ i. cond (eqb (areaOf h i) a) (demandOf h i) 0) (h .count)
+  unfolding areaDemand allDemand inArea demandBy
   area-demand-by-record a =
       sum-ext _ _ (h .count) (λ i l. cond-both (eqb (areaOf h i) a) (isLoad (entryOf h i .kind)) (demand h i))
 
@@ -129,14 +129,14 @@ module _ {h : Hour} (kept : HourKept h) where
       sum-ext _ _ (members h) (λ m l. member-demand-by-record h m)
       ∙ sum-by (demandOf h) (memberOf h) (members h) (h .count) (λ i l. kept .record-kept i l .member-there)
 
-  pub hour-demand-by-area : hourDemand h ≡ sumBelow (demands h) (areas h)
+  pub hour-demand-by-area : hourDemand h ≡ sumBelow (areaDemand h) (areas h)
   hour-demand-by-area = hour-demand-by-record ∙ sym (
       sum-ext _ _ (areas h) (λ a l. area-demand-by-record h a)
       ∙ sum-by (demandOf h) (areaOf h) (areas h) (h .count) (λ i l. kept .record-kept i l .area-there))
 
   -- Where nobody demands anything in the hour, no area does.
-  pub no-area-demands : hourDemand h ≡ 0 → (a : ℕ) → a < areas h → demands h a ≡ 0
-  no-area-demands none a there = omega (arith, hour-demand-by-area, sum-at (demands h) (areas h) a there)
+  pub no-area-demands : hourDemand h ≡ 0 → (a : ℕ) → a < areas h → areaDemand h a ≡ 0
+  no-area-demands none a there = omega (arith, hour-demand-by-area, sum-at (areaDemand h) (areas h) a there)
 
   demand-of-most : (i : ℕ) → i < h .count → demandOf h i ≤ 100000
   unfolding demandBy

@@ -19,7 +19,7 @@ use Rattle.rules.specs.Neutrality.{hourDemand, neutrality}
 use Rattle.rules.specs.HourFile.{hourIn}
 use Rattle.rules.specs.Ranges.{hourlyForm}
 use Rattle.rules.specs.Refusals.{Row, row, Verdict, accepted, verdict, Buffers, placeZeroIf, badArea, badAmount, noDemand, noMember}
-use Rattle.rules.specs.Refusals.{tooShort, blockRows, wordRows, recordRows, sumRows, formRows, fileRows, hourRows, settleRows}
+use Rattle.rules.specs.Refusals.{tooShort, blockRows, wordRows, comparisonRows, sumRows, formRows, fileRows, hourRows, settleRows}
 use Rattle.rules.specs.Refusals.{explainRows}
 use Rattle.rules.specs.Settling.{settle}
 use Rattle.rules.specs.Explanation.{explain}
@@ -102,7 +102,7 @@ module _ (s : List ℕ) where
   )
 
   none-before : hasRow 12 upTo7 ≡ false
-  unfolding hasRow fileRows formRows blockRows wordRows recordRows
+  unfolding hasRow fileRows formRows blockRows wordRows comparisonRows
   none-before = refl
 
   held : (after : List Row) → hasRow 12 after ≡ false → {v : Verdict} → v ≡ verdict (upTo7 ++ row 12 (noDemand h) ∷ after) → HeldToDemand s v

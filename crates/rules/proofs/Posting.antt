@@ -20,7 +20,7 @@ use Rattle.rules.specs.declared.Kind.the-variants.{Generator, RealTimeLo
 use Rattle.rules.specs.declared.Line.{Line}
 use Rattle.rules.specs.Record.{Hour, members, tieIn, tieOut, memberOf, areaOf, actual, entry, entryOf, kindOf, isLoad, isImport}
 use Rattle.rules.specs.Deviation.{unitsPerKWh}
-use Rattle.rules.specs.Ufe.{D, inArea, ufe, demand, demands}
+use Rattle.rules.specs.Ufe.{D, inArea, ufe, demand, areaDemand}
 use Rattle.rules.specs.Share.{allDemand}
 use Rattle.rules.specs.Charge.{grains, amount, recordsOf}
 use Rattle.rules.specs.Settling.{lineOf, emptyLine}
@@ -90,8 +90,8 @@ module _ (h : Hour) where
         ∙ ap (λ (x : ℤ). x +ℤ cond (eqb (areaOf h n) a) (accounted (entryOf h n)) (pos 0)) (tally-energy n)
 
     -- Once all records are posted, the tally has each area's demand, T, and all of its UFE that its ties do not bring.
-    pub tally-gives-demands : getD (tallyAfter h (h .count) .demand) a 0 ≡ demands h a
-    unfolding demands allDemand
+    pub tally-gives-demands : getD (tallyAfter h (h .count) .demand) a 0 ≡ areaDemand h a
+    unfolding areaDemand allDemand
     tally-gives-demands = tally-demand (h .count)
 
     pub tally-gives-ufe : ufe h a ≡ unitsPerKWh *ℤ (tieIn h a -ℤ tieOut h a) +ℤ getD (tallyAfter h (h .count) .energy) a (pos 0)

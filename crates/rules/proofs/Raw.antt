@@ -14,8 +14,8 @@ use Rattle.whole.proofs.Tests.{split}
 use Rattle.whole.proofs.Buffers.{length-values}
 use Rattle.rules.specs.HourFile.{hourly, word}
 use Rattle.rules.specs.HourWords.{hourFrom, fileLength, fileOf}
-use Rattle.rules.specs.Refusals.{accepted, refusedAt, verdict, badLists, noRoom, wordRows, recordRows, listFormRows, listRows}
-use Rattle.rules.specs.Refusals.{writerRows}
+use Rattle.rules.specs.Refusals.{accepted, refusedAt, verdict, badLists, noRoom, wordRows, comparisonRows, listFormRows, listRows}
+use Rattle.rules.specs.Refusals.{writeHourRows}
 use Rattle.rules.specs.Settling.{isAccepted}
 use Rattle.rules.specs.Statement.{refusedLine}
 use Rattle.rules.specs.RawHour.{rawWords, rawHead, rawRecords, rawRows, rawWritten}
@@ -33,14 +33,14 @@ unfolding fileLength hourFrom
 file-most head records e = omega (arith, some-blocks (hourFrom hourly head records), lists-whole head records e .2)
 
 pub room-for-file : (head records : List ℕ) (room : ℕ) → 13312 ≤ room →
-    verdict (writerRows head records room) ≡ verdict (listRows head records)
-unfolding listFormRows listRows writerRows noRoom
+    verdict (writeHourRows head records room) ≡ verdict (listRows head records)
+unfolding listFormRows listRows writeHourRows noRoom
 room-for-file head records room enough = last-decides-nothing (listRows head records) 11 _ (λ whole.
     rw (le-ltb room (fileLength hourly (hourFrom hourly head records)) (omega (arith, file-most head records (whole .0), enough))) refl)
 
 module _ (s : List ℕ) where
   raw-numbered : Numbered (rawRows s)
-  unfolding rawRows listRows listFormRows wordRows recordRows
+  unfolding rawRows listRows listFormRows wordRows comparisonRows
   raw-numbered = omega arith
 
   raw-accepted : verdict (rawRows s) ≡ accepted → rawWritten s ≡ fileOf hourly (hourFrom hourly (rawHead s) (rawRecords s))

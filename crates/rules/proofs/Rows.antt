@@ -19,8 +19,8 @@ use Rattle.rules.specs.declared.Layout.{Layout}
 use Rattle.rules.specs.Record.{Hour}
 use Rattle.rules.specs.HourFile.{hourOf, hourIn}
 use Rattle.rules.specs.Refusals.{Row, row, Verdict, accepted, refusedAt, verdictOf, verdict, placeZeroIf}
-use Rattle.rules.specs.Refusals.{Buffers, tooShort, blockRows, wordRows, recordRows, sumRows, formRows, fileRows, hourRows, settleRows}
-use Rattle.rules.specs.Refusals.{badArea, noDemand, writeRows}
+use Rattle.rules.specs.Refusals.{Buffers, tooShort, blockRows, wordRows, comparisonRows, sumRows, formRows, fileRows, hourRows, settleRows}
+use Rattle.rules.specs.Refusals.{badArea, noDemand, writeAmountRows}
 use Rattle.rules.specs.Settling.{Settlement, isAccepted, filled, ufeFigures, noFigures, settle, write}
 use Rattle.rules.specs.Promised.Demands.{Accepts, AllWhole, FirstBrokenRow, OneSettlement}
 use Rattle.rules.specs.Ranges.{Form, hourlyForm}
@@ -168,8 +168,8 @@ module _ (s : List ℕ) where
   h = hourIn s
 
   pub file-numbered : Numbered (fileRows s)
-  unfolding fileRows recordRows
-  file-numbered = numbered-on (formRows hourlyForm s) (recordRows h) (form-numbered hourlyForm s) (omega arith)
+  unfolding fileRows comparisonRows
+  file-numbered = numbered-on (formRows hourlyForm s) (comparisonRows h) (form-numbered hourlyForm s) (omega arith)
 
   pub hour-numbered : Numbered (hourRows s)
   unfolding hourRows sumRows
@@ -178,7 +178,7 @@ module _ (s : List ℕ) where
   -- which rows are whole where more are
   pub form-whole : AllWhole (fileRows s) → AllWhole (formRows hourlyForm s)
   unfolding fileRows
-  form-whole w = whole-parts (formRows hourlyForm s) (recordRows h) .0 w .0
+  form-whole w = whole-parts (formRows hourlyForm s) (comparisonRows h) .0 w .0
 
   pub file-whole : AllWhole (hourRows s) → AllWhole (fileRows s)
   unfolding hourRows
@@ -222,8 +222,8 @@ module _ (s : List ℕ) where
     unfolding settleRows
     table-whole w = let parts = whole-parts (hourRows s) lengthRow .0 w in (parts .0, parts .1 .0)
 
-pub write-numbered : (width : ℕ) (z : ℤ) → Numbered (writeRows width z)
-unfolding writeRows
+pub write-numbered : (width : ℕ) (z : ℤ) → Numbered (writeAmountRows width z)
+unfolding writeAmountRows
 write-numbered width z = omega arith
 
 -- ---- settling
@@ -265,18 +265,18 @@ module _ (s : List ℕ) (b : Buffers) where
 -- ---- writing
 
 module _ (f : List ℕ) (z : ℤ) where
-  pub write-accepts : (write f z .verdict ≡ accepted) ↔ AllWhole (writeRows (length f) z)
+  pub write-accepts : (write f z .verdict ≡ accepted) ↔ AllWhole (writeAmountRows (length f) z)
   unfolding write
-  write-accepts = accepts-when-whole (writeRows (length f) z) (write-numbered (length f) z)
+  write-accepts = accepts-when-whole (writeAmountRows (length f) z) (write-numbered (length f) z)
 
-  pub write-refuses : (n p : ℕ) → (write f z .verdict ≡ refusedAt (suc n) p) ↔ FirstBrokenRow (writeRows (length f) z) (suc n) p
+  pub write-refuses : (n p : ℕ) → (write f z .verdict ≡ refusedAt (suc n) p) ↔ FirstBrokenRow (writeAmountRows (length f) z) (suc n) p
   unfolding write
-  write-refuses n p = refuses-at-first (writeRows (length f) z) n p
+  write-refuses n p = refuses-at-first (writeAmountRows (length f) z) n p
 
   pub write-changes-nothing : (write f z .verdict ≡ accepted → ⊥) → write f z .field ≡ f
   unfolding write
-  write-changes-nothing r = split (isAccepted (verdict (writeRows (length f) z)))
-      (λ e. absurd (r (zero-accepts (writeRows (length f) z) (write-numbered (length f) z) (eqb-true _ _ e))))
+  write-changes-nothing r = split (isAccepted (verdict (writeAmountRows (length f) z)))
+      (λ e. absurd (r (zero-accepts (writeAmountRows (length f) z) (write-numbered (length f) z) (eqb-true _ _ e))))
       (λ e. rw e)
 
 -- ---- no second result fits

@@ -14,7 +14,7 @@ use lib.Seq.{drop-at, drop-append-seam, drop-drop, drop-length}
 use borrow.Author.Tests.{ltb-true, ltb-false, lt-ltb, le-ltb}
 use Rattle.whole.proofs.Tests.{split, never-some}
 use Rattle.rules.specs.Text.{signByte, decimal, amountText, amountField, pastBlanks, amountIn}
-use Rattle.rules.specs.Refusals.{row, Verdict, accepted, refusedAt, nothingRead, verdict, outOfRange, tooNarrow, notAnAmount, writeRows, readRows}
+use Rattle.rules.specs.Refusals.{row, Verdict, accepted, refusedAt, nothingRead, verdict, outOfRange, tooNarrow, notAnAmount, writeAmountRows, readAmountRows}
 use Rattle.rules.specs.Settling.{Written, ReadAmount, orRefused, write, read}
 use Rattle.rules.specs.Promised.Demands.{IsTextOf}
 use Rattle.rules.proofs.Digits.{decimal-length-at-most}
@@ -165,8 +165,8 @@ unfolding verdict
 read-checked none = refl
 read-checked (some z) = refl
 
-pub read-checks : (s : List ℕ) → read s .verdict ≡ verdict (readRows s)
-unfolding read readRows notAnAmount
+pub read-checks : (s : List ℕ) → read s .verdict ≡ verdict (readAmountRows s)
+unfolding read readAmountRows notAnAmount
 read-checks s = read-checked (amountIn s)
 
 pub read-accepts : (s : List ℕ) (z : ℤ) → (read s ≡ record { verdict = accepted; amount = z }) ↔ IsTextOf z s
@@ -185,17 +185,17 @@ read-refuses s = (
 
 module _ (f : List ℕ) (z : ℤ) where
   pub write-out-of-range : 999999999999 < natAbs z → write f z ≡ record { verdict = refusedAt 8 0; field = f }
-  unfolding write writeRows verdict outOfRange
+  unfolding write writeAmountRows verdict outOfRange
   write-out-of-range h = rw (lt-ltb 999999999999 (natAbs z) h)
 
   pub write-too-narrow : natAbs z ≤ 999999999999 → length f < length (amountText z) →
       write f z ≡ record { verdict = refusedAt 9 0; field = f }
-  unfolding write writeRows verdict outOfRange tooNarrow
+  unfolding write writeAmountRows verdict outOfRange tooNarrow
   write-too-narrow h l = rw (le-ltb 999999999999 (natAbs z) h, lt-ltb (length f) (length (amountText z)) l)
 
   pub write-accepted-at : natAbs z ≤ 999999999999 → length (amountText z) ≤ length f →
       write f z ≡ record { verdict = accepted; field = amountField (length f) z }
-  unfolding write writeRows verdict outOfRange tooNarrow
+  unfolding write writeAmountRows verdict outOfRange tooNarrow
   write-accepted-at h l = rw (le-ltb 999999999999 (natAbs z) h, le-ltb (length f) (length (amountText z)) l)
 
   -- what holds of each answer holds of every writing

@@ -23,7 +23,7 @@ use Rattle.rules.specs.Text.{bytes, decimal, digitCount, digitsValue}
 use Rattle.rules.specs.HourFile.{hourly, lengthBad, word, blocks, blockWord, recordCount, hourOf, hourIn}
 use Rattle.rules.specs.Ranges.{firstBroken}
 use Rattle.rules.specs.Refusals.{Row, row, Verdict, accepted, refusedAt, verdict, placeZeroIf, Buffers}
-use Rattle.rules.specs.Refusals.{blockRows, wordRows, recordRows, sumRows, formRows, fileRows, hourRows}
+use Rattle.rules.specs.Refusals.{blockRows, wordRows, comparisonRows, sumRows, formRows, fileRows, hourRows}
 use Rattle.rules.specs.Refusals.{badLength, badSum, badBlock, badHead, badRecord, aboveMaximum, badArea, badAmount, noDemand}
 use Rattle.rules.specs.Settling.{ReadAmount, isAccepted, filled, settle, read}
 use Rattle.rules.specs.Statement.{firstLine, memberLines, acceptedLines, refusedLine, statement}
@@ -99,7 +99,7 @@ module _ (s : List ℕ) (b : AreBytes s) where
   blocks-small l = omega arith
 
   rows-small : length s ≤ 13312 → SmallRows (hourRows s)
-  unfolding hourRows fileRows formRows blockRows wordRows recordRows sumRows badLength badSum badBlock badHead badRecord aboveMaximum
+  unfolding hourRows fileRows formRows blockRows wordRows comparisonRows sumRows badLength badSum badBlock badHead badRecord aboveMaximum
       badArea badAmount noDemand firstBroken
   rows-small l =
       let h = hourIn s in

@@ -12,6 +12,6 @@ use Rattle.rules.specs.Figures.Unwritten.{UnwrittenRight, unwrittenCases
 pub unwritten-right : UnwrittenRight
 unfolding Below.firstBelow orElse Record.signed Record.kindOf HourWords.hourFrom HourWords.blocksFor HourWords.fileLength Ranges.keeps
     Ranges.firstBroken Ranges.areaRule Ranges.headRule Ranges.rulesOf Ranges.recordRule Refusals.verdict Refusals.badLists Refusals.badHead
-    Refusals.badWord Refusals.badRecord Refusals.scheduledAbove Refusals.aboveMaximum Refusals.noRoom Refusals.wordRows Refusals.recordRows
-    Refusals.listFormRows Refusals.listRows Refusals.writerRows Settling.writeHour unwrittenCases
+    Refusals.badWord Refusals.badRecord Refusals.scheduledAbove Refusals.aboveMaximum Refusals.noRoom Refusals.wordRows Refusals.comparisonRows
+    Refusals.listFormRows Refusals.listRows Refusals.writeHourRows Settling.writeHour unwrittenCases
 unwritten-right = (refl, (refl, (refl, (refl, (refl, (refl, (refl, tt)))))))

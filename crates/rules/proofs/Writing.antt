@@ -17,7 +17,7 @@ use Rattle.rules.specs.Record.{Hour}
 use Rattle.rules.specs.HourFile.{hourly, blockWord, recordCount, recordWord, hourOf, hourIn}
 use Rattle.rules.specs.HourWords.{hourFrom, headWords, recordWords, blocksFor, fileByte, fileLength, fileOf}
 use Rattle.rules.specs.Refusals.{row, Verdict, accepted, refusedAt, verdict, badLists, noRoom}
-use Rattle.rules.specs.Refusals.{blockRows, wordRows, recordRows, formRows, fileRows, listFormRows, listRows, writerRows}
+use Rattle.rules.specs.Refusals.{blockRows, wordRows, comparisonRows, formRows, fileRows, listFormRows, listRows, writeHourRows}
 use Rattle.rules.specs.Settling.{HourWritten, isAccepted, writeHour}
 use Rattle.rules.specs.Promised.Demands.{AllWhole, FirstBrokenRow}
 use Rattle.rules.specs.Promised.Finals.{AreBytes}
@@ -33,8 +33,8 @@ use Rattle.rules.specs.Ranges.{hourlyForm}
 
 -- ---- the writer's rows
 
-pub writer-numbered : (head records : List ℕ) (room : ℕ) → Numbered (writerRows head records room)
-unfolding writerRows listRows listFormRows wordRows recordRows
+pub writer-numbered : (head records : List ℕ) (room : ℕ) → Numbered (writeHourRows head records room)
+unfolding writeHourRows listRows listFormRows wordRows comparisonRows
 writer-numbered head records room = omega arith
 
 module _ (head records : List ℕ) where
@@ -70,26 +70,26 @@ module _ (head records : List ℕ) where
     w = writeHour head records file
 
     abbrev rows : Verdict
-    rows = verdict (writerRows head records (length file))
+    rows = verdict (writeHourRows head records (length file))
 
     pub verdict-is : w .verdict ≡ rows
     unfolding writeHour
     verdict-is = split (isAccepted rows) (λ t. rw t refl) (λ t. rw t refl)
 
-    accepts : (w .verdict ≡ accepted) ↔ AllWhole (writerRows head records (length file))
-    accepts = let r = accepts-when-whole (writerRows head records (length file)) (writer-numbered head records (length file)) in
+    accepts : (w .verdict ≡ accepted) ↔ AllWhole (writeHourRows head records (length file))
+    accepts = let r = accepts-when-whole (writeHourRows head records (length file)) (writer-numbered head records (length file)) in
         (λ e. r .0 (sym verdict-is ∙ e), λ a. verdict-is ∙ r .1 a)
 
-    refuses : (n p : ℕ) → (w .verdict ≡ refusedAt (suc n) p) ↔ FirstBrokenRow (writerRows head records (length file)) (suc n) p
-    refuses n p = let r = refuses-at-first (writerRows head records (length file)) n p in
+    refuses : (n p : ℕ) → (w .verdict ≡ refusedAt (suc n) p) ↔ FirstBrokenRow (writeHourRows head records (length file)) (suc n) p
+    refuses n p = let r = refuses-at-first (writeHourRows head records (length file)) n p in
         (λ e. r .0 (sym verdict-is ∙ e), λ f. verdict-is ∙ r .1 f)
 
     -- accepted: the lists and their words, the records, and the room
-    rows-whole : w .verdict ≡ accepted → AllWhole (listFormRows head records) × AllWhole (recordRows h) × (noRoom h (length file) ≡ none)
-    unfolding writerRows listRows
+    rows-whole : w .verdict ≡ accepted → AllWhole (listFormRows head records) × AllWhole (comparisonRows h) × (noRoom h (length file) ≡ none)
+    unfolding writeHourRows listRows
     rows-whole e =
         let all = whole-parts (listRows head records) (row 11 (noRoom h (length file)) ∷ []) .0 (accepts .0 e) in
-        let lists = whole-parts (listFormRows head records) (recordRows h) .0 (all .0) in
+        let lists = whole-parts (listFormRows head records) (comparisonRows h) .0 (all .0) in
         (lists .0, lists .1, all .1 .0)
 
     pub changes-nothing : (w .verdict ≡ accepted → ⊥) → (w .length ≡ 0) × (w .file ≡ file)
@@ -138,9 +138,9 @@ module _ (head records : List ℕ) where
           (sums-whole written-file h says, (blocks-whole written-file h says, tt)),
         ) in
         let words = subst (λ (g : Hour). AllWhole (wordRows hourlyForm g)) (sym same) (whole .0 .1) in
-        let records-too = subst (λ (g : Hour). AllWhole (recordRows g)) (sym same) (whole .1) in
+        let records-too = subst (λ (g : Hour). AllWhole (comparisonRows g)) (sym same) (whole .1) in
         let form = whole-parts (blockRows hourly written-file) (wordRows hourlyForm (hourIn written-file)) .1 (blocks, words) in
-        let all = whole-parts (formRows hourlyForm written-file) (recordRows (hourIn written-file)) .1 (form, records-too) in
+        let all = whole-parts (formRows hourlyForm written-file) (comparisonRows (hourIn written-file)) .1 (form, records-too) in
         rw (file-is e) (accepts-when-whole (fileRows written-file) (file-numbered written-file) .1 all, same)
 
 -- what was answered and left behind, part by part
@@ -194,10 +194,10 @@ module _ (s : List ℕ) where
     own-file = only-file s (hourIn s) bytes (own-hour s bytes (form-whole s whole))
 
     -- nothing that the writer checks is broken
-    own-lists-pass : (room : ℕ) → length s ≤ room → AllWhole (writerRows (headWords s) (recordWords hourly s) room)
-    unfolding writerRows listRows listFormRows formRows fileRows noRoom badLists
+    own-lists-pass : (room : ℕ) → length s ≤ room → AllWhole (writeHourRows (headWords s) (recordWords hourly s) room)
+    unfolding writeHourRows listRows listFormRows formRows fileRows noRoom badLists
     own-lists-pass room enough =
-        let file = whole-parts (formRows hourlyForm s) (recordRows (hourIn s)) .0 whole in
+        let file = whole-parts (formRows hourlyForm s) (comparisonRows (hourIn s)) .0 whole in
         let words = whole-parts (blockRows hourly s) (wordRows hourlyForm (hourIn s)) .0 (file .0) .1 in
         let head = headWords s in
         let records = recordWords hourly s in
@@ -208,12 +208,12 @@ module _ (s : List ℕ) where
         ) refl in
         let own-words = subst (λ (g : Hour). AllWhole (wordRows hourlyForm g)) (sym own-lists) words in
         let form : AllWhole (listFormRows head records) = (lists, own-words) in
-        let records-too = subst (λ (g : Hour). AllWhole (recordRows g)) (sym own-lists) (file .1) in
+        let records-too = subst (λ (g : Hour). AllWhole (comparisonRows g)) (sym own-lists) (file .1) in
         let own-length = own-hour s bytes (form-whole s whole) .length-is in
         let room-there : noRoom (hourFrom hourly head records) room ≡ none =
         rw (own-lists, le-ltb room (fileLength hourly (hourIn s)) (omega (arith, own-length, enough))) refl in
         whole-parts (listRows head records) _ .1
-        (whole-parts (listFormRows head records) (recordRows (hourFrom hourly head records)) .1 (form, records-too), (room-there, tt))
+        (whole-parts (listFormRows head records) (comparisonRows (hourFrom hourly head records)) .1 (form, records-too), (room-there, tt))
       where
         few : recordCount hourly s ≤ 250
         few = rw (← record-count hourly s) (file-kept s (form-whole s whole) .hour-kept .count-most)

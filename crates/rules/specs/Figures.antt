@@ -1,4 +1,6 @@
 -- What is computed: the starred figures, and whole files with what settling, the statement, the writer and an explanation say of them.
+pub mod Cases
+pub mod Files
 pub mod Starred
 pub mod Limits
 pub mod Printed
@@ -6,4 +8,4 @@ pub mod Refused
 pub mod Written
 pub mod Unwritten
 pub mod EveryKind
-pub mod Explanation
+pub mod FiveHeads

@@ -5,4 +5,4 @@ pub mod Finals
 pub mod Writing
 pub mod Imports
 pub mod Engines
-pub mod Explanation
+pub mod Deciding

@@ -15,7 +15,7 @@ use Rattle.rules.specs.declared.Answer.{Answer}
 use Rattle.rules.specs.declared.Answer.the-variants.{Accepted, BadLength, BadSum, BadBlock, BadHead, BadRecord, BadArea, BadAmount}
 use Rattle.rules.specs.declared.Answer.the-variants.{OutOfRange, TooNarrow, NotAnAmount, TooShort, NoDemand, NoMember, AboveMaximum}
 use Rattle.rules.specs.Record.{Hour, members, zones, areas, kindOf, isGenerator}
-use Rattle.rules.specs.Ufe.{ufe, demands}
+use Rattle.rules.specs.Ufe.{ufe, areaDemand}
 use Rattle.rules.specs.Charge.{amount}
 use Rattle.rules.specs.Neutrality.{neutrality, hourDemand}
 use Rattle.rules.specs.Text.{amountText, amountIn}
@@ -146,7 +146,7 @@ module _ (h : Hour) where
 
   -- 6: T is 0 and U isn't; the first such area
   unfoldable pub badArea : Option ℕ
-  badArea = firstBelow (λ a. eqb (demands h a) 0 && not (eqb (natAbs (ufe h a)) 0)) (areas h)
+  badArea = firstBelow (λ a. eqb (areaDemand h a) 0 && not (eqb (natAbs (ufe h a)) 0)) (areas h)
 
   -- 7: a member's exact amount is over 4×10^18 grains in size; the first such member
   unfoldable pub badAmount : Option ℕ
@@ -205,8 +205,8 @@ wordRows f h =
     ∷ []
 
 -- 14: its records beyond the rules of their words; this group and the next are hourly settlement's
-unfoldable pub recordRows : Hour → List Row
-recordRows h =
+unfoldable pub comparisonRows : Hour → List Row
+comparisonRows h =
     row 14 (aboveMaximum h)
     ∷ []
 
@@ -226,7 +226,7 @@ formRows f s = blockRows (f .layout) s ++ wordRows f (hourOf (f .layout) s)
 
 -- then 14: what an hourly file by itself can break
 unfoldable pub fileRows : List ℕ → List Row
-fileRows s = formRows hourlyForm s ++ recordRows (hourIn s)
+fileRows s = formRows hourlyForm s ++ comparisonRows (hourIn s)
 
 -- then 6, 7 and 12: the statement checks these, over the whole file each
 unfoldable pub hourRows : List ℕ → List Row
@@ -246,19 +246,19 @@ listFormRows head records = row 1 (badLists head records) ∷ wordRows hourlyFor
 
 -- then 14 as the reader: the program that writes has no buffer of a caller
 unfoldable pub listRows : (head records : List ℕ) → List Row
-listRows head records = listFormRows head records ++ recordRows (hourFrom hourly head records)
+listRows head records = listFormRows head records ++ comparisonRows (hourFrom hourly head records)
 
 -- and 11 last, by the length of the buffer
-unfoldable pub writerRows : (head records : List ℕ) (room : ℕ) → List Row
-writerRows head records room = listRows head records ++ row 11 (noRoom (hourFrom hourly head records) room) ∷ []
+unfoldable pub writeHourRows : (head records : List ℕ) (room : ℕ) → List Row
+writeHourRows head records room = listRows head records ++ row 11 (noRoom (hourFrom hourly head records) room) ∷ []
 
 -- writing an amount checks 8, then 9
-unfoldable pub writeRows : ℕ → ℤ → List Row
-writeRows width z =
+unfoldable pub writeAmountRows : ℕ → ℤ → List Row
+writeAmountRows width z =
     row 8 (outOfRange z)
     ∷ row 9 (tooNarrow width z)
     ∷ []
 
 -- reading checks 10
-unfoldable pub readRows : List ℕ → List Row
-readRows field = row 10 (notAnAmount field) ∷ []
+unfoldable pub readAmountRows : List ℕ → List Row
+readAmountRows field = row 10 (notAnAmount field) ∷ []

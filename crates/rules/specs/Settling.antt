@@ -17,7 +17,7 @@ use Rattle.rules.specs.Neutrality.{final}
 use Rattle.rules.specs.Text.{amountField, amountIn}
 use Rattle.rules.specs.HourFile.{hourly, hourIn}
 use Rattle.rules.specs.HourWords.{hourFrom, fileByte, fileLength}
-use Rattle.rules.specs.Refusals.{Verdict, accepted, refusedAt, verdict, Buffers, settleRows, writerRows, writeRows}
+use Rattle.rules.specs.Refusals.{Verdict, accepted, refusedAt, verdict, Buffers, settleRows, writeHourRows, writeAmountRows}
 
 abbrev pub isAccepted : Verdict → Bool
 isAccepted v = eqb (v .number) 0
@@ -71,7 +71,7 @@ pub record HourWritten : Type 0 where
 
 -- the buffer's first bytes are the file, and those past its last block are unchanged; a refusal changes none, and its length is 0
 unfoldable pub writeHour : (head records file : List ℕ) → HourWritten
-writeHour head records file = let v = verdict (writerRows head records (length file)) in let h = hourFrom hourly head records in
+writeHour head records file = let v = verdict (writeHourRows head records (length file)) in let h = hourFrom hourly head records in
     cond (isAccepted v)
     (record { verdict = v; length = fileLength hourly h; file = replacingFirst (fileByte hourly h) (fileLength hourly h) file })
     (record { verdict = v; length = 0; file = file })
@@ -83,7 +83,7 @@ pub record Written : Type 0 where
   pub field : List ℕ
 
 unfoldable pub write : List ℕ → ℤ → Written
-write field z = let v = verdict (writeRows (length field) z) in
+write field z = let v = verdict (writeAmountRows (length field) z) in
     record { verdict = v; field = cond (isAccepted v) (amountField (length field) z) field }
 
 -- ---- reading an amount; a refused reading gives amount 0

@@ -34,5 +34,5 @@ abbrev pub demand : Hour → ℕ → ℕ
 demand h i = D (entryOf h i)
 
 -- T: the area's sum of D over its loads
-unfoldable pub demands : Hour → ℕ → ℕ
-demands h a = allDemand (inArea h a isLoad) (demand h) (h .count)
+unfoldable pub areaDemand : Hour → ℕ → ℕ
+areaDemand h a = allDemand (inArea h a isLoad) (demand h) (h .count)

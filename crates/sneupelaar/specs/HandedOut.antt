@@ -4,7 +4,7 @@ use mathlib.Core.Bool.{cond, _||_}
 use mathlib.Core.List.{List}
 use lib.Dec.{leb}
 use Rattle.rules.specs.HourFile.{hourly, lengthBad, blocks}
-use Rattle.rules.specs.Refusals.{refusedAt, Buffers}
+use Rattle.rules.specs.Refusals.{Buffers}
 use Rattle.rules.specs.Settling.{Settlement, HourWritten, Written, ReadAmount}
 use Rattle.sneupelaar.specs.declared.NumberedAnswer.{NumberedAnswer}
 use Rattle.sneupelaar.specs.declared.NumberedFiled.{NumberedFiled}
@@ -13,16 +13,16 @@ use Rattle.sneupelaar.specs.declared.NumberedSettled.{NumberedSettled}
 use Rattle.sneupelaar.specs.declared.Part.{Part}
 
 abbrev pub settlement : NumberedSettled → Buffers → Settlement
-settlement r after = record { verdict = refusedAt (r .number) (r .place); ufe = r .ufe; buffers = after }
+settlement r after = record { verdict = record { number = r .number; place = r .place }; ufe = r .ufe; buffers = after }
 
 abbrev pub hourWritten : NumberedFiled → List ℕ → HourWritten
-hourWritten r after = record { verdict = refusedAt (r .number) (r .place); length = r .length; file = after }
+hourWritten r after = record { verdict = record { number = r .number; place = r .place }; length = r .length; file = after }
 
 abbrev pub written : NumberedAnswer → List ℕ → Written
-written r after = record { verdict = refusedAt (r .number) (r .place); field = after }
+written r after = record { verdict = record { number = r .number; place = r .place }; field = after }
 
 abbrev pub readAmount : NumberedReading → ReadAmount
-readAmount r = record { verdict = refusedAt (r .number) (r .place); amount = r .amount }
+readAmount r = record { verdict = record { number = r .number; place = r .place }; amount = r .amount }
 
 -- the 480 bytes after a block's first 32; where the file has no such body, no bytes from its start
 unfoldable pub bodyPart : List ℕ → ℕ → Part

@@ -4,7 +4,7 @@ use libc::STDIN_FILENO;
 
 fn print_statement(file: &[u8]) {
     let mut text = [0u8; report::statement::LONGEST];
-    let length = report::statement::statement(file, &mut text);
+    let length = report::statement::put_statement(file, &mut text);
     streams::print(&text[..length]);
 }
 

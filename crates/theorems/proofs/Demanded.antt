@@ -28,7 +28,8 @@ use Rattle.pool.specs.Buffers.{buffers}
 use Rattle.pool.specs.Unlined.{unlined, withLines, ownLines}
 use Rattle.report.specs.Stated.{HasStated}
 use Rattle.printing.proofs.Showing.{whole-text}
-use Rattle.theorems.specs.Determined.{Gives, KeepsDemands, IsPut, IsReadBack, Tells}
+use Rattle.theorems.specs.Determined.{Gives}
+use Rattle.theorems.specs.Demanded.{KeepsDemands, IsPut, IsReadBack, Tells}
 use Rattle.theorems.specs.Given.{IsReadAs, IsWrittenAs, IsWritten, IsRead, IsBody, IsKept}
 use Rattle.amount.proofs.write.Reads as write
 use Rattle.amount.proofs.read.Reads as read
@@ -39,7 +40,7 @@ use Rattle.sneupelaar.proofs.Port.sneupelaar_settle.Reads as sneupelaar-settle
 use Rattle.sneupelaar.proofs.sneupelaar_write.Reads as sneupelaar-write
 use Rattle.sneupelaar.proofs.sneupelaar_read.Reads as sneupelaar-read
 use Rattle.sneupelaar.proofs.sneupelaar_body.Reads as sneupelaar-body
-use Rattle.report.proofs.statement.statement.Reads as statement
+use Rattle.report.proofs.statement.put_statement.Reads as statement
 
 -- ---- settling
 
@@ -72,7 +73,7 @@ settle-unlined-keeps-demands κs a x s p =
 
 pub sneupelaar-settle-keeps-demands : (κs : Lfts 6) → Gives (sneupelaar-settle.Learnt κs) (λ a x s. KeepsDemands (now (a .0))
     (buffers (now (a .1 .1 .0)) (now (a .1 .1 .1 .0)) (now (a .1 .1 .1 .1 .0)) (now (a .1 .1 .1 .1 .1 .0)) (now (a .1 .0)))
-    (refusedAt (x .number) (x .place)) (x .ufe)
+    (record { number = x .number; place = x .place }) (x .ufe)
     (buffers (now (s .1 .1 .0)) (now (s .1 .1 .1 .0)) (now (s .1 .1 .1 .1 .0)) (now (s .1 .1 .1 .1 .1 .0)) (now (s .1 .0))))
 sneupelaar-settle-keeps-demands κs a x s p =
     keeps (ap (λ (t : Settlement). t .verdict) p) (ap (λ (t : Settlement). t .ufe) p) (ap (λ (t : Settlement). t .buffers) p)

@@ -22,20 +22,21 @@ use Rattle.rules.proofs.Worded.{cut-input-same}
 use Rattle.printing.proofs.Showing.{whole-text}
 use Rattle.pool.specs.Buffers.{buffers}
 use Rattle.explain.specs.Answered.{answered}
-use Rattle.explain.specs.HandedOut.{handedOut, headCounted}
-use Rattle.theorems.specs.Determined.{OneResult, OneOutcome, Gives, KeepsExplaining, ExplainsOutcome, IsPut}
+use Rattle.explain.specs.HandedOut.{explanationOf, headCounted}
+use Rattle.theorems.specs.Determined.{OneResult, OneOutcome, Gives}
+use Rattle.theorems.specs.Demanded.{KeepsExplaining, ExplainsOutcome, IsPut}
 use Rattle.theorems.proofs.Laws.{agree, agree-answer, agree-found}
-use Rattle.printing.proofs.explanation.put_explanation.Reads as put-explanation
+use Rattle.printing.proofs.explanation.put_six_lines.Reads as put-six-lines
 use Rattle.explain.proofs.explain.Reads as explain
-use Rattle.report.proofs.explanation.explanation.Reads as explanation
+use Rattle.report.proofs.explanation.put_explanation.Reads as explanation
 use Rattle.pool.proofs.Port.settle.Reads as settle
 use Rattle.sneupelaar.proofs.Port.sneupelaar_settle.Reads as sneupelaar-settle
 use Rattle.explain.proofs.boundary.sneupelaar_explain.Reads as sneupelaar-explain
 
 -- ---- no second result fits
 
-pub one-put-explanation : (κs : Lfts 1) → OneOutcome (put-explanation.Learnt κs) (λ s. now (s .0))
-one-put-explanation κs a x y s t p q = (agree (p .next-is) (q .next-is), agree (p .after-is) (q .after-is))
+pub one-put-six-lines : (κs : Lfts 1) → OneOutcome (put-six-lines.Learnt κs) (λ s. now (s .0))
+one-put-six-lines κs a x y s t p q = (agree (p .next-is) (q .next-is), agree (p .after-is) (q .after-is))
 
 pub one-explain : (κs : Lfts 1) → OneResult (explain.Learnt κs)
 one-explain κs a x y s t p q =
@@ -82,7 +83,7 @@ pub explain-keeps : (κs : Lfts 1) → Gives (explain.Learnt κs) (λ a x s. Kee
 explain-keeps κs a x s p = keeps p
 
 pub sneupelaar-explain-keeps : (κs : Lfts 1) → Gives (sneupelaar-explain.Learnt κs) (λ a x s.
-    KeepsExplaining (now (a .0)) (a .1 .0) (handedOut x))
+    KeepsExplaining (now (a .0)) (a .1 .0) (explanationOf x))
 sneupelaar-explain-keeps κs a x s p = keeps p
 
 -- ---- settled, then explained: the heads add up to what settling wrote into the member's line, and the head named decided on the charge

@@ -5,4 +5,4 @@ pub mod Printed
 pub mod Refused
 pub mod Written
 pub mod EveryKind
-pub mod Explanation
+pub mod FiveHeads

@@ -24,7 +24,7 @@ use Rattle.bymember.proofs.Port.put_lines.Reads as put-lines
 use Rattle.bymember.proofs.Port.put_charges.Reads as put-charges
 use Rattle.bymember.proofs.neutrality.put_finals.Reads as put-finals
 use Rattle.writer.proofs.write_hour.Reads as write-hour
-use Rattle.report.proofs.written.write_raw.Reads as write-raw
+use Rattle.report.proofs.written.put_written_hour.Reads as write-raw
 use Rattle.pool.proofs.Port.settle.Reads as settle
 use Rattle.pool.proofs.settle_unlined.Reads as settle-unlined
 use Rattle.sneupelaar.proofs.Port.sneupelaar_settle.Reads as sneupelaar-settle
@@ -35,7 +35,7 @@ use Rattle.sneupelaar.proofs.sneupelaar_body.Reads as sneupelaar-body
 use Rattle.printing.proofs.put_first_line.Reads as put-first-line
 use Rattle.printing.proofs.put_member.Reads as put-member
 use Rattle.printing.proofs.put_refused.Reads as put-refused
-use Rattle.report.proofs.statement.statement.Reads as statement
+use Rattle.report.proofs.statement.put_statement.Reads as statement
 
 pub one-write : (κs : Lfts 1) → OneOutcome (write.Learnt κs) (λ s. now (s .1 .0))
 one-write κs a x y s t p q = (agree-answer (p .0) (q .0), agree (p .1) (q .1))

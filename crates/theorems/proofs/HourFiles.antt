@@ -19,9 +19,10 @@ use Rattle.rules.proofs.Imports.{imports}
 use Rattle.rules.proofs.Engines.{engines}
 use Rattle.rules.proofs.Raw.{cut-input-same}
 use Rattle.printing.proofs.Showing.{whole-text}
-use Rattle.theorems.specs.Determined.{Gives, KeepsWriting, IsPut}
+use Rattle.theorems.specs.Determined.{Gives}
+use Rattle.theorems.specs.Demanded.{KeepsWriting, IsPut}
 use Rattle.writer.proofs.write_hour.Reads as write-hour
-use Rattle.report.proofs.written.write_raw.Reads as write-raw
+use Rattle.report.proofs.written.put_written_hour.Reads as write-raw
 use Rattle.sneupelaar.proofs.sneupelaar_write_hour.Reads as sneupelaar-write-hour
 
 module _ (head records before : List ℕ) where
@@ -53,7 +54,7 @@ write-hour-keeps κs a x s p =
 
 pub sneupelaar-write-hour-keeps : (κs : Lfts 3) → Gives (sneupelaar-write-hour.Learnt κs) (λ a x s.
     KeepsWriting (now (a .0)) (now (a .1 .0)) (now (a .1 .1 .0))
-    (record { verdict = refusedAt (x .number) (x .place); length = x .length; file = now (s .1 .1 .0) }))
+    (record { verdict = record { number = x .number; place = x .place }; length = x .length; file = now (s .1 .1 .0) }))
 sneupelaar-write-hour-keeps κs a x s p = keeps-as (now (a .0)) (now (a .1 .0)) (now (a .1 .1 .0)) (p .0) (p .1 .0) (p .1 .1)
 
 -- with room, the bytes put are the file or the refusal's line, all of it and nothing else

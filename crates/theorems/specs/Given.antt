@@ -9,7 +9,6 @@ use Rattle.rules.specs.declared.Answer.{Answer}
 use Rattle.rules.specs.declared.Answer.the-variants.{Accepted}
 use Rattle.rules.specs.declared.Reading.{Reading}
 use Rattle.rules.specs.HourFile.{hourly, body}
-use Rattle.rules.specs.Refusals.{refusedAt}
 use Rattle.rules.specs.Settling.{write, read}
 use Rattle.rules.specs.Inner.Kept.{FileKept}
 
@@ -26,10 +25,10 @@ IsWrittenAs amount bytes handed lent answer after =
 
 -- for C: the answer as its number and place
 abbrev pub IsWritten : (field : List ℕ) (amount : ℤ) (number place : ℕ) (after : List ℕ) → Type 0
-IsWritten field amount number place after = record { verdict = refusedAt number place; field = after } ≡ write field amount
+IsWritten field amount number place after = record { verdict = record { number = number; place = place }; field = after } ≡ write field amount
 
 abbrev pub IsRead : (field : List ℕ) (number place : ℕ) (amount : ℤ) → Type 0
-IsRead field number place amount = record { verdict = refusedAt number place; amount = amount } ≡ read field
+IsRead field number place amount = record { verdict = record { number = number; place = place }; amount = amount } ≡ read field
 
 -- ---- the file
 

@@ -3,7 +3,7 @@ use libc::STDIN_FILENO;
 
 fn print_written(input: &[u8]) {
     let mut file = [0u8; report::written::LONGEST];
-    let length = report::written::write_raw(input, &mut file);
+    let length = report::written::put_written_hour(input, &mut file);
     streams::print(&file[..length]);
 }
 

@@ -10,7 +10,7 @@ use Rattle.rules.specs.declared.Answer.the-variants.{Accepted}
 use Rattle.rules.specs.Record.{Hour}
 use Rattle.rules.specs.HourFile.{hourly}
 use Rattle.rules.specs.HourWords.{fileByte, fileLength}
-use Rattle.rules.specs.Refusals.{Row, accepted, verdictOf, verdict, listFormRows, listRows, writerRows}
+use Rattle.rules.specs.Refusals.{Row, accepted, verdictOf, verdict, listFormRows, listRows, writeHourRows}
 use Rattle.rules.specs.Settling.{isAccepted, writeHour}
 use Rattle.rules.proofs.Rows.{accepts-when-whole}
 use Rattle.rules.proofs.Writing.{writer-numbered, verdict-is, written, room-there}
@@ -23,7 +23,7 @@ module _ (head records file : List ℕ) where
   h = hourOfLists head records
 
   abbrev rows : List Row
-  rows = writerRows head records (length file)
+  rows = writeHourRows head records (length file)
 
   pub refused-leaves : (a : Answer) → verdictOf a ≡ verdict rows → (a ≡ Accepted → ⊥) →
       writeHour head records file ≡ record { verdict = verdictOf a; length = 0; file = file }
@@ -43,7 +43,7 @@ module _ (head records file : List ℕ) where
   accepted-fills e = written head records file (passed e)
 
   pub accepted-whole : verdict rows ≡ accepted → ListsWhole head records × (fileLength hourly h ≤ length file)
-  unfolding writerRows listRows listFormRows
+  unfolding writeHourRows listRows listFormRows
   accepted-whole e =
       let whole = accepts-when-whole rows (writer-numbered head records (length file)) .0 e in
       (lists-whole head records (whole .0), room-there head records file (passed e))

@@ -133,7 +133,7 @@ pub fn blocks_for(records: &[u32]) -> usize
 
 // Accepted, or the first of the writer's refusals that the lists and so much room break, with its place.
 pub fn examine(head: &[u32], records: &[u32], room: usize) -> Answer
-    ensures { λ r. ⌜ Refusals.verdictOf r ≡ Refusals.verdict (Refusals.writerRows (now (head .entry)) (now (records .entry)) room) ⌝ }
+    ensures { λ r. ⌜ Refusals.verdictOf r ≡ Refusals.verdict (Refusals.writeHourRows (now (head .entry)) (now (records .entry)) room) ⌝ }
 {
     if lists_bad(head, records) {
         return Answer::BadLength;

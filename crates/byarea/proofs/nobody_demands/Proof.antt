@@ -6,7 +6,7 @@ use borrow.Author.Tests.{eq-eqb}
 use Rattle.whole.specs.Below.{sumBelow}
 use Rattle.whole.proofs.Sums.{sum-none}
 use Rattle.rules.specs.Record as Record
-use Rattle.rules.specs.Ufe.{demands}
+use Rattle.rules.specs.Ufe.{areaDemand}
 use Rattle.rules.specs.Neutrality.{hourDemand}
 use Rattle.rules.proofs.Neutral.{hour-demand-by-area}
 use Rattle.rules.specs.HourFile.{hourIn}
@@ -16,7 +16,7 @@ use Rattle.byarea.proofs.nobody_demands.Statement.{statement}
 use Rattle.byarea.proofs.nobody_demands.Tie as tie
 
 abbrev Inv-loop : tie.InvT-loop
-Inv-loop file t areas a₀ a = (a ≤ areas) × (sumBelow (demands (hourIn file)) a ≡ 0)
+Inv-loop file t areas a₀ a = (a ≤ areas) × (sumBelow (areaDemand (hourIn file)) a ≡ 0)
 
 abbrev μ-loop : tie.MeasureT-loop
 μ-loop file t areas a₀ a = areas - a
@@ -74,7 +74,7 @@ returns-2 c =
     let h = hourIn (start at .args .file .now) in
     let all : at .loop .a ≡ Record.areas h = omega (arith, counted at) in
     sym (eq-eqb (hourDemand h) 0 (
-    hour-demand-by-area (start at .pre .0 .kept .hour-kept) ∙ ap (sumBelow (demands h)) (sym all) ∙ at .loop .inv .1))
+    hour-demand-by-area (start at .pre .0 .kept .hour-kept) ∙ ap (sumBelow (areaDemand h)) (sym all) ∙ at .loop .inv .1))
 
 pub nobody-demands-spec : {M : Type 1} → statement M
 nobody-demands-spec =

@@ -4,7 +4,7 @@ use mathlib.Core.Path.{_≡_, sym, _∙_, ap}
 use mathlib.Core.Option.{none}
 use native.Mathlib.Omega.{arith}
 use Rattle.rules.specs.HourFile.{hourly, hourIn}
-use Rattle.rules.specs.Refusals.{badHead, verdict, wordRows, recordRows, foundAt}
+use Rattle.rules.specs.Refusals.{badHead, verdict, wordRows, comparisonRows, foundAt}
 use Rattle.rules.proofs.Words.{length-is-whole}
 use Rattle.rules.proofs.Faults.{fault-record, fault-nowhere}
 use Rattle.examine.specs.Fault.{faultAt, aboveAt}
@@ -28,7 +28,7 @@ enum-known-w c = c .match .keys1
 
 -- return Answer::BadHead(w)
 returns : tie.Need-returns
-unfolding verdict wordRows recordRows
+unfolding verdict wordRows comparisonRows
 returns c = simp (sym (c .before .before .before .bad-head .ensures) ∙ ap foundAt (c .before .w .given .1))
 
 -- Found::Nothing = bad_head(file)
@@ -52,7 +52,7 @@ enum-told-2 c = c .match2 .keys3
 
 -- Answer::BadRecord(i)
 returns-2 : tie.Need-returns-2
-unfolding verdict wordRows recordRows
+unfolding verdict wordRows comparisonRows
 returns-2 c =
     let searched = c .before .before .before in
     let found = sym (searched .first-fault .ensures .0) ∙ ap faultAt (c .before .i .given .1) in
@@ -60,7 +60,7 @@ returns-2 c =
 
 -- Answer::AboveMaximum(i)
 returns-3 : tie.Need-returns-3
-unfolding verdict wordRows recordRows
+unfolding verdict wordRows comparisonRows
 returns-3 c =
     let searched = c .before .before .before in
     let no-fault = ap faultAt (c .before .i2 .given .1) in
@@ -72,7 +72,7 @@ returns-3 c =
 
 -- Answer::Accepted
 returns-4 : tie.Need-returns-4
-unfolding verdict wordRows recordRows
+unfolding verdict wordRows comparisonRows
 returns-4 c =
     let searched = c .before .before in
     let no-fault = ap faultAt (c .enum-told2 .given .1) in

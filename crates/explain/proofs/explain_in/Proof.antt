@@ -22,8 +22,8 @@ settle-unlined-requires c κs = search needs
 enum-told : tie.Need-enum-told
 enum-told c = search needs
 
-refused-requires : tie.Need-refused-requires
-refused-requires c κs = search needs
+unexplained-requires : tie.Need-unexplained-requires
+unexplained-requires c κs = search needs
 
 -- charges, where the hour is refused
 same-length : tie.Need-same-length
@@ -41,14 +41,14 @@ same-length-3 c = search needs
 same-length-4 : tie.Need-same-length-4
 same-length-4 c = search needs
 
--- return refused(answer)
+-- return unexplained(answer)
 returns : tie.Need-returns
 returns c =
     let m = c .before in
     let p = m .before .before .before .before .before in
     let s = p .before .before .before .before .before .before in
     refused-alike (s .args .file .now) (s .args .member) (same-verdict (rooms s) (p .settle-unlined .ensures))
-    (λ e. no-other (rw e at (m .match .keys2))) (c .refused .ensures)
+    (λ e. no-other (rw e at (m .match .keys2))) (c .unexplained .ensures)
 
 explain-settled-requires : tie.Need-explain-settled-requires
 explain-settled-requires c κs =
@@ -83,7 +83,7 @@ explain-in-spec =
     (tie.spec
     settle-unlined-requires
     enum-told
-    refused-requires
+    unexplained-requires
     same-length
     same-length-2
     same-length-3

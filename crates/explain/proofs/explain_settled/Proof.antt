@@ -21,16 +21,16 @@ headed c = record { kept = c .before .before .pre .charged .kept; head-is = c .h
 head-of-requires : tie.Need-head-of-requires
 head-of-requires c κs = search needs
 
-refused-requires : tie.Need-refused-requires
-refused-requires c κs = search needs
+unexplained-requires : tie.Need-unexplained-requires
+unexplained-requires c κs = search needs
 
--- return refused(Answer::NoMember)
+-- return unexplained(Answer::NoMember)
 returns : tie.Need-returns
 returns c =
     let t = c .before in
     let s = t .before .before .before .before in
     no-member (s .args .file .now) (s .args .member) (s .pre) (omega (arith, t .if1 .taken, head-members (headed (t .before .before))))
-    (c .refused .ensures)
+    (c .unexplained .ensures)
 
 heads-of-requires : tie.Need-heads-of-requires
 heads-of-requires c κs = search needs
@@ -70,7 +70,7 @@ explain-settled-spec =
     tie.close
     (tie.spec
     head-of-requires
-    refused-requires
+    unexplained-requires
     returns
     heads-of-requires
     mul-decided

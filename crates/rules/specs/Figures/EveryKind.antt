@@ -11,7 +11,7 @@ use Rattle.rules.specs.Text.{bytes}
 use Rattle.rules.specs.Refusals.{accepted, Buffers}
 use Rattle.rules.specs.Settling.{Settlement, settle}
 use Rattle.rules.specs.Statement.{statement}
-use Rattle.rules.specs.Figures.Refused.{first, other}
+use Rattle.rules.specs.Figures.Files.{first, other}
 
 -- three members; zone 0 at 5,000 and zone 1 at 3,000 below zero; area 0 in zone 1 with 40 coming in and 15 going out, area 1 in zone 0 with
 -- 5 and 30

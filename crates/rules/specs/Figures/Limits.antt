@@ -10,7 +10,7 @@ use Rattle.rules.specs.HourFile.{hourly}
 use Rattle.rules.specs.HourWords.{hourFrom}
 use Rattle.rules.specs.Ranges.{keeps, headRule, hourlyForm}
 use Rattle.rules.specs.Refusals.{badHead, badWord}
-use Rattle.rules.specs.Figures.Starred.{Case, _is_, AllRight}
+use Rattle.rules.specs.Figures.Cases.{Case, _is_, AllRight}
 
 -- the number of a word, and what it is to be instead
 abbrev pub Change : Type 0

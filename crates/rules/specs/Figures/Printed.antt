@@ -1,23 +1,15 @@
 -- The printed case of document 01, "The printed statement": its file, and what settling and the
 -- statement say of it. The finals repeat the charges, since N is 0: document 02, A1.
-use Prim.Native.Nat.{ℕ, _-_, _/_, _%_}
+use Prim.Native.Nat.{ℕ}
 use mathlib.Core.Path.{_≡_}
 use mathlib.Core.List.{List, [], _∷_, _++_}
 use lib.IntN.{pos, negℤ}
-use lib.ListN.{length, replicate}
+use lib.ListN.{replicate}
 use Rattle.rules.specs.Text.{bytes}
-use Rattle.rules.specs.Refusals.{accepted, Buffers}
+use Rattle.rules.specs.Refusals.{accepted}
 use Rattle.rules.specs.Settling.{Settlement, settle}
 use Rattle.rules.specs.Statement.{statement}
-
--- words, little-endian
-unfoldable pub wordBytes : List ℕ → List ℕ
-wordBytes [] = []
-wordBytes (w ∷ ws) = w % 256 ∷ w / 256 % 256 ∷ w / 65536 % 256 ∷ w / 16777216 ∷ wordBytes ws
-
--- a block of 128 words, the last ones zero
-abbrev pub block : List ℕ → List ℕ
-block words = wordBytes (words ++ replicate (128 - length words) 0)
+use Rattle.rules.specs.Figures.Files.{block, usedBuffers}
 
 -- hour 7, two members, one zone at 5,000, one area with both ties 0; a generator of member 0, a load of member 1
 unfoldable pub printedFile : List ℕ
@@ -27,16 +19,6 @@ printedFile =
     2 ∷ 1 ∷ 2 ∷ 0 ∷ 0 ∷ 0 ∷ 0 ∷ 4294941517
     ∷ 1 ∷ 0 ∷ 0 ∷ 1000 ∷ 900 ∷ 0 ∷ 0 ∷ 0 ∷ 2000 ∷ 10000 ∷ 10000 ∷ 0
     ∷ 2 ∷ 1 ∷ 0 ∷ 1000 ∷ 870 ∷ 0 ∷ 0 ∷ 0 ∷ 0 ∷ 0 ∷ 0 ∷ 0 ∷ [])
-
--- buffers that hold something else, one place longer than needed
-unfoldable pub usedBuffers : Buffers
-usedBuffers = record {
-  charges = replicate 3 (pos 9);
-  finals = replicate 3 (pos 4);
-  shares = replicate 3 (pos 8);
-  deviations = replicate 3 (pos 7);
-  lines = replicate 3 (record { amount = pos 6; records = 5 });
-}
 
 unfoldable pub printedSettlement : Settlement
 printedSettlement = record {

@@ -1,41 +1,13 @@
 -- Refusals of settling as figures: for each row a small file that breaks it, twice where it has a place, and every row after it, so that the
 -- first place and the order show; what settling answers, and that the buffers are what they were.
 -- Document 01, "Refusal numbers and their order"; document 02, A1 and A6.
-use Prim.Native.Nat.{ℕ, _+_, _-_, _%_}
+use Prim.Native.Nat.{ℕ}
 use mathlib.Core.List.{List, [], _∷_, _++_}
-use lib.ListN.{take, drop, replicate}
+use lib.ListN.{replicate}
 use Rattle.rules.specs.Refusals.{refusedAt}
 use Rattle.rules.specs.Settling.{noFigures, settle}
-use Rattle.rules.specs.Figures.Starred.{Case, _is_, AllRight}
-use Rattle.rules.specs.Figures.Printed.{block, usedBuffers}
-
-abbrev pub sumOf : List ℕ → ℕ
-sumOf [] = 0
-sumOf (w ∷ ws) = w + sumOf ws
-
--- a block of these words, with word 7 put in such that its sum is zero
-unfoldable pub sealed : List ℕ → List ℕ
-sealed words = block (take 7 words ++ (0x1_0000_0000 - sumOf words % 0x1_0000_0000) % 0x1_0000_0000 ∷ drop 7 words)
-
--- a first block: the number of other blocks, then the first body
-abbrev pub first : ℕ → List ℕ → List ℕ
-first others body = sealed (1 ∷ 0 ∷ others ∷ 0 ∷ 0 ∷ 0 ∷ 0 ∷ body)
-
--- hour 7, so many members, one zone at 5,000, one area without ties
-abbrev pub plainHead : ℕ → List ℕ
-plainHead members = 7 ∷ members ∷ 1 ∷ 1 ∷ 5000 ∷ []
-
--- a generator of member 0 that is scheduled so much, with a maximum of 1 and an actual energy of 1
-abbrev pub engine : (scheduled : ℕ) → List ℕ
-engine scheduled = 1 ∷ 0 ∷ 0 ∷ scheduled ∷ 1 ∷ 0 ∷ 0 ∷ 0 ∷ 1 ∷ 1 ∷ 1 ∷ 0 ∷ []
-
--- a block that isn't the first: its position, the records held, its word 6, and the records' words; sealed
-abbrev pub other : (position count six : ℕ) → List ℕ → List ℕ
-other position count six records = sealed (2 ∷ position ∷ count ∷ 0 ∷ 0 ∷ 0 ∷ six ∷ records)
-
--- the same with 0 in word 7, so that its sum isn't zero
-abbrev pub unsealed : (position count six : ℕ) → List ℕ → List ℕ
-unsealed position count six records = block (2 ∷ position ∷ count ∷ 0 ∷ 0 ∷ 0 ∷ six ∷ 0 ∷ records)
+use Rattle.rules.specs.Figures.Cases.{Case, _is_, AllRight}
+use Rattle.rules.specs.Figures.Files.{block, usedBuffers, first, plainHead, engine, other, unsealed}
 
 -- ---- what each row breaks
 

@@ -1,6 +1,5 @@
 -- The starred figures of document 01, "Figures to check by": one statement over one list of cases.
 use Prim.Native.Nat.{ℕ}
-use mathlib.Core.Path.{_≡_}
 use mathlib.Core.Bool.{true}
 use mathlib.Core.List.{List, [], _∷_}
 use lib.IntN.{ℤ, pos, negℤ}
@@ -13,14 +12,7 @@ use Rattle.rules.specs.Charge.{cents}
 use Rattle.rules.specs.Text.{bytes}
 use Rattle.rules.specs.Refusals.{accepted, refusedAt}
 use Rattle.rules.specs.Settling.{write}
-
-infix 70 _is_
-pub data Case : Type 1 where
-  _is_ : {A : Type 0} → A → A → Case
-
-abbrev pub AllRight : List Case → Type 0
-AllRight [] = Unit {0}
-AllRight ((found is expected) ∷ cases) = (found ≡ expected) × AllRight cases
+use Rattle.rules.specs.Figures.Cases.{Case, _is_, AllRight}
 
 -- the deviation of a record with these words, and the shares of a number over these demands
 abbrev pub deviationOf : List ℕ → ℤ

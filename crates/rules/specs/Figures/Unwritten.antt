@@ -6,8 +6,8 @@ use mathlib.Core.List.{List, [], _∷_, _++_}
 use lib.ListN.{replicate}
 use Rattle.rules.specs.Refusals.{refusedAt}
 use Rattle.rules.specs.Settling.{writeHour}
-use Rattle.rules.specs.Figures.Starred.{Case, _is_, AllRight}
-use Rattle.rules.specs.Figures.Refused.{plainHead, engine}
+use Rattle.rules.specs.Figures.Cases.{Case, _is_, AllRight}
+use Rattle.rules.specs.Figures.Files.{plainHead, engine}
 
 -- a buffer a byte shorter than the shortest file
 abbrev pub shortBuffer : List ℕ

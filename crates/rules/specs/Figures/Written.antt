@@ -5,7 +5,7 @@ use mathlib.Core.List.{List, [], _∷_, _++_}
 use lib.ListN.{take, drop}
 use Rattle.rules.specs.Text.{bytes}
 use Rattle.rules.specs.RawHour.{rawWritten}
-use Rattle.rules.specs.Figures.Starred.{Case, _is_, AllRight}
+use Rattle.rules.specs.Figures.Cases.{Case, _is_, AllRight}
 use Rattle.rules.specs.Figures.Printed.{printedFile}
 
 -- the 480 bytes of the first body, and two records of 48 bytes from the second

@@ -12,13 +12,13 @@ use Rattle.whole.specs.Below.{sumBelow, totalBelow, productBelow}
 use Rattle.whole.specs.Signed.{withSignOf}
 use Rattle.rules.specs.declared.Settled.{Settled}
 use Rattle.rules.specs.Record.{Hour, members, zones, areas, price, memberOf, areaOf, entryOf, isLoad}
-use Rattle.rules.specs.Ufe.{inArea, ufe, demand, demands}
+use Rattle.rules.specs.Ufe.{inArea, ufe, demand, areaDemand}
 use Rattle.rules.specs.Share.{rankedSize}
 use Rattle.rules.specs.Charge.{entering, shareOf, recordsOf, cents, charge, poolTotal}
 use Rattle.rules.specs.Neutrality.{final}
 use Rattle.rules.specs.Text.{bytes, digitByte, amountText, amountField}
 use Rattle.rules.specs.HourFile.{hourIn}
-use Rattle.rules.specs.Refusals.{Row, row, accepted, refusedAt, verdictOf, verdict, hourRows, writeRows, readRows, Buffers, settleRows}
+use Rattle.rules.specs.Refusals.{Row, row, accepted, refusedAt, verdictOf, verdict, hourRows, writeAmountRows, readAmountRows, Buffers, settleRows}
 use Rattle.rules.specs.Settling.{settle, noFigures, write, read, emptyLine}
 use Rattle.rules.specs.Statement.{memberLine}
 use Rattle.rules.specs.Promised.Tariff.{devAs, ufeOfTerritory, IEC}
@@ -52,11 +52,11 @@ pub record Demand1 : Type 0 where
   pub settle-refuses : (s : List ℕ) (b : Buffers) (n p : ℕ) →
       (settle s b .verdict ≡ refusedAt (suc n) p) ↔ FirstBrokenRow (settleRows s b) (suc n) p
   pub settle-changes-nothing : (s : List ℕ) (b : Buffers) → (Accepts s b → ⊥) → (settle s b .buffers ≡ b) × (settle s b .ufe ≡ noFigures)
-  pub write-accepts : (f : List ℕ) (z : ℤ) → (write f z .verdict ≡ accepted) ↔ AllWhole (writeRows (length f) z)
+  pub write-accepts : (f : List ℕ) (z : ℤ) → (write f z .verdict ≡ accepted) ↔ AllWhole (writeAmountRows (length f) z)
   pub write-refuses : (f : List ℕ) (z : ℤ) (n p : ℕ) →
-      (write f z .verdict ≡ refusedAt (suc n) p) ↔ FirstBrokenRow (writeRows (length f) z) (suc n) p
+      (write f z .verdict ≡ refusedAt (suc n) p) ↔ FirstBrokenRow (writeAmountRows (length f) z) (suc n) p
   pub write-changes-nothing : (f : List ℕ) (z : ℤ) → (write f z .verdict ≡ accepted → ⊥) → write f z .field ≡ f
-  pub read-checks : (s : List ℕ) → read s .verdict ≡ verdict (readRows s)
+  pub read-checks : (s : List ℕ) → read s .verdict ≡ verdict (readAmountRows s)
   pub read-accepts : (s : List ℕ) (z : ℤ) → (read s ≡ record { verdict = accepted; amount = z }) ↔ IsTextOf z s
   pub read-refuses : (s : List ℕ) → (read s ≡ record { verdict = refusedAt 10 0; amount = pos 0 }) ↔ ((z : ℤ) → IsTextOf z s → ⊥)
 
@@ -109,7 +109,7 @@ pub record Demand2 : Type 0 where
 module _ (h : Hour) where
   -- an area's T where it isn't 0
   unfoldable pub nonZeroT : ℕ → ℕ
-  nonZeroT a = cond (eqb (demands h a) 0) 1 (demands h a)
+  nonZeroT a = cond (eqb (areaDemand h a) 0) 1 (areaDemand h a)
 
   -- the product of all the areas' T that aren't 0, and of the other areas'
   unfoldable pub allT : ℕ
@@ -121,7 +121,7 @@ module _ (h : Hour) where
   -- a record's exact fraction of its area's UFE, D×U/T, times that product; 0 where T is 0, and for what is no load
   unfoldable pub exactFraction : ℕ → ℤ
   exactFraction i = let a = areaOf h i in
-      cond (isLoad (entryOf h i .kind) && not (eqb (demands h a) 0)) (pos (demand h i) *ℤ ufe h a *ℤ pos (otherT a)) (pos 0)
+      cond (isLoad (entryOf h i .kind) && not (eqb (areaDemand h a) 0)) (pos (demand h i) *ℤ ufe h a *ℤ pos (otherT a)) (pos 0)
 
   -- the tariff's unrounded amount of a member in grains, times that product
   unfoldable pub unrounded : ℕ → ℤ
@@ -139,9 +139,9 @@ module _ (h : Hour) where
     -- the shares of each area add up exactly to its UFE
     pub exact : (a : ℕ) → a < areas h → totalBelow (λ i. cond (eqb (areaOf h i) a) (shareAt i) (pos 0)) (h .count) ≡ ufeAt a
     -- each less than one unit from its exact fraction: the share times T against D×U
-    pub near : (i : ℕ) → i < h .count → isLoad (entryOf h i .kind) ≡ true → (demands h (areaOf h i) ≡ 0 → ⊥) →
-        natAbs (shareAt i *ℤ pos (demands h (areaOf h i)) -ℤ pos (demand h i) *ℤ ufeAt (areaOf h i)) < demands h (areaOf h i)
-    pub none-to-share : (i : ℕ) → i < h .count → demands h (areaOf h i) ≡ 0 → shareAt i ≡ pos 0
+    pub near : (i : ℕ) → i < h .count → isLoad (entryOf h i .kind) ≡ true → (areaDemand h (areaOf h i) ≡ 0 → ⊥) →
+        natAbs (shareAt i *ℤ pos (areaDemand h (areaOf h i)) -ℤ pos (demand h i) *ℤ ufeAt (areaOf h i)) < areaDemand h (areaOf h i)
+    pub none-to-share : (i : ℕ) → i < h .count → areaDemand h (areaOf h i) ≡ 0 → shareAt i ≡ pos 0
     -- half a cent, and one unit at the size of the zone's price for each load record
     pub charged : (m : ℕ) → m < members h → natAbs (chargeAt m *ℤ pos (10000000 * allT) -ℤ unrounded m) ≤ (5000000 + loadPrices m) * allT
     -- half a cent a member

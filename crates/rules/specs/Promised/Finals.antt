@@ -10,7 +10,7 @@ use lib.ListN.{length, take, drop, getD}
 use Rattle.whole.specs.Below.{sumBelow, totalBelow}
 use Rattle.whole.specs.Signed.{withSignOf}
 use Rattle.rules.specs.Record.{Hour, hourNumber, members, areas, entryOf, isLoad}
-use Rattle.rules.specs.Ufe.{demands}
+use Rattle.rules.specs.Ufe.{areaDemand}
 use Rattle.rules.specs.Charge.{charge}
 use Rattle.rules.specs.Neutrality.{everyMember, memberDemand, hourDemand, neutrality, final}
 use Rattle.rules.specs.HourFile.{hourIn}
@@ -60,7 +60,7 @@ pub record Neutrality : Type 0 where
   pub explain-held : (s : List ℕ) (m : ℕ) → HeldToDemand s (explain s m .verdict)
   pub settled : (s : List ℕ) (b : Buffers) → Accepts s b → NeutralOutcome (hourIn s) b (settle s b .buffers)
   -- all loads, all areas: of every file that passes rows 1 to 5 and 14 the members demand together what the areas do
-  pub all-demand : (s : List ℕ) → verdict (fileRows s) ≡ accepted → let h = hourIn s in hourDemand h ≡ sumBelow (demands h) (areas h)
+  pub all-demand : (s : List ℕ) → verdict (fileRows s) ≡ accepted → let h = hourIn s in hourDemand h ≡ sumBelow (areaDemand h) (areas h)
   -- the products stay below 10^19, of every such file
   pub products : (s : List ℕ) → verdict (fileRows s) ≡ accepted → let h = hourIn s in (m : ℕ) → m < members h →
       memberDemand h m * natAbs (neutrality h) < 10000000000000000000

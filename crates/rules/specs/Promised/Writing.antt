@@ -7,7 +7,7 @@ use mathlib.Core.List.{List, _++_}
 use lib.ListN.{length, take, drop, getD}
 use Rattle.rules.specs.HourFile.{hourly, hourIn}
 use Rattle.rules.specs.HourWords.{hourFrom, headWords, recordWords}
-use Rattle.rules.specs.Refusals.{accepted, refusedAt, verdict, fileRows, writerRows}
+use Rattle.rules.specs.Refusals.{accepted, refusedAt, verdict, fileRows, writeHourRows}
 use Rattle.rules.specs.Settling.{HourWritten, writeHour}
 use Rattle.rules.specs.Promised.Demands.{AllWhole, FirstBrokenRow}
 use Rattle.rules.specs.Promised.Finals.{AreBytes}
@@ -27,9 +27,9 @@ fileIn w = take (w .length) (w .file)
 pub record Writing : Type 0 where
   -- refused exactly when the writer's rows say, with their number and place
   pub accepts : (head records file : List ℕ) →
-      (writeHour head records file .verdict ≡ accepted) ↔ AllWhole (writerRows head records (length file))
+      (writeHour head records file .verdict ≡ accepted) ↔ AllWhole (writeHourRows head records (length file))
   pub refuses : (head records file : List ℕ) (n p : ℕ) →
-      (writeHour head records file .verdict ≡ refusedAt (suc n) p) ↔ FirstBrokenRow (writerRows head records (length file)) (suc n) p
+      (writeHour head records file .verdict ≡ refusedAt (suc n) p) ↔ FirstBrokenRow (writeHourRows head records (length file)) (suc n) p
   -- and then nothing is written
   pub changes-nothing : (head records file : List ℕ) → (writeHour head records file .verdict ≡ accepted → ⊥) →
       (writeHour head records file .length ≡ 0) × (writeHour head records file .file ≡ file)

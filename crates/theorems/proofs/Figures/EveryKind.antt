@@ -15,15 +15,14 @@ use Rattle.rules.specs.Ranges
 use Rattle.rules.specs.Refusals
 use Rattle.rules.specs.Settling
 use Rattle.rules.specs.Statement
-use Rattle.rules.specs.Figures.Printed.{wordBytes}
-use Rattle.rules.specs.Figures.Refused.{sealed}
+use Rattle.rules.specs.Figures.Files.{wordBytes, sealed}
 use Rattle.rules.specs.Figures.EveryKind.{EveryKindRight, everyKind, longBuffers, everySettlement}
 
 pub every-kind-right : EveryKindRight
 unfolding Below.countBelow Below.sumBelow Below.totalBelow Below.valuesBelow Below.replacingFirst Below.firstBelow orElse minℤ maxℤ
     Record.signed Record.kindOf Record.actual Record.entry Record.memberOf Record.areaOf Record.entryOf Record.zonePrice Record.zoneOf
     Record.tieIn Record.tieOut Record.price Deviation.generatorUnavailable Deviation.generatorDeviation Deviation.loadUnavailable
-    Deviation.loadDeviation Deviation.deviation Ufe.inArea Ufe.areaSum Ufe.losses Ufe.ufe Ufe.demands Share.better Share.firstLargest
+    Deviation.loadDeviation Deviation.deviation Ufe.inArea Ufe.areaSum Ufe.losses Ufe.ufe Ufe.areaDemand Share.better Share.firstLargest
     Share.isAt Share.handedOut Share.allDemand Share.wholePart Share.remainder Share.unitsLeft Share.shareSize Share.share Charge.entering
     Charge.nearestCent Charge.cents Charge.shareOf Charge.grains Charge.amount Charge.recordsOf Charge.charge Text.digitsUpTo Text.decimal
     Text.amountText Text.amountField HourFile.word HourFile.blocks HourFile.blockWord HourFile.blockSum HourFile.lengthBad
@@ -31,8 +30,8 @@ unfolding Below.countBelow Below.sumBelow Below.totalBelow Below.valuesBelow Bel
     Ranges.blockRule Ranges.areaRule Ranges.headRule Ranges.rulesOf Ranges.recordRule Refusals.verdict Refusals.badLength Refusals.badSum
     Refusals.badBlock Refusals.badHead Refusals.badWord Refusals.badRecord Refusals.scheduledAbove Refusals.aboveMaximum Refusals.badArea
     Refusals.badAmount Neutrality.neutrality Neutrality.memberDemand Neutrality.hourDemand Neutrality.neutralityShare Neutrality.final
-    Refusals.noDemand Refusals.tooShort Refusals.outOfRange Refusals.tooNarrow Refusals.blockRows Refusals.wordRows Refusals.recordRows
-    Refusals.sumRows Refusals.formRows Refusals.fileRows Refusals.hourRows Refusals.settleRows Refusals.writeRows Settling.lineOf
+    Refusals.noDemand Refusals.tooShort Refusals.outOfRange Refusals.tooNarrow Refusals.blockRows Refusals.wordRows Refusals.comparisonRows
+    Refusals.sumRows Refusals.formRows Refusals.fileRows Refusals.hourRows Refusals.settleRows Refusals.writeAmountRows Settling.lineOf
     Settling.filled Settling.ufeFigures Settling.settle Settling.write Statement.firstLine Statement.column Statement.memberLine
     Statement.memberLines Statement.acceptedLines Statement.statement wordBytes Deviation.importDeviation Deviation.exportDeviation sealed
     everyKind longBuffers everySettlement

@@ -10,7 +10,8 @@ use Rattle.rules.specs.Ranges
 use Rattle.rules.specs.Refusals
 use Rattle.rules.specs.Statement
 use Rattle.rules.specs.RawHour
-use Rattle.rules.specs.Figures.Printed.{wordBytes, printedFile}
+use Rattle.rules.specs.Figures.Files.{wordBytes}
+use Rattle.rules.specs.Figures.Printed.{printedFile}
 use Rattle.rules.specs.Figures.Written.{WrittenRight, printedWords, writtenCases}
 
 pub written-right : WrittenRight
@@ -18,7 +19,7 @@ unfolding Below.sumBelow Below.valuesBelow Below.firstBelow orElse Record.signed
     HourWords.hourFrom HourWords.byteOf HourWords.closing HourWords.openBlock HourWords.blocksFor HourWords.heldIn HourWords.bodyWord
     HourWords.openWord HourWords.fileWord HourWords.fileByte HourWords.fileLength HourWords.fileOf Ranges.keeps Ranges.firstBroken
     Ranges.areaRule Ranges.headRule Ranges.rulesOf Ranges.recordRule Refusals.verdict Refusals.badLists Refusals.badHead Refusals.badWord
-    Refusals.badRecord Refusals.scheduledAbove Refusals.aboveMaximum Refusals.wordRows Refusals.recordRows Refusals.listFormRows
+    Refusals.badRecord Refusals.scheduledAbove Refusals.aboveMaximum Refusals.wordRows Refusals.comparisonRows Refusals.listFormRows
     Refusals.listRows Statement.refusedLine RawHour.rawWords RawHour.rawRows RawHour.rawWritten wordBytes printedFile printedWords
     writtenCases
 written-right = (refl, (refl, tt))

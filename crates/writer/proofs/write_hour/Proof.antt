@@ -4,7 +4,7 @@ use mathlib.Core.List.{List}
 use Prim.Native.Nat.{ℕ}
 use native.Mathlib.Omega.{arith}
 use lib.ListN.{length}
-use Rattle.rules.specs.Refusals.{verdictOf, verdict, accepted, writerRows}
+use Rattle.rules.specs.Refusals.{verdictOf, verdict, accepted, writeHourRows}
 use Rattle.rules.specs.Settling.{HourWritten}
 use Rattle.rules.specs.Promised.Writing.{AreWords}
 use Rattle.answer.proofs.Refusing.{no-other}
@@ -35,7 +35,7 @@ module _ (c : tie.After-enum-told) where
   abbrev examined : tie.After-examine
   examined = c .before .before
 
-  passed : verdict (writerRows (head examined) (records examined) (length (file examined))) ≡ accepted
+  passed : verdict (writeHourRows (head examined) (records examined) (length (file examined))) ≡ accepted
   passed = sym (examined .examine .ensures) ∙ ap verdictOf (c .enum-told .given .1)
 
 examine-requires : tie.Need-examine-requires

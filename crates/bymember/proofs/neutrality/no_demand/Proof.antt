@@ -14,13 +14,13 @@ nobody-demands-requires c κs = c .before .pre
 without-demand : (c : tie.Then1) → hourDemand (hourIn (c .before .before .before .args .file .now)) ≡ 0
 without-demand c = eqb-true _ _ (sym (c .before .nobody-demands .ensures) ∙ c .if1 .taken)
 
-left-over-requires : tie.Need-left-over-requires
-left-over-requires c κs = (c .before .before .before .pre .0, without-demand c)
+left-to-share-requires : tie.Need-left-to-share-requires
+left-to-share-requires c κs = (c .before .before .before .pre .0, without-demand c)
 
--- return left_over(file, head)
+-- return left_to_share(file, head)
 returns : tie.Need-returns
 unfolding noDemand
-returns c = rw (c .left-over .ensures, without-demand (c .before))
+returns c = rw (c .left-to-share .ensures, without-demand (c .before))
 
 -- false
 returns-2 : tie.Need-returns-2
@@ -28,4 +28,4 @@ unfolding noDemand
 returns-2 c = rw (sym (c .before .nobody-demands .ensures) ∙ c .if1 .left)
 
 pub no-demand-spec : {M : Type 1} → statement M
-no-demand-spec = tie.close (tie.spec nobody-demands-requires left-over-requires returns returns-2)
+no-demand-spec = tie.close (tie.spec nobody-demands-requires left-to-share-requires returns returns-2)

@@ -24,19 +24,19 @@ returns c =
     let m = p .before .before in
     put-as (worded-refused (m .before .before .args .explained) (λ e. no-other (rw e at (m .match .keys2)))) (p .put-refused .ensures)
 
-put-explanation-requires : tie.Need-put-explanation-requires
-put-explanation-requires c κs = search needs
+put-six-lines-requires : tie.Need-put-six-lines-requires
+put-six-lines-requires c κs = search needs
 
 -- out, at the end
 same-length-2 : tie.Need-same-length-2
 same-length-2 c = search needs
 
--- printing::explanation::put_explanation(out, heads, decided)
+-- printing::explanation::put_six_lines(out, heads, decided)
 returns-2 : tie.Need-returns-2
 returns-2 c =
     let p = c .before .before in
     let t = p .before .before .before in
-    put-as (worded-accepted (t .before .before .before .args .explained) (t .enum-told .given .1)) (p .put-explanation .ensures)
+    put-as (worded-accepted (t .before .before .before .args .explained) (t .enum-told .given .1)) (p .put-six-lines .ensures)
 
 pub put-explained-spec : {M : Type 1} → statement M
 put-explained-spec =
@@ -46,6 +46,6 @@ put-explained-spec =
     put-refused-requires
     same-length
     returns
-    put-explanation-requires
+    put-six-lines-requires
     same-length-2
     returns-2)

@@ -2,8 +2,8 @@
 use mathlib.Core.Path.{_≡_, sym, _∙_, ap}
 use mathlib.Core.Option.{none}
 use native.Mathlib.Omega.{arith}
-use Rattle.rules.specs.Refusals.{badLists, badHead, badRecord, aboveMaximum, verdict, placeZeroIf, wordRows, recordRows, listFormRows}
-use Rattle.rules.specs.Refusals.{listRows, writerRows}
+use Rattle.rules.specs.Refusals.{badLists, badHead, badRecord, aboveMaximum, verdict, placeZeroIf, wordRows, comparisonRows, listFormRows}
+use Rattle.rules.specs.Refusals.{listRows, writeHourRows}
 use Rattle.rules.specs.Refusals.{foundAt}
 use Rattle.writer.specs.Lists.{hourOfLists, ListsWhole}
 use Rattle.writer.proofs.Said.{lists-whole, few-blocks, no-room, has-room}
@@ -53,7 +53,7 @@ lists-bad-requires c κs = tt
 
 -- return Answer::BadLength
 returns : tie.Need-returns
-unfolding verdict wordRows recordRows listFormRows listRows writerRows
+unfolding verdict wordRows comparisonRows listFormRows listRows writeHourRows
 returns c = simp (sym (c .before .lists-bad .ensures) ∙ ap placeZeroIf (c .if1 .taken))
 
 bad-head-requires : tie.Need-bad-head-requires
@@ -65,7 +65,7 @@ enum-known-w c = c .match .keys1
 
 -- return Answer::BadHead(w)
 returns-2 : tie.Need-returns-2
-unfolding verdict wordRows recordRows listFormRows listRows writerRows
+unfolding verdict wordRows comparisonRows listFormRows listRows writeHourRows
 returns-2 c =
     let searched = c .before .before .before in
     let found = searched .bad-head .ensures (given (searched .before) .args .records .now) in
@@ -84,7 +84,7 @@ enum-known-i c = c .match2 .keys1
 
 -- return Answer::BadRecord(i)
 returns-3 : tie.Need-returns-3
-unfolding verdict wordRows recordRows listFormRows listRows writerRows
+unfolding verdict wordRows comparisonRows listFormRows listRows writeHourRows
 returns-3 c =
     let searched = c .before .before .before in
     let head = searched .before in
@@ -103,7 +103,7 @@ enum-known-i-2 c = c .match3 .keys1
 
 -- return Answer::AboveMaximum(i)
 returns-4 : tie.Need-returns-4
-unfolding verdict wordRows recordRows listFormRows listRows writerRows
+unfolding verdict wordRows comparisonRows listFormRows listRows writeHourRows
 returns-4 c =
     let searched = c .before .before .before in
     let records = searched .before in
@@ -127,7 +127,7 @@ mul-if2 c =
 
 -- return Answer::TooShort
 returns-5 : tie.Need-returns-5
-unfolding verdict wordRows recordRows listFormRows listRows writerRows
+unfolding verdict wordRows comparisonRows listFormRows listRows writeHourRows
 returns-5 c =
     let schedules = c .before .before in
     let records = row-5 schedules in
@@ -138,7 +138,7 @@ returns-5 c =
 
 -- Answer::Accepted
 returns-6 : tie.Need-returns-6
-unfolding verdict wordRows recordRows listFormRows listRows writerRows
+unfolding verdict wordRows comparisonRows listFormRows listRows writeHourRows
 returns-6 c =
     let schedules = c .before .before in
     let records = row-5 schedules in

@@ -1,4 +1,4 @@
--- `report::written::write_raw` meets its contract: refused for want of room, or put whole.
+-- `report::written::put_written_hour` meets its contract: refused for want of room, or put whole.
 use mathlib.Core.Path.{sym, _∙_}
 use native.Mathlib.Omega.{arith}
 use borrow.Author.Needs.{needs}
@@ -8,8 +8,8 @@ use Rattle.rules.proofs.Raw.{raw-fits}
 use Rattle.printing.proofs.Putting.{put-as}
 use Rattle.printing.proofs.Showing.{no-room, put-shown}
 use Rattle.report.proofs.Input.{bad-length, words-fit}
-use Rattle.report.proofs.written.write_raw.Statement.{statement}
-use Rattle.report.proofs.written.write_raw.Tie as tie
+use Rattle.report.proofs.written.put_written_hour.Statement.{statement}
+use Rattle.report.proofs.written.put_written_hour.Tie as tie
 
 -- return 0
 returns : tie.Need-returns
@@ -59,8 +59,8 @@ returns-3 c =
     let e = p .before .before .before .before .before in
     put-shown (e .if1 .left) (raw-fits (e .before .before .before .args .input .now)) (p .put-input .ensures)
 
-pub write-raw-spec : {M : Type 1} → statement M
-write-raw-spec =
+pub put-written-hour-spec : {M : Type 1} → statement M
+put-written-hour-spec =
     tie.close
     (tie.spec
     returns

@@ -15,23 +15,22 @@ use Rattle.rules.specs.Ranges
 use Rattle.rules.specs.Refusals
 use Rattle.rules.specs.Statement
 use Rattle.rules.specs.Explanation
-use Rattle.rules.specs.Figures.Printed.{wordBytes}
-use Rattle.rules.specs.Figures.Refused.{sealed}
+use Rattle.rules.specs.Figures.Files.{wordBytes, sealed}
 use Rattle.rules.specs.Figures.EveryKind.{everyKind}
-use Rattle.rules.specs.Figures.Explanation.{ExplainedRight, unscheduled, explanations}
+use Rattle.rules.specs.Figures.FiveHeads.{ExplainedRight, unscheduled, explanations}
 
 pub explained-right : ExplainedRight
 unfolding Below.sumBelow Below.totalBelow Below.firstBelow orElse minℤ maxℤ Record.signed Record.kindOf Record.actual Record.entry
     Record.memberOf Record.areaOf Record.entryOf Record.zonePrice Record.zoneOf Record.tieIn Record.tieOut Record.price
     Deviation.generatorUnavailable Deviation.generatorDeviation Deviation.loadUnavailable Deviation.loadDeviation Deviation.deviation
-    Ufe.inArea Ufe.areaSum Ufe.losses Ufe.ufe Ufe.demands Share.better Share.firstLargest Share.isAt Share.handedOut Share.allDemand
+    Ufe.inArea Ufe.areaSum Ufe.losses Ufe.ufe Ufe.areaDemand Share.better Share.firstLargest Share.isAt Share.handedOut Share.allDemand
     Share.wholePart Share.remainder Share.unitsLeft Share.shareSize Share.share Charge.entering Charge.nearestCent Charge.cents
     Charge.shareOf Charge.grains Charge.amount Charge.charge Text.digitsUpTo Text.decimal HourFile.word HourFile.blocks HourFile.blockWord
     HourFile.blockSum HourFile.lengthBad HourFile.recordCount HourFile.recordWord HourFile.hourOf Ranges.keeps Ranges.firstBroken
     Ranges.countRule Ranges.pastRule Ranges.blockRule Ranges.areaRule Ranges.headRule Ranges.rulesOf Ranges.recordRule Refusals.verdict
     Refusals.badLength Refusals.badSum Refusals.badBlock Refusals.badHead Refusals.badWord Refusals.badRecord Refusals.scheduledAbove
     Refusals.aboveMaximum Refusals.badArea Refusals.badAmount Neutrality.neutrality Neutrality.memberDemand Neutrality.hourDemand
-    Refusals.noDemand Refusals.blockRows Refusals.wordRows Refusals.recordRows Refusals.sumRows Refusals.formRows
+    Refusals.noDemand Refusals.blockRows Refusals.wordRows Refusals.comparisonRows Refusals.sumRows Refusals.formRows
     Refusals.fileRows Refusals.hourRows wordBytes Deviation.importDeviation Deviation.exportDeviation Refusals.noMember
     Refusals.explainRows Statement.refusedLine Explanation.pricedSum Explanation.heads Explanation.sameSign Explanation.decidedBy
     Explanation.decided Explanation.explain Explanation.signedDecimal Explanation.headLine Explanation.decidedLine

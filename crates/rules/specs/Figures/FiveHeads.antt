@@ -8,9 +8,8 @@ use lib.ListN.{replicate}
 use Rattle.rules.specs.Text.{bytes}
 use Rattle.rules.specs.Refusals.{refusedAt}
 use Rattle.rules.specs.Explanation.{Explanation, noHeads, decidedBy, explain, explanation}
-use Rattle.rules.specs.Figures.Starred.{Case, _is_, AllRight}
-use Rattle.rules.specs.Figures.Printed.{wordBytes}
-use Rattle.rules.specs.Figures.Refused.{first, other, plainHead}
+use Rattle.rules.specs.Figures.Cases.{Case, _is_, AllRight}
+use Rattle.rules.specs.Figures.Files.{wordBytes, first, other, plainHead}
 use Rattle.rules.specs.Figures.EveryKind.{everyKind}
 
 abbrev pub unexplained : (number place : ℕ) → Explanation

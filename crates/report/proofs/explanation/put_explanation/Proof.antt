@@ -1,4 +1,4 @@
--- `report::explanation::explanation` meets its contract: refused for want of room, or put whole.
+-- `report::explanation::put_explanation` meets its contract: refused for want of room, or put whole.
 use mathlib.Core.Path.{_≡_, sym, _∙_, ap, ap₂}
 use Prim.Native.Nat.{_-_}
 use native.Mathlib.Omega.{arith}
@@ -11,8 +11,8 @@ use Rattle.printing.proofs.Putting.{put-as}
 use Rattle.printing.proofs.Showing.{no-room, put-shown}
 use Rattle.rules.specs.Explanation.{worded}
 use Rattle.report.proofs.Worded.{asked}
-use Rattle.report.proofs.explanation.explanation.Statement.{statement}
-use Rattle.report.proofs.explanation.explanation.Tie as tie
+use Rattle.report.proofs.explanation.put_explanation.Statement.{statement}
+use Rattle.report.proofs.explanation.put_explanation.Tie as tie
 
 -- return 0
 returns : tie.Need-returns
@@ -71,8 +71,8 @@ returns-3 c =
     let said = ap worded (x .explain .ensures ∙ ap₂ Explanation.explain hour (w .whole-word .ensures)) in
     put-shown (e .before .if1 .left) (explanation-fits s) (put-as (said ∙ asked s (e .if2 .left)) (p .put-explained .ensures))
 
-pub explanation-spec : {M : Type 1} → statement M
-explanation-spec =
+pub put-explanation-spec : {M : Type 1} → statement M
+put-explanation-spec =
     tie.close
     (tie.spec
     returns

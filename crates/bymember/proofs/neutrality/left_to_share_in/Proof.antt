@@ -1,4 +1,4 @@
--- `bymember::neutrality::left_over_in` meets its contract: N is tested by its bits.
+-- `bymember::neutrality::left_to_share_in` meets its contract: N is tested by its bits.
 use mathlib.Core.Path.{_∙_, ap}
 use mathlib.Core.Bool.{not}
 use lib.Dec.{eqb}
@@ -7,8 +7,8 @@ use borrow.Author.Needs.{needs, sfits-of}
 use Rattle.whole.proofs.Machine.{zero-test}
 use Rattle.hour.proofs.Figures.{head-records, head-prices}
 use Rattle.bymember.proofs.Amounts.{deviations-ready, amounts-ready}
-use Rattle.bymember.proofs.neutrality.left_over_in.Statement.{statement}
-use Rattle.bymember.proofs.neutrality.left_over_in.Tie as tie
+use Rattle.bymember.proofs.neutrality.left_to_share_in.Statement.{statement}
+use Rattle.bymember.proofs.neutrality.left_to_share_in.Tie as tie
 
 put-deviations-requires : tie.Need-put-deviations-requires
 put-deviations-requires c κs = let pre = c .before .before .pre in (pre .0, pre .2)
@@ -40,6 +40,6 @@ returns : tie.Need-returns
 returns c = let N = c .sum-of-cents in
     ap not (zero-test (N .result) (sfits-of (N .ok)) ∙ ap (λ (z : ℤ). eqb (natAbs z) 0) (N .ensures))
 
-pub left-over-in-spec : {M : Type 1} → statement M
-left-over-in-spec =
+pub left-to-share-in-spec : {M : Type 1} → statement M
+left-to-share-in-spec =
     tie.close (tie.spec put-deviations-requires put-amounts-requires sum-of-cents-requires same-length same-length-2 returns)

@@ -1,4 +1,4 @@
--- `bymember::neutrality::left_over` meets its contract: there is room for 250 deviations and 32 amounts.
+-- `bymember::neutrality::left_to_share` meets its contract: there is room for 250 deviations and 32 amounts.
 use mathlib.Core.Path.{sym}
 use Prim.Native.Nat.{_≤_}
 use native.Mathlib.Omega.{arith}
@@ -8,40 +8,40 @@ use borrow.Author.Needs.{needs}
 use Rattle.rules.specs.HourFile.{hourIn}
 use Rattle.hour.proofs.Figures.{head-members}
 use Rattle.bymember.proofs.Places.{empty}
-use Rattle.bymember.proofs.neutrality.left_over.Statement.{statement}
-use Rattle.bymember.proofs.neutrality.left_over.Tie as tie
+use Rattle.bymember.proofs.neutrality.left_to_share.Statement.{statement}
+use Rattle.bymember.proofs.neutrality.left_to_share.Tie as tie
 
 -- the head's count is the file's
 few : (c : tie.Start) → c .args .head .members ≤ 32
 few c = omega (arith, head-members (c .pre .0), c .pre .0 .kept .hour-kept .members-most)
 
 -- &mut deviations
-slice-aggregate-left-over-in : tie.Need-slice-aggregate-left-over-in
-slice-aggregate-left-over-in c = search needs
+slice-aggregate-left-to-share-in : tie.Need-slice-aggregate-left-to-share-in
+slice-aggregate-left-to-share-in c = search needs
 
 -- &mut amounts[..n]
 array-borrow-prefix-amounts : tie.Need-array-borrow-prefix-amounts
 array-borrow-prefix-amounts c = few (c .before .before)
 
 -- the length of &mut amounts[..n]
-slice-aggregate-left-over-in-2 : tie.Need-slice-aggregate-left-over-in-2
-slice-aggregate-left-over-in-2 c = sym (length-take-le _ _ (few (c .before .before .before)))
+slice-aggregate-left-to-share-in-2 : tie.Need-slice-aggregate-left-to-share-in-2
+slice-aggregate-left-to-share-in-2 c = sym (length-take-le _ _ (few (c .before .before .before)))
 
-left-over-in-requires : tie.Need-left-over-in-requires
-left-over-in-requires c κs =
+left-to-share-in-requires : tie.Need-left-to-share-in-requires
+left-to-share-in-requires c κs =
     let start = c .before .before .before in
     let room : hourIn (start .args .file .now) .count ≤ 250 = start .pre .0 .kept .hour-kept .count-most in
     (start .pre .0, start .pre .1, search needs, empty (pos 0) (head-members (start .pre .0)) (few start))
 
 returns : tie.Need-returns
-returns c = c .before .before .left-over-in .ensures
+returns c = c .before .before .left-to-share-in .ensures
 
-pub left-over-spec : {M : Type 1} → statement M
-left-over-spec =
+pub left-to-share-spec : {M : Type 1} → statement M
+left-to-share-spec =
     tie.close
     (tie.spec
-    slice-aggregate-left-over-in
+    slice-aggregate-left-to-share-in
     array-borrow-prefix-amounts
-    slice-aggregate-left-over-in-2
-    left-over-in-requires
+    slice-aggregate-left-to-share-in-2
+    left-to-share-in-requires
     returns)

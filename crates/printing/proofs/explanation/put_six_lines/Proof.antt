@@ -1,12 +1,12 @@
--- `printing::explanation::put_explanation` meets its contract: a line a head, one after the other, and the sixth.
+-- `printing::explanation::put_six_lines` meets its contract: a line a head, one after the other, and the sixth.
 use mathlib.Core.Path.{_≡_, ap}
 use Prim.Native.Nat.{ℕ}
 use borrow.Author.Needs.{needs}
 use Rattle.whole.proofs.Machine.{element-fits, read-back, back}
 use Rattle.rules.specs.Explanation.{headAt, headLine, explanationLines}
 use Rattle.printing.proofs.Putting.{put-on, put-as}
-use Rattle.printing.proofs.explanation.put_explanation.Statement.{statement}
-use Rattle.printing.proofs.explanation.put_explanation.Tie as tie
+use Rattle.printing.proofs.explanation.put_six_lines.Statement.{statement}
+use Rattle.printing.proofs.explanation.put_six_lines.Tie as tie
 
 -- a head, as it is read from the array
 read : (s : tie.Start) (k : ℕ) → headLine k (back (headAt (s .args .t2) k)) ≡ headLine k (headAt (s .args .t2) k)
@@ -71,8 +71,8 @@ returns c =
     let five = put-on four (put-as (read s 4) (share .put-head5 .ensures .0)) in
     put-on five (d .put-decided .ensures)
 
-pub put-explanation-spec : {M : Type 1} → statement M
-put-explanation-spec =
+pub put-six-lines-spec : {M : Type 1} → statement M
+put-six-lines-spec =
     tie.close
     (tie.spec
     array-copy-out-put-head

@@ -1,11 +1,11 @@
--- `report::statement::statement` meets its contract: refused for want of room, or put whole.
+-- `report::statement::put_statement` meets its contract: refused for want of room, or put whole.
 use native.Mathlib.Omega.{arith}
 use borrow.Author.Needs.{needs}
 use Rattle.rules.specs.Statement as Statement
 use Rattle.rules.proofs.Stated.{statement-fits}
 use Rattle.printing.proofs.Showing.{no-room, put-shown}
-use Rattle.report.proofs.statement.statement.Statement.{statement}
-use Rattle.report.proofs.statement.statement.Tie as tie
+use Rattle.report.proofs.statement.put_statement.Statement.{statement}
+use Rattle.report.proofs.statement.put_statement.Tie as tie
 
 -- return 0
 returns : tie.Need-returns
@@ -35,6 +35,6 @@ returns-2 c =
     put-shown (e .if1 .left) (statement-fits (known .before .args .file .now) (λ i. known .shared-slice-known .given i .fits))
     (p .put-settled .ensures)
 
-pub statement-spec : {M : Type 1} → statement M
-statement-spec =
+pub put-statement-spec : {M : Type 1} → statement M
+put-statement-spec =
     tie.close (tie.spec returns slice-aggregate-put-settled slice-aggregate-put-settled-2 put-settled-requires same-length returns-2)
