@@ -7,15 +7,15 @@ use Rattle.explanation.proofs.print_explanation.Statement.{statement}
 use Rattle.explanation.proofs.print_explanation.Tie as tie
 
 -- &mut text
-slice-aggregate-explanation : tie.Need-slice-aggregate-explanation
-slice-aggregate-explanation c = search needs
+slice-aggregate-put-explanation : tie.Need-slice-aggregate-put-explanation
+slice-aggregate-put-explanation c = search needs
 
-explanation-requires : tie.Need-explanation-requires
-explanation-requires c κs = search needs
+put-explanation-requires : tie.Need-put-explanation-requires
+put-explanation-requires c κs = search needs
 
 -- &text[..length]
 array-share-prefix-text : tie.Need-array-share-prefix-text
-array-share-prefix-text c = count-within (record { count-is = c .before .explanation .ensures .0; out-is = c .before .explanation .ensures .1 })
+array-share-prefix-text c = count-within (record { count-is = c .before .put-explanation .ensures .0; out-is = c .before .put-explanation .ensures .1 })
 
 -- &text[..length]
 slice-aggregate-print : tie.Need-slice-aggregate-print
@@ -31,8 +31,8 @@ pub print-explanation-spec : {M : Type 1} → statement M
 print-explanation-spec =
     tie.close
     (tie.spec
-    slice-aggregate-explanation
-    explanation-requires
+    slice-aggregate-put-explanation
+    put-explanation-requires
     array-share-prefix-text
     slice-aggregate-print
     print-requires

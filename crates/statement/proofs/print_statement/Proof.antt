@@ -7,15 +7,15 @@ use Rattle.statement.proofs.print_statement.Statement.{statement}
 use Rattle.statement.proofs.print_statement.Tie as tie
 
 -- &mut text
-slice-aggregate-statement : tie.Need-slice-aggregate-statement
-slice-aggregate-statement c = search needs
+slice-aggregate-put-statement : tie.Need-slice-aggregate-put-statement
+slice-aggregate-put-statement c = search needs
 
-statement-requires : tie.Need-statement-requires
-statement-requires c κs = search needs
+put-statement-requires : tie.Need-put-statement-requires
+put-statement-requires c κs = search needs
 
 -- &text[..length]
 array-share-prefix-text : tie.Need-array-share-prefix-text
-array-share-prefix-text c = count-within (record { count-is = c .before .statement .ensures .0; out-is = c .before .statement .ensures .1 })
+array-share-prefix-text c = count-within (record { count-is = c .before .put-statement .ensures .0; out-is = c .before .put-statement .ensures .1 })
 
 -- &text[..length]
 slice-aggregate-print : tie.Need-slice-aggregate-print
@@ -31,8 +31,8 @@ pub print-statement-spec : {M : Type 1} → statement M
 print-statement-spec =
     tie.close
     (tie.spec
-    slice-aggregate-statement
-    statement-requires
+    slice-aggregate-put-statement
+    put-statement-requires
     array-share-prefix-text
     slice-aggregate-print
     print-requires

@@ -7,15 +7,15 @@ use Rattle.write_hour.proofs.print_written.Statement.{statement}
 use Rattle.write_hour.proofs.print_written.Tie as tie
 
 -- &mut file
-slice-aggregate-write-raw : tie.Need-slice-aggregate-write-raw
-slice-aggregate-write-raw c = search needs
+slice-aggregate-put-written-hour : tie.Need-slice-aggregate-put-written-hour
+slice-aggregate-put-written-hour c = search needs
 
-write-raw-requires : tie.Need-write-raw-requires
-write-raw-requires c κs = search needs
+put-written-hour-requires : tie.Need-put-written-hour-requires
+put-written-hour-requires c κs = search needs
 
 -- &file[..length]
 array-share-prefix-file : tie.Need-array-share-prefix-file
-array-share-prefix-file c = count-within (record { count-is = c .before .write-raw .ensures .0; out-is = c .before .write-raw .ensures .1 })
+array-share-prefix-file c = count-within (record { count-is = c .before .put-written-hour .ensures .0; out-is = c .before .put-written-hour .ensures .1 })
 
 -- &file[..length]
 slice-aggregate-print : tie.Need-slice-aggregate-print
@@ -31,8 +31,8 @@ pub print-written-spec : {M : Type 1} → statement M
 print-written-spec =
     tie.close
     (tie.spec
-    slice-aggregate-write-raw
-    write-raw-requires
+    slice-aggregate-put-written-hour
+    put-written-hour-requires
     array-share-prefix-file
     slice-aggregate-print
     print-requires
