@@ -1,6 +1,7 @@
--- An hour with every kind of record in two areas, in zones of different prices and with different ties, as a figure: what settling writes and
--- the statement says of it. Each letter of a kind's formula has a value of its own there, and each kind that can fall short of its obligation
--- does so once and once doesn't. N is 3,223 cents, of which one is left over once the whole cents are shared. Documents 01 and 02, A1.
+-- An hour with every kind of record in two areas, in zones of different prices and with different ties, as a figure: what settling writes, the
+-- pool's total and the statement. Each letter of a kind's formula has a value of its own there, and each kind that can fall short of its
+-- obligation does so once and once doesn't. N is 3,223 cents, of which one is left over once the whole cents are shared. Documents 01 and
+-- 02, A1.
 use Prim.Native.Nat.{ℕ}
 use mathlib.Core.Path.{_≡_}
 use mathlib.Core.List.{List, [], _∷_, _++_}
@@ -8,6 +9,8 @@ use lib.IntN.{ℤ, pos, negℤ}
 use lib.ListN.{replicate}
 use Rattle.rules.specs.declared.Line.{Line}
 use Rattle.rules.specs.Text.{bytes}
+use Rattle.rules.specs.Charge.{poolTotal}
+use Rattle.rules.specs.HourFile.{hourIn}
 use Rattle.rules.specs.Refusals.{accepted, Buffers}
 use Rattle.rules.specs.Settling.{Settlement, settle}
 use Rattle.rules.specs.Statement.{statement}
@@ -62,6 +65,8 @@ everySettlement = record {
 
 pub record EveryKindRight : Type 0 where
   pub settled : settle everyKind longBuffers ≡ everySettlement
+  -- what the three lines add up to
+  pub pooled : poolTotal (hourIn everyKind) ≡ pos 32234000000
   pub stated : statement everyKind ≡
       bytes "hour 7 members 3 records 7\n00          -6.31          -6.31\n"
       ++ bytes "01          +9.83          -9.90\n02         +28.71         +16.21\n"

@@ -34,5 +34,5 @@ unfolding Below.countBelow Below.sumBelow Below.totalBelow Below.valuesBelow Bel
     Refusals.sumRows Refusals.formRows Refusals.fileRows Refusals.hourRows Refusals.settleRows Refusals.writeAmountRows Settling.lineOf
     Settling.filled Settling.ufeFigures Settling.settle Settling.write Statement.firstLine Statement.column Statement.memberLine
     Statement.memberLines Statement.acceptedLines Statement.statement wordBytes Deviation.importDeviation Deviation.exportDeviation sealed
-    everyKind longBuffers everySettlement
-every-kind-right = record { settled = refl; stated = refl }
+    everyKind longBuffers everySettlement Charge.poolTotal
+every-kind-right = record { settled = refl; pooled = refl; stated = refl }
