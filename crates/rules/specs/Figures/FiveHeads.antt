@@ -7,13 +7,14 @@ use lib.IntN.{ℤ, pos, negℤ}
 use lib.ListN.{replicate}
 use Rattle.rules.specs.Text.{bytes}
 use Rattle.rules.specs.Refusals.{refusedAt}
-use Rattle.rules.specs.Explanation.{Explanation, noHeads, decidedBy, explain, explanation}
+use Rattle.rules.specs.Explanation.{Explanation, decidedBy, explain, explanation}
 use Rattle.rules.specs.Figures.Cases.{Case, _is_, AllRight}
 use Rattle.rules.specs.Figures.Files.{wordBytes, first, other, plainHead}
 use Rattle.rules.specs.Figures.EveryKind.{everyKind}
 
+-- all five heads are 0, and none decided
 abbrev pub unexplained : (number place : ℕ) → Explanation
-unexplained number place = record { verdict = refusedAt number place; heads = noHeads; decided = none }
+unexplained number place = record { verdict = refusedAt number place; heads = replicate 5 (pos 0); decided = none }
 
 abbrev pub grainsOf : (generation load import' export' share : ℤ) → List ℤ
 grainsOf g l i e s = g ∷ l ∷ i ∷ e ∷ s ∷ []

@@ -3,9 +3,10 @@
 -- Document 01, "Refusal numbers and their order"; document 02, A1 and A6.
 use Prim.Native.Nat.{ℕ}
 use mathlib.Core.List.{List, [], _∷_, _++_}
+use lib.IntN.{pos}
 use lib.ListN.{replicate}
 use Rattle.rules.specs.Refusals.{refusedAt}
-use Rattle.rules.specs.Settling.{noFigures, settle}
+use Rattle.rules.specs.Settling.{settle}
 use Rattle.rules.specs.Figures.Cases.{Case, _is_, AllRight}
 use Rattle.rules.specs.Figures.Files.{block, usedBuffers, first, plainHead, engine, other, unsealed}
 
@@ -33,9 +34,9 @@ unknownKinds = engine 2 ++ 6 ∷ replicate 11 0 ++ 6 ∷ replicate 11 0 ++ untak
 abbrev pub threeBlocks : (block : (position count six : ℕ) → List ℕ → List ℕ) → List ℕ
 threeBlocks block = first 2 (areasHead 1000001 1) ++ block 1 10 1 unknownKinds ++ block 2 1 1 untaken
 
--- all figures are 0, and the buffers, with three places each, are as they were
+-- all eight figures are 0, and the buffers, with three places each, are as they were
 abbrev pub refused : (number place : ℕ) → List ℕ → Case
-refused number place s = settle s usedBuffers is record { verdict = refusedAt number place; ufe = noFigures; buffers = usedBuffers }
+refused number place s = settle s usedBuffers is record { verdict = refusedAt number place; ufe = replicate 8 (pos 0); buffers = usedBuffers }
 
 unfoldable pub refusals : List Case
 refusals =
