@@ -59,6 +59,12 @@ def function(path):
     return found.group() if found else None
 
 
+def parameters(path):
+    """A function's parameters, as {name: type}, in their order."""
+    between = re.search(r"\((.*?)\)", function(path), re.S).group(1)
+    return dict(re.findall(r"(\w+): ([^,\n]+)", between))
+
+
 def declared_type(path):
     """Whether `crate::Type` is a struct or an enum of that crate."""
     return bool(re.search(rf"^pub (?:struct|enum) {re.escape(path.split('::')[-1])} ", source_of(path), re.M))
