@@ -1,8 +1,8 @@
 """Hours that a misreading of document 01 or 02 would answer otherwise. Each case is named for its misreading; its comment works the right
 answer by hand. So a slip that is made alike in the code and in its definition shows from outside.
 
-`runs()` gives each case as calls of programs: the case's name, the program, its arguments, its input, and what it must print. The name up to
-the colon is the misreading; tests/test_misread.py puts each of them into a copy of the second program and sees that its cases refuse it.
+`runs()` gives each case as calls of programs: the case's name, the program, its arguments, its input, and what it must print. The name up
+to the colon is the misreading; tests/test_misread.py puts each of them into a copy of the second program and sees that its cases refuse it.
 
 In most hours a price is 1,000 cents a MWh. There a kWh is a cent, 10,000 units and 10,000,000 grains.
 """
@@ -134,8 +134,8 @@ def of_ends():
 # ---- Ranges of heads
 
 def priced(zone, price):
-    """Four zones, all free but one, in which an export of member 0 is a kWh over its plan: it pays a thousandth of the price. Member 1's load
-    takes the kWh that it planned, comes in by the tie, and carries N."""
+    """Four zones, all free but one, in which an export of member 0 is a kWh over its plan: it pays a thousandth of the price. Member 1's
+    load took the kWh that it planned, which came in by the tie, and carries N."""
     prices = [price if each == zone else 0 for each in range(4)]
     return Hour(7, 2, prices, [[zone, 1, 0]], [record(EXPORT, 0, 0, A=1), record(PROFILE_LOAD, 1, 0, S=1, A=1)])
 
@@ -169,8 +169,8 @@ def of_ties():
 
 
 def of_counts():
-    """The most members, zones and areas, with a record of the last; and one more, or none. An export in the last zone is a kWh over its plan:
-    3 cents at 3,000, and nothing for any other."""
+    """The most members, zones and areas, with a record of the last; and one more, or none. An export of the last is a kWh over its plan: 1
+    cent at 1,000, or 3 cents at 3,000."""
     load = record(PROFILE_LOAD, 0, 0, S=1, A=1)
     members = Hour(7, 32, [1_000], [[0, 1, 0]], [load, record(EXPORT, 31, 0, A=1)])
     yield from accepted("31 members: 32", members, [0, -10_000], [0] * 31 + [1], [-1] + [0] * 30 + [1])
@@ -271,8 +271,8 @@ def of_writing():
 # ---- Formulas: the record of member 0, and a load of member 1 that took what it planned
 
 def of_loads():
-    """10,000 x (100 - ((80 - 5) + 3) - max(0, (0 - 3) - 80)) = 10,000 x 22: charged -22. Demands are 80 and 20 kWh, which come in by the tie.
-    N is -22. Shares: 80 x 22 / 100 is 17.6 and 20 x 22 / 100 is 4.4; one is left, for the larger remainder: -18 and -4."""
+    """10,000 x (100 - ((80 - 5) + 3) - max(0, (0 - 3) - 80)) = 10,000 x 22: charged -22. Demands are 80 and 20 kWh, which come in by the
+    tie. N is -22. Shares: 80 x 22 / 100 is 17.6 and 20 x 22 / 100 is 4.4; one is left, for the larger remainder: -18 and -4."""
     for kind in (REAL_TIME_LOAD, PROFILE_LOAD):
         hour = Hour(7, 2, [1_000], [[0, 100, 0]], [
             record(kind, 0, 0, S=100, A=80, J=5, N=3), record(PROFILE_LOAD, 1, 0, S=20, A=20)])
@@ -314,8 +314,8 @@ def of_areas():
 
 
 def of_zones():
-    """Area 0 is in zone 1, at 3,000 cents, and area 1 in zone 0, at 1,000. Exports 2 and 5 kWh over their plans: 6 and 5 cents. N is 11, all of
-    it member 1's, whose load took what it planned."""
+    """Area 0 is in zone 1, at 3,000 cents, and area 1 in zone 0, at 1,000. Exports are 2 and 5 kWh over their plans: 6 and 5 cents. N is
+    11, all of it member 1's, whose load took what it planned."""
     hour = Hour(7, 2, [1_000, 3_000], [[1, 10, 0], [0, 0, 0]], [
         record(EXPORT, 0, 0, A=2), record(EXPORT, 1, 1, A=5), record(PROFILE_LOAD, 1, 0, S=10, A=10)])
     for name in ("an area's zone from word 19", "prices reversed", "an area's own number as its zone"):

@@ -1,6 +1,6 @@
-"""That docs/PROMISES.md and the crate `theorems` are whole: every public function stands in both but for those that the page excepts, its law
-determines every buffer that it is lent, every `requires` is explained, and the page names each must-fail edit once, and none that is gone.
-Run from the project's root: python3 -m unittest tests/test_promises.py"""
+"""That docs/PROMISES.md and the crate `theorems` are whole: every public function stands in both but for those that the page excepts, its
+law determines every buffer that it is lent, every `requires` is explained, every definition that the page names is there, and the page
+names each must-fail edit once, and none that is gone. Run from the project's root: python3 -m unittest tests/test_promises.py"""
 
 import re
 import sys
@@ -8,7 +8,7 @@ import unittest
 from pathlib import Path
 
 sys.path.insert(0, str(Path(__file__).resolve().parent))
-from naming import CRATES, ROOT, edits, edits_named, function, names, parameters, rows, sections  # noqa: E402
+from naming import CRATES, ROOT, definition, edits, edits_named, function, law, names, parameters, rows, sections  # noqa: E402
 
 PROMISES = (ROOT / "docs" / "PROMISES.md").read_text()
 EXCEPTIONS, REQUIRES = sections(PROMISES)["Exceptions"].split("### Functions with a requires")
@@ -130,6 +130,16 @@ class Promises(unittest.TestCase):
             if re.search(r"^    requires ", text, re.M):
                 asking.add(f"{crate}::{name}")
         self.assertEqual(WITH_A_REQUIRES, asking)
+
+    def test_definitions_named_are_there(self):
+        """`FILE.name` is of `rules`, or of a crate that the section is about."""
+        for title, text in sections(PROMISES).items():
+            crates = ["rules", *names(title)]
+            for name in re.findall(r"`((?:\w+/)*[A-Z]\w*\.[a-zA-Z][\w-]*)`", text):
+                if not name.endswith((".antt", ".md")):
+                    with self.subTest(name, section=title):
+                        said = [name] if name[0].islower() else [f"{crate}/{name}" for crate in crates]
+                        self.assertTrue(any(definition(each) or law(each) for each in said))
 
     def test_every_edit_is_named_once(self):
         self.assertTrue(edits())
