@@ -8,8 +8,6 @@ wrong program.
 """
 
 import contextlib
-import importlib.machinery
-import importlib.util
 import io
 import random
 import re
@@ -34,16 +32,9 @@ import questions  # noqa: E402
 import second  # noqa: E402
 import to_write  # noqa: E402
 from hours import EXPORT, GENERATOR, IMPORT, PROFILE_LOAD, REAL_TIME_LOAD, Hour, record  # noqa: E402
+from scripts import load_script  # noqa: E402
 from slips import (AMOUNT_SLIPS, HOUR_SLIPS, IMPORT_SLIPS, QUESTION_SLIPS, SCHEDULE_SLIPS, SECOND, WRITING_SLIPS, slipped,  # noqa: E402
                    wrong_program)
-
-
-def load_script(path):
-    """A script without a suffix as a module."""
-    loader = importlib.machinery.SourceFileLoader(path.name, str(path))
-    module = importlib.util.module_from_spec(importlib.util.spec_from_loader(path.name, loader))
-    loader.exec_module(module)
-    return module
 
 
 compare = load_script(HERE / "compare")
