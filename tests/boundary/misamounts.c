@@ -95,7 +95,8 @@ write_function *miswritten_amount(const char *how)
         const char *name;
         write_function *write;
     } faults[] = { { "unsigned", sign_lost }, { "blank", blank_lost }, { "column", column_short }, { "changed", changed_on_refusal },
-        { "minus", minus_zero_written }, { "width", nine_before_eight }, { "greatest", greatest_refused }, { "outside", byte_past_the_field } };
+        { "minus", minus_zero_written }, { "width", nine_before_eight }, { "greatest", greatest_refused },
+        { "outside", byte_past_the_field } };
     for (size_t at = 0; at < sizeof faults / sizeof *faults; at++)
         if (strcmp(how, faults[at].name) == 0)
             return faults[at].write;
