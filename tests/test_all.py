@@ -1,4 +1,4 @@
-"""Tests of tests/all, the runner of all tests, with parts of their own.
+"""Tests of tests/all, the runner of all tests, with parts of their own; and of the gate, with an rt and tests of its own.
 
     python3 -m unittest tests/test_all.py
 """
@@ -6,6 +6,7 @@
 import contextlib
 import io
 import os
+import shutil
 import signal
 import subprocess
 import sys
@@ -91,7 +92,7 @@ class Parts(unittest.TestCase):
 
     def test_ended_early_it_takes_everything_with_it(self):
         with tempfile.TemporaryDirectory() as folder:
-            text = f"sleep 600 & echo $! > '{folder}/started'; mv '{folder}/started' '{folder}/process'; wait"
+            text = f"cd '{folder}'; sleep 600 & echo $! > begun; mv begun process; wait"
             runner = subprocess.Popen([sys.executable, "-c", self.RUNNER, HERE, text], stdout=subprocess.DEVNULL, stderr=subprocess.DEVNULL)
             self.addCleanup(runner.kill)
             self.assertTrue(until(Path(folder, "process").exists))
@@ -132,6 +133,56 @@ class Files(unittest.TestCase):
                                      "    def test_that_runs(self):\n        pass\n")
         self.assertEqual(status, 0)
         self.assertIn("\nskipped: test_of_its_own.Case.test: the reason\n", said)
+
+
+class Gate(unittest.TestCase):
+    """.ci/run in a folder of its own."""
+
+    def setUp(self):
+        folder = tempfile.TemporaryDirectory()
+        self.addCleanup(folder.cleanup)
+        self.folder = Path(folder.name)
+        for file in (".ci/run", "tools/python.sh"):
+            (self.folder / file).parent.mkdir()
+            shutil.copy(HERE.parent / file, self.folder / file)
+
+    def started(self, rt, tests):
+        """The gate with these commands in place of `rt ci` and of tests/all."""
+        programs = self.folder / "programs"
+        programs.mkdir()
+        (programs / "rt").write_text(f"#!/bin/sh\n{rt}\n")
+        (programs / "rt").chmod(0o755)
+        (self.folder / "tests").mkdir()
+        (self.folder / "tests" / "all").write_text(f"import os, sys\nsys.stdout.flush()\nos.execv('/bin/sh', ['sh', '-c', {tests!r}])\n")
+        environment = {**os.environ, "PATH": f"{programs}{os.pathsep}{os.environ['PATH']}"}
+        return subprocess.Popen([self.folder / ".ci" / "run"], stdout=subprocess.PIPE, stderr=subprocess.STDOUT, env=environment, text=True)
+
+    def ended(self, rt, tests):
+        gate = self.started(rt, tests)
+        printed, _ = gate.communicate(timeout=GUARD)
+        return gate.returncode, printed.splitlines()
+
+    def test_all_is_well(self):
+        self.assertEqual(self.ended("echo crates; echo count", "echo tests"), (0, ["crates", "count", "tests", "count"]))
+
+    def test_tests_fell_short(self):
+        self.assertEqual(self.ended("echo crates; echo count", "echo tests; exit 1"), (1, ["crates", "count", "tests", "count"]))
+
+    def test_rt_fell_short(self):
+        status, printed = self.ended("echo crates; echo count; exit 1", "echo tests")
+        self.assertNotEqual(status, 0)
+        self.assertEqual(printed, ["crates", "count"])
+
+    def test_ended_early_no_test_outlives_it(self):
+        gate = self.started("echo count", f"cd '{self.folder}'; echo $$ > begun; mv begun process; exec sleep 600")
+        self.addCleanup(gate.stdout.close)
+        self.addCleanup(gate.kill)
+        self.assertTrue(until((self.folder / "process").exists))
+        process = int((self.folder / "process").read_text())
+        self.assertTrue(is_running(process))
+        gate.send_signal(signal.SIGTERM)
+        self.assertNotEqual(gate.wait(GUARD), 0)
+        self.assertTrue(until(lambda: not is_running(process)))
 
 
 if __name__ == "__main__":
