@@ -3,7 +3,14 @@
 import types
 from pathlib import Path
 
-SECOND = (Path(__file__).resolve().parent / "second.py").read_text()
+
+def in_one_file(*files):
+    """A program of several files as one text, without the lines by which they take from each other."""
+    texts = [(Path(__file__).resolve().parent / file).read_text() for file in files]
+    return "".join(line for text in texts for line in text.splitlines(True) if not line.startswith("from second_"))
+
+
+SECOND = in_one_file("second_file.py", "second_sums.py", "second.py")
 
 # A slip is one text changed, or several, an old one before each new one. Document 01's "Slips to catch" come first; the hours must show
 # every one.

@@ -17,6 +17,7 @@ sys.path.insert(0, str(HERE))
 import hours  # noqa: E402
 import known  # noqa: E402
 import second  # noqa: E402
+import second_sums  # noqa: E402
 from answers import answer  # noqa: E402
 from hours import EXPORT, GENERATOR, IMPORT, PROFILE_LOAD, REAL_TIME_LOAD, Hour, record  # noqa: E402
 
@@ -254,13 +255,13 @@ class Refusals(unittest.TestCase):
             self.assertGreater(abs(settled.lines[0][0]), 8 * 10**17)
 
     def test_seven_by_a_lower_limit(self):
-        with mock.patch.object(second, "MOST_GRAINS", 5_000_000_000):
+        with mock.patch.object(second_sums, "MOST_GRAINS", 5_000_000_000):
             self.assertEqual(answer(hours.printed_case()), (0, 0))
-        with mock.patch.object(second, "MOST_GRAINS", 4_999_999_999):
+        with mock.patch.object(second_sums, "MOST_GRAINS", 4_999_999_999):
             self.assertEqual(answer(hours.printed_case()), (7, 0))
         nobody_demands = Hour(1, 2, [1_000], [[0, 0, 0]], [record(EXPORT, 1, 0, A=1)])
         self.assertEqual(answer(nobody_demands), (12, 0))
-        with mock.patch.object(second, "MOST_GRAINS", 9_999_999):
+        with mock.patch.object(second_sums, "MOST_GRAINS", 9_999_999):
             self.assertEqual(answer(nobody_demands), (7, 1))
             for member in (0, 2):
                 self.assertEqual(second.explanation(hours.question(member, nobody_demands.encode())), b"refused 7 at 1\n")
