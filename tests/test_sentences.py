@@ -174,19 +174,21 @@ class Statements(PageTest):
     ROWS = naming.rows(SECTIONS["Statements, part by part"])
 
     def test_every_field_has_its_place(self):
-        there = {(file, record): fields for folder in self.FOLDERS for file in sorted(folder.rglob("*.antt"))
+        there = {f"{file.relative_to(naming.CRATES)}: {record}": fields for folder in self.FOLDERS for file in sorted(folder.rglob("*.antt"))
                  for record, fields in naming.records_in(file).items()}
         self.assertGreater(len(there), 20)
         told = {}
         for row in self.ROWS:
             (name,) = naming.names(row["record"])
-            record = (naming.file_of(name, "specs"), naming.parts(name)[3])
-            self.assertNotIn(record, told, name)
+            file = naming.file_of(name, "specs")
+            self.assertTrue(file and any(folder in file.parents for folder in self.FOLDERS), name)
+            record = f"{file.relative_to(naming.CRATES)}: {naming.parts(name)[3]}"
+            self.assertNotIn(record, told)
             told[record] = naming.names(row["fields"])
-        self.assertEqual(set(told), set(there))
-        for (file, record), fields in there.items():
-            with self.subTest(record, file=file.stem):
-                self.assertEqual(told[file, record], fields)
+        here, there_too = ({f"{record}.{field}" for record, fields in each.items() for field in fields} for each in (told, there))
+        self.assertEqual(there_too - here, set(), "the page leaves these out")
+        self.assertEqual(here - there_too, set(), "the code doesn't have these")
+        self.assertEqual(told, there)  # in the order of the code
 
     def test_every_record_has_its_sentence(self):
         for row in self.ROWS:
