@@ -174,8 +174,8 @@ class Statements(PageTest):
     ROWS = naming.rows(SECTIONS["Statements, part by part"])
 
     def test_every_field_has_its_place(self):
-        there = {f"{file.relative_to(naming.CRATES)}: {record}": fields for folder in self.FOLDERS for file in sorted(folder.rglob("*.antt"))
-                 for record, fields in naming.records_in(file).items()}
+        there = {f"{file.relative_to(naming.CRATES)}: {record}": fields for folder in self.FOLDERS
+                 for file in sorted(folder.rglob("*.antt")) for record, fields in naming.records_in(file).items()}
         self.assertGreater(len(there), 20)
         told = {}
         for row in self.ROWS:
