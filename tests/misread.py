@@ -48,10 +48,11 @@ def written(name, data, wanted):
     yield name, "write_hour", (), to_write.taken_apart(to_write.blocks_of(data)), wanted
 
 
-def accepted(name, hour, deviations, charges=(0,), finals=(0,), shares=None, ufe=(0,)):
-    """An hour whose charges are whole cents, with all its figures. The shares are 0 where they are left out."""
+def accepted(name, hour, deviations, charges=(0,), finals=(0,), shares=None, ufe=(0,), grains=None):
+    """An hour with all its figures. The shares are 0 where they are left out, and the charges whole cents where the grains are."""
     data, members, records = hour.encode(), hour.members, len(hour.records)
-    lines = [f"{10_000_000 * charge}:{sum(r['member'] == member for r in hour.records)}" for member, charge in enumerate(charges)]
+    grains = grains or [10_000_000 * charge for charge in charges]
+    lines = [f"{amount}:{sum(r['member'] == member for r in hour.records)}" for member, amount in enumerate(grains)]
     yield name, "statement", (), data, statement(hour, charges, finals).encode()
     yield name, "settled", (members, members, members, records, records), data, settled(
         "0 at 0", data, ufe, charges=charges, finals=finals, shares=shares or [0] * records, deviations=deviations, lines=lines).encode()
@@ -189,7 +190,8 @@ def of_counts():
 def of_used_words():
     # 10,000 x (10 - 4 - max(0, (9 - 0) - 4)) = 10,000 x (10 - 4 - 5)
     for kind in (REAL_TIME_LOAD, PROFILE_LOAD):
-        yield from accepted(f"a load without O: {NAMES[kind]}", beside_a_load(kind, 5, 0, S=10, A=4, O=9), [10_000, 0])
+        for name in ("a load without O", "min for a load's unavailable energy"):
+            yield from accepted(f"{name}: {NAMES[kind]}", beside_a_load(kind, 5, 0, S=10, A=4, O=9), [10_000, 0])
         yield from refused(f"a load with M let through: {NAMES[kind]}", 5, 0, beside_a_load(kind, 5, 0, S=10, A=4, M=1).encode())
     # 30 x 10,000 - 30 x 10,000 + 10,000 x 7
     yield from accepted("an import without N: an import", beside_a_load(IMPORT, **LEVEL, S=30, N=7), [70_000, 0])
@@ -276,7 +278,8 @@ def of_loads():
     for kind in (REAL_TIME_LOAD, PROFILE_LOAD):
         hour = Hour(7, 2, [1_000], [[0, 100, 0]], [
             record(kind, 0, 0, S=100, A=80, J=5, N=3), record(PROFILE_LOAD, 1, 0, S=20, A=20)])
-        yield from accepted(f"a load's A + J: {NAMES[kind]}", hour, [220_000, 0], [-22, 0], [-4, 4])
+        for name in ("a load's A + J", "loads added"):
+            yield from accepted(f"{name}: {NAMES[kind]}", hour, [220_000, 0], [-22, 0], [-4, 4])
 
 
 def of_generators():
@@ -285,8 +288,9 @@ def of_generators():
 
     # 50 x 10,000 - (40 - 10) x 9,000 = 500,000 - 270,000; min(0, 60 - 40 - 0) is 0.
     # UFE: 10,000 x (40 - 40) - 40 x (10,000 - 9,000) = -40,000, all to the load. N is 23 - 4, all the load's.
-    yield from accepted("a generator's A + J: a generator", hour(S=50, A=40, J=10, M=60, F=10_000, H=9_000), [230_000, 0], [23, -4],
-                        [23, -23], [0, -40_000], [-40_000])
+    for name in ("a generator's A + J", "a generator's J outside the multiplier"):
+        yield from accepted(f"{name}: a generator", hour(S=50, A=40, J=10, M=60, F=10_000, H=9_000), [230_000, 0], [23, -4],
+                            [23, -23], [0, -40_000], [-40_000])
     # 50 x 9,000 - 40 x 10,000 = 450,000 - 400,000; nothing is lost, since H is 10,000
     for name in ("a generator's F and H exchanged", "losses by F"):
         yield from accepted(f"{name}: a generator", hour(S=50, A=40, M=60, F=9_000, H=10_000), [50_000, 0], [5, 0], [5, -5])
@@ -318,8 +322,40 @@ def of_zones():
     11, all of it member 1's, whose load took what it planned."""
     hour = Hour(7, 2, [1_000, 3_000], [[1, 10, 0], [0, 0, 0]], [
         record(EXPORT, 0, 0, A=2), record(EXPORT, 1, 1, A=5), record(PROFILE_LOAD, 1, 0, S=10, A=10)])
-    for name in ("an area's zone from word 19", "prices reversed", "an area's own number as its zone"):
+    for name in ("an area's zone from word 19", "prices reversed", "an area's own number as its zone", "exports added"):
         yield from accepted(f"{name}: two zones", hour, [-20_000, -50_000, 0], [6, 5], [6, -6], ufe=[0, 0])
+
+
+# ---- Units left over and cents: at a cent a MWh a unit is a grain
+
+def of_units_left():
+    def hour(losses, *demands):
+        """A member for each load, which took what it planned and came in by the tie. An import of 1 kWh makes the losses, and U is
+        their negative."""
+        source = record(IMPORT, 0, 0, S=1, F=10_000 - losses, H=10_000 - losses)
+        loads = [record(PROFILE_LOAD, member, 0, S=kwh, A=kwh) for member, kwh in enumerate(demands)]
+        return Hour(7, len(demands), [1], [[0, sum(demands), 0]], [source, *loads])
+
+    # 10 / 3 each: 3, and one unit is left, which goes to the first of equal remainders
+    for name in ("units left to the last load", "a unit to the later of equals"):
+        for sign in (1, -1):
+            shares = [4 * sign, 3 * sign, 3 * sign]
+            yield from accepted(f"{name}: {10 * sign} over 1, 1, 1", hour(-10 * sign, 1, 1, 1), [0] * 4, [0] * 3, [0] * 3,
+                                [0, *shares], [10 * sign], shares)
+    # 2 x 5 / 3 is 3 and a third, 1 x 5 / 3 is 1 and two thirds: the unit left goes to the second
+    yield from accepted("a unit to the smallest remainder: 5 over 2, 1", hour(-5, 2, 1), [0] * 3, [0] * 2, [0] * 2, [0, 3, 2], [5], [3, 2])
+
+
+def of_rounding():
+    def hour(h):
+        """An import of member 0, scheduled nothing, deviates by -(0 + 1) x H units, at 1,000 grains each. Member 1's load carries N."""
+        return Hour(7, 2, [1_000], [[0, 1, 0]], [record(IMPORT, 0, 0, J=-1, F=10_000, H=h), record(PROFILE_LOAD, 1, 0, S=1, A=1)])
+
+    # -4,999,000 grains are under half a cent, -5,001,000 over it
+    yield from accepted("negative grains towards minus infinity: under half a cent", hour(4_999), [-4_999, 0], [0, 0], [0, 0],
+                        grains=[-4_999_000, 0])
+    yield from accepted("negative grains towards zero: over half a cent", hour(5_001), [-5_001, 0], [-1, 0], [-1, 1],
+                        grains=[-5_001_000, 0])
 
 
 # ---- Finals and row 12
@@ -355,5 +391,5 @@ def of_explanations():
 
 def runs():
     return itertools.chain(of_ends(), of_prices(), of_ties(), of_counts(), of_used_words(), of_head_words(), of_order(), of_writing(),
-                           of_loads(), of_generators(), of_imports(), of_areas(), of_zones(), of_finals(), of_no_demand(),
-                           of_explanations())
+                           of_loads(), of_generators(), of_imports(), of_areas(), of_zones(), of_units_left(), of_rounding(),
+                           of_finals(), of_no_demand(), of_explanations())

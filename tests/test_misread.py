@@ -17,6 +17,7 @@ from slips import HOUR_SLIPS, SCHEDULE_SLIPS, WRITING_SLIPS, wrong_program  # no
 LOADS_USE = 'REAL_TIME_LOAD: "SAJNO", PROFILE_LOAD: "SAJNO"'
 DELIVERED = 'delivered = (r["A"] - r["J"]) * multiplier(r["H"])'
 HEAD_READ = "    hour = read_head(blocks[0])\n"
+CENTS = "    size = int(Fraction(abs(grains), GRAINS_IN_A_CENT)"
 MISREAD = {
     "a load without O": [(LOADS_USE, LOADS_USE.replace('L_TIME_LOAD: "SAJNO"', 'L_TIME_LOAD: "SAJN"')),
                          (LOADS_USE, LOADS_USE.replace('PROFILE_LOAD: "SAJNO"', 'PROFILE_LOAD: "SAJN"'))],
@@ -49,6 +50,15 @@ MISREAD = {
     "a generator's A + J": [(DELIVERED, DELIVERED.replace("-", "+"))],
     "a generator's F and H exchanged": [
         (DELIVERED, DELIVERED.replace("H", "F"), 'r["S"] * multiplier(r["F"]) - delivered', 'r["S"] * multiplier(r["H"]) - delivered')],
+    "a generator's J outside the multiplier": [HOUR_SLIPS["adjustment outside the multiplier"]],
+    "min for a load's unavailable energy": [HOUR_SLIPS["min for the load's unavailable energy"]],
+    "loads added": [HOUR_SLIPS["loads added"]],
+    "exports added": [HOUR_SLIPS["exports added"]],
+    "units left to the last load": [HOUR_SLIPS["leftover units to the last load"]],
+    "a unit to the later of equals": [HOUR_SLIPS["later of equal remainders"]],
+    "a unit to the smallest remainder": [HOUR_SLIPS["smallest remainders"]],
+    "negative grains towards minus infinity": [(CENTS, "    if grains < 0:\n        return grains // GRAINS_IN_A_CENT\n" + CENTS)],
+    "negative grains towards zero": [(CENTS, "    if grains < 0:\n        return -(-grains // GRAINS_IN_A_CENT)\n" + CENTS)],
     "losses by F": [('sum(actual(r) * (1 - multiplier(r["H"]))', 'sum(actual(r) * (1 - multiplier(r["F"]))')],
     "a generator's N times H": [HOUR_SLIPS["ancillary energy times H"]],
     "an import's \u2212 N": [HOUR_SLIPS["import's ancillary energy subtracted"]],
