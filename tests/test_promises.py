@@ -61,6 +61,30 @@ def laws_of(crate, module, name, laws=LAWS):
     return stated
 
 
+# Where callers enter: besides the functions for C these, of which nothing is asked either.
+ENTRY_POINTS = [("pool", "", "settle"), ("pool", "", "settle_unlined"), ("writer", "", "write_hour"), ("amount", "", "write"),
+                ("amount", "", "read"), ("hour", "", "body"), ("examine", "", "examine"), ("explain", "", "explain"),
+                ("report", "statement", "put_statement"), ("report", "explanation", "put_explanation"),
+                ("report", "written", "put_written_hour")]
+
+
+def functions_for_c():
+    """(crate, module or '', function) for every function that C can call."""
+    return [(source.parent.parent.name, "" if source.stem == "lib" else source.stem, name)
+            for source in sorted(CRATES.glob("*/src/*.rt"))
+            for name in re.findall(r'^#\[no_mangle\]\npub extern "C" fn (\w+)', source.read_text(), re.M)]
+
+
+def asks_nothing(crate, module, name, laws=LAWS):
+    """Whether a law says of a function's own contract that it asks nothing of its caller."""
+    path, dashed = re.escape(".".join(part for part in (module, name) if part)), name.replace("_", "-")
+    for text in laws:
+        alias = re.search(rf"^use Rattle\.{crate}\.proofs\.(?:Port\.)?{path}\.Reads as (\S+)$", text, re.M)
+        if alias and re.search(rf"^pub asks-nothing-{dashed} :(?:.|\n    )*AsksNothing \({re.escape(alias.group(1))}\.Asked ", text, re.M):
+            return True
+    return False
+
+
 def at_exit(law):
     """The parameters whose state at exit a law determines, as their places, in the order of its text."""
     return [place.count(".1") for place in re.findall(r"\bnow \(s((?: \.1)* \.0)\)", law)]
@@ -118,6 +142,14 @@ class Promises(unittest.TestCase):
             self.assertNotEqual(at_exit(law.replace(place, "")), lent_places("pool::settle", law))
         exchanged = law.replace(places[0], " (x)").replace(places[1], places[0]).replace(" (x)", places[1])
         self.assertNotEqual(at_exit(exchanged), lent_places("pool::settle", law))
+
+    def test_nothing_is_asked_of_callers(self):
+        for_c = functions_for_c()
+        self.assertGreater(len(for_c), 5)
+        for crate, module, name in for_c + ENTRY_POINTS:
+            with self.subTest(crate=crate, function=name):
+                self.assertIsNotNone(function(path_of(crate, module, name)))
+                self.assertTrue(asks_nothing(crate, module, name))
 
     def test_every_exception_is_a_function(self):
         there = {f"{crate}::{name}" for crate, module, name in public_functions()}
