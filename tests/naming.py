@@ -59,6 +59,12 @@ def function(path):
     return found.group() if found else None
 
 
+def parameters(path):
+    """A function's parameters, as {name: type}, in their order."""
+    between = re.search(r"\((.*?)\)", function(path), re.S).group(1)
+    return dict(re.findall(r"(\w+): ([^,\n]+)", between))
+
+
 def declared_type(path):
     """Whether `crate::Type` is a struct or an enum of that crate."""
     return bool(re.search(rf"^pub (?:struct|enum) {re.escape(path.split('::')[-1])} ", source_of(path), re.M))
@@ -82,27 +88,57 @@ def edits_named(page):
     return [name for name in named if (CRATES / name.split("/")[0]).is_dir()]
 
 
-# ---- definitions and laws: `FILE.name` of `rules`, or `crate/FILE.name`
+# ---- definitions and laws: `FILE.name` of `rules`, or `crate/FILE.name`; `Folder/FILE.name` says the folder under specs/ or proofs/
 
-def stated_in(name, folder):
-    """The text of the files that a name says, under specs/ or proofs/ and their folders, and the last part of the name."""
-    crate, _, rest = name.rpartition("/")
+def parts(name):
+    """The crate that a name says, its folders, its file, and what it names in that."""
+    *folders, rest = name.split("/")
+    crate = folders.pop(0) if folders and folders[0].islower() else "rules"
     file, _, last = rest.partition(".")
-    found = sorted((CRATES / (crate or "rules") / folder).rglob(f"{file}.antt"))
-    return "\n".join(file.read_text() for file in found), last
+    return crate, folders, file, last
+
+
+def file_of(name, kept_in):
+    """The one file that a name says, under specs/ or proofs/. Without a folder it is the file at the top, or the only one in a folder; None
+    where there is no such file or there are several."""
+    crate, folders, file, _ = parts(name)
+    top = CRATES / crate / kept_in
+    said = top.joinpath(*folders, f"{file}.antt")
+    found = [said] if said.is_file() else [] if folders else sorted(top.rglob(f"{file}.antt"))
+    return found[0] if len(found) == 1 else None
 
 
 def definition(name):
-    text, last = stated_in(name, "specs")
-    return bool(last and re.search(rf"{DEFINED}{re.escape(last)}(?= )", text, re.M))
+    """Whether there is such a definition, or, of `FILE.Record.field`, such a field."""
+    file, last = file_of(name, "specs"), parts(name)[3]
+    if file is None or not last:
+        return False
+    record, _, field = last.partition(".")
+    if field:
+        return field in records_in(file).get(record, [])
+    return bool(re.search(rf"{DEFINED}{re.escape(last)}(?= )", file.read_text(), re.M))
 
 
 def law(name):
-    text, last = stated_in(name, "proofs")
-    return bool(last and re.search(rf"^ *pub {re.escape(last)} :", text, re.M))
+    file, last = file_of(name, "proofs"), parts(name)[3]
+    return bool(file and last and re.search(rf"^ *pub {re.escape(last)} :", file.read_text(), re.M))
+
+
+def records_in(file):
+    """The records of a file of specs/, each with its fields in their order."""
+    found = re.findall(r"^( *)pub record (\S+) .*\n((?:\1  .*\n|\n(?=\1  ))*)", file.read_text(), re.M)
+    return {name: re.findall(rf"^{indent}  pub (\S+) :", body, re.M) for indent, name, body in found}
+
+
+def in_folders(name):
+    """A definition's name with its folders, as `public_definitions` has it; as it is where it says no file."""
+    file = file_of(name, "specs")
+    crate, _, _, last = parts(name)
+    return f"{file.relative_to(CRATES / crate / 'specs').with_suffix('')}.{last}" if file else name
 
 
 def public_definitions(crate):
-    """Every public definition of a crate's specs/, as `FILE.name`; a record's fields are part of it."""
-    return {f"{file.stem}.{name}" for file in (CRATES / crate / "specs").rglob("*.antt")
+    """Every public definition of a crate's specs/, as `FILE.name` or `Folder/FILE.name`; a record's fields are part of it."""
+    top = CRATES / crate / "specs"
+    return {f"{file.relative_to(top).with_suffix('')}.{name}" for file in top.rglob("*.antt")
             for name in re.findall(rf"{DEFINED}(\S+)", file.read_text(), re.M)}

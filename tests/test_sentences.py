@@ -1,5 +1,6 @@
 """That docs/SENTENCES.md is true of the code: every definition, function, law, edit and check that it names is there and of the kind
-that its column says, every definition has its sentence, and every edit its one. Run from the project's root:
+that its column says, every definition has its sentence, every part of a statement its place, and every edit its one. Run from the project's
+root:
     python3 -m unittest tests/test_sentences.py"""
 
 import re
@@ -72,6 +73,21 @@ class PageTest(unittest.TestCase):
             self.assertTrue(any(KINDS[kind](name) for kind in kinds), f"{name}: no {' or '.join(kinds)}")
 
 
+class Names(unittest.TestCase):
+    """A name says one file."""
+
+    def test_a_folder_may_be_said(self):
+        for name in ("Tariff.genDev", "Promised/Tariff.genDev", "rules/Promised/Tariff.genDev", "Demands.ByFormula.ufe-is"):
+            self.assertTrue(naming.definition(name), name)
+        for name in ("Inner/Tariff.genDev", "Settling.genDev", "theorems/Tariff.genDev", "Demands.ByFormula.ufe", "Demands.ufe-is"):
+            self.assertFalse(naming.definition(name), name)
+
+    def test_a_file_that_is_there_twice_is_not_said_by_its_name(self):
+        several = [*(naming.CRATES / "bymember" / "proofs").rglob("Tie.antt")]
+        self.assertGreater(len(several), 1)
+        self.assertIsNone(naming.file_of("bymember/Tie.anything", "proofs"))
+
+
 class Sentences(PageTest):
     def test_rows_are_seen(self):
         self.assertGreater(len(RENDERED), 120)
@@ -130,8 +146,8 @@ class Sentences(PageTest):
 
 class Whole(PageTest):
     def test_every_definition_has_its_place(self):
-        rendering = {name for row in RENDERED for name in naming.names(row["definition"])}
-        helping = {name for row in HELPERS for name in naming.names(row["definition"])}
+        rendering = {naming.in_folders(name) for row in RENDERED for name in naming.names(row["definition"])}
+        helping = {naming.in_folders(name) for row in HELPERS for name in naming.names(row["definition"])}
         public = naming.public_definitions("rules")
         self.assertGreater(len(public), 150)
         self.assertEqual(public - rendering - helping, set())
@@ -149,6 +165,41 @@ class Whole(PageTest):
             with self.subTest(row["sentence"]):
                 self.assert_named(row["definition"], "definition")
                 self.assert_named(row["the code that then fails"], "function")
+
+
+class Statements(PageTest):
+    """The table of statements that are records, and fields that other parts of the page name."""
+
+    FOLDERS = (naming.CRATES / "rules" / "specs" / "Promised", naming.CRATES / "theorems" / "specs")
+    ROWS = naming.rows(SECTIONS["Statements, part by part"])
+
+    def test_every_field_has_its_place(self):
+        there = {f"{file.relative_to(naming.CRATES)}: {record}": fields for folder in self.FOLDERS
+                 for file in sorted(folder.rglob("*.antt")) for record, fields in naming.records_in(file).items()}
+        self.assertGreater(len(there), 20)
+        told = {}
+        for row in self.ROWS:
+            (name,) = naming.names(row["record"])
+            file = naming.file_of(name, "specs")
+            self.assertTrue(file and any(folder in file.parents for folder in self.FOLDERS), name)
+            record = f"{file.relative_to(naming.CRATES)}: {naming.parts(name)[3]}"
+            self.assertNotIn(record, told)
+            told[record] = naming.names(row["fields"])
+        here, there_too = ({f"{record}.{field}" for record, fields in each.items() for field in fields} for each in (told, there))
+        self.assertEqual(there_too - here, set(), "the page leaves these out")
+        self.assertEqual(here - there_too, set(), "the code doesn't have these")
+        self.assertEqual(told, there)  # in the order of the code
+
+    def test_every_record_has_its_sentence(self):
+        for row in self.ROWS:
+            with self.subTest(row["record"]):
+                self.assertRegex(row["says"], r"^[A-Z0-9].+\.$")
+
+    def test_fields_named_elsewhere_are_there(self):
+        for name in naming.names(PAGE):
+            if re.fullmatch(r"(?:\w+/)*[A-Z]\w*\.[A-Z]\w*\.[\w-]+", name) and not name.startswith("FILE."):
+                with self.subTest(name):
+                    self.assertTrue(naming.definition(name))
 
 
 class OtherTables(PageTest):

@@ -6,8 +6,6 @@
 
 import contextlib
 import fnmatch
-import importlib.machinery
-import importlib.util
 import io
 import sys
 import tempfile
@@ -18,7 +16,7 @@ from unittest import mock
 
 ROOT = Path(__file__).resolve().parent.parent
 WALK = ROOT / "tools" / "walk"
-sys.path.insert(0, str(WALK))
+sys.path[:0] = [str(WALK), str(ROOT / "tests")]
 import beginning  # noqa: E402
 import carrying  # noqa: E402
 import deriving  # noqa: E402
@@ -30,163 +28,8 @@ import renaming  # noqa: E402
 import repository  # noqa: E402
 import standing  # noqa: E402
 import twin  # noqa: E402
-
-
-def load_command():
-    """The folder's command as a module."""
-    loader = importlib.machinery.SourceFileLoader("walk_command", str(WALK / "__main__.py"))
-    module = importlib.util.module_from_spec(importlib.util.spec_from_loader(loader.name, loader))
-    loader.exec_module(module)
-    return module
-
-
-LOW = """// Types, and a line that is lent.
-#[repr(C)]
-pub struct Line {
-    pub amount: i64, // in grains
-    pub records: u32,
-}
-
-pub enum Found {
-    At(usize),
-    Nothing,
-}
-
-pub struct Settled {
-    pub found: Found,
-    pub ufe: [i64; 2],
-    pub whole: bool,
-}
-
-pub fn layout() -> u32
-    ensures { λ r. ⌜ r ≡ 1 ⌝ }
-{
-    1
-}
-"""
-MIDDLE = """ghost use mathlib.Core.Path.{_≡_};
-mod text;
-use low::Line;
-use low::Found;
-
-// By value.
-pub fn line_with(line: Line, grains: i64) -> Line
-    requires { ⌜ Room line ⌝ }
-    ensures { λ r. ⌜ r ≡ record { amount = 1 } ⌝ }
-{
-    if grains == 0 { return line; }
-    line
-}
-
-pub fn settled(lines: &mut [Line]) -> low::Settled {
-    answer(lines)
-}
-
-pub fn part(file: &[u8]) -> &[u8] {
-    &file[1..]
-}
-
-fn unused(found: Found) -> usize {
-    0
-}
-"""
-TOP = """ghost use mathlib.Core.Path.{_≡_};
-use low::Found;
-use low::Line;
-use low::Settled;
-use middle::part;
-
-// Touches one line.
-fn post_line(lines: &mut [Line], member: usize)
-    requires { ⌜ member < length (now lines) ⌝ }
-{
-    lines[member] = middle::line_with(lines[member], 1);
-}
-
-#[no_mangle]
-pub extern "C" fn settle(
-    file: &[u8],
-    lines: &mut [Line],
-) -> Settled
-    ensures first { λ r. ⌜ r ≡ { 1 } ⌝ }
-    ensures second { λ r. ⌜ r ≡ 2 ⌝ }
-{
-    post_line(lines, at(file));
-    middle::settled(lines)
-}
-
-fn at(file: &[u8]) -> usize {
-    0
-}
-
-fn found(file: &[u8]) -> Found {
-    Found::Nothing
-}
-"""
-TWIN_OF_LOW = """ghost use Prim.Native.Nat.{_≤_};
-pub type Line = [i16; 8];
-
-pub enum Found {
-    At(usize),
-    Nothing,
-}
-
-pub struct Settled {
-    pub found: Found,
-    pub ufe: [i64; 2],
-    pub whole: bool,
-}
-
-
-
-pub fn nothing() -> u32 {
-    0
-}
-"""
-TWIN_OF_MIDDLE = """ghost use Prim.Native.Nat.{_≤_};
-mod text;
-use low::Line;
-use low::Found;
-
-
-
-pub fn settled(lines: &mut [Line]) -> low::Settled
-{
-    low::Settled { found: low::Found::Nothing, ufe: [0; 2], whole: false }
-}
-
-
-
-
-"""
-TWIN_OF_TOP = """ghost use Prim.Native.Nat.{_≤_};
-use low::Line;
-use low::Settled;
-
-fn post_line(lines: &mut [Line], member: usize)
-    requires { ⌜ 0 ≤ 0 ⌝ }
-{
-}
-
-#[no_mangle]
-pub extern "C" fn settle(
-    file: &[u8],
-    lines: &mut [Line],
-) -> Settled
-    ensures first { λ _. ⌜ 0 ≤ 0 ⌝ }
-    ensures second { λ _. ⌜ 0 ≤ 0 ⌝ }
-{
-    post_line(lines, at(file));
-    middle::settled(lines)
-}
-
-fn at(file: &[u8]) -> usize
-{
-    0
-}
-
-
-"""
+from scripts import load_script  # noqa: E402
+from small_crates import LOW, MIDDLE, TOP, TWIN_OF_LOW, TWIN_OF_MIDDLE, TWIN_OF_TOP  # noqa: E402
 
 
 def lay(root, files):
@@ -455,7 +298,7 @@ class Comparing(unittest.TestCase):
         self.addCleanup(folder.cleanup)
         self.root = Path(folder.name)
         lay(self.root, {**self.FILES, "crates/top/proofs/settle/Proof.antt": "-- Written by people.\n"})
-        self.command = load_command()
+        self.command = load_script(WALK / "__main__.py")
 
     def check(self):
         said = io.StringIO()

@@ -32,7 +32,7 @@ static uint8_t *lend_field(const uint8_t *bytes, size_t width)
     return guard_lend(&room, bytes, width);
 }
 
-void try_writing(void)
+void try_writing(write_function *write)
 {
     uint8_t by_hand[WIDEST];
     int64_t cents = some_cents();
@@ -40,7 +40,7 @@ void try_writing(void)
     random_bytes(by_hand, width);
     uint8_t *field = lend_field(by_hand, width);
     standing.function = "sneupelaar_write";
-    sneupelaar_answer answer = sneupelaar_write(cents, field, width), wanted = hand_write(cents, by_hand, width);
+    sneupelaar_answer answer = write(cents, field, width), wanted = hand_write(cents, by_hand, width);
     must(answer.number == wanted.number && answer.place == wanted.place, "the answer differs");
     must(memcmp(room.at, by_hand, width) == 0, "the field differs");
     must(guard_kept(&room), "a byte beside the field was written");
@@ -65,7 +65,7 @@ static size_t some_text(uint8_t *text)
     return width;
 }
 
-void try_reading(void)
+void try_reading(read_function *read)
 {
     static const char bytes[] = " +-.0123456789/:,x";
     uint8_t text[WIDEST];
@@ -77,7 +77,7 @@ void try_reading(void)
     uint8_t *field = lend_field(text, width);
     guard_only_read(&room);
     standing.function = "sneupelaar_read";
-    sneupelaar_reading reading = sneupelaar_read(field, width), wanted = hand_read(text, width);
+    sneupelaar_reading reading = read(field, width), wanted = hand_read(text, width);
     must(reading.number == wanted.number && reading.place == wanted.place, "the answer differs");
     must(reading.amount == wanted.amount, "the amount differs");
     seen.read[reading.number]++;

@@ -1,7 +1,7 @@
 /* harness.c: tries the archive's functions from C.
      harness CASES SEED               that many cases: a call each of settle, write, read, write_hour, explain, and body at every position
      harness lie BUFFER SIDE          a caller that lies about a buffer: the protected pages must end it (status 3)
-     harness spoiled FAULT CASES SEED settling, explaining or writing an hour with a fault put in: the cases must end it (status 3 or 4)
+     harness spoiled FAULT CASES SEED one of these functions with a fault put in: the cases must end it (status 3 or 4)
    Status 0: all as by hand, and every answer that can occur was seen; 1: not every one was seen; 2: not called as above. */
 #include <stdio.h>
 #include <stdlib.h>
@@ -17,17 +17,27 @@ struct seen seen;
 static settle_function *settle = sneupelaar_settle;
 static explain_function *explain = sneupelaar_explain;
 static write_hour_function *write_hour = sneupelaar_write_hour;
+static write_function *write_amount = sneupelaar_write;
+static read_function *read_amount = sneupelaar_read;
+static body_function *body = sneupelaar_body;
 
 /* Puts a fault in; 0 where there is no such fault. */
 static int spoil(const char *how)
 {
-    settle_function *settling = spoiled(how);
-    explain_function *explaining = misexplained(how);
-    write_hour_function *writing = miswritten(how);
-    settle = settling != NULL ? settling : settle;
-    explain = explaining != NULL ? explaining : explain;
-    write_hour = writing != NULL ? writing : write_hour;
-    return settling != NULL || explaining != NULL || writing != NULL;
+    int found = 0;
+#define PUT_IN(function, fault)    \
+    if ((fault) != NULL) {         \
+        function = (fault);        \
+        found = 1;                 \
+    }
+    PUT_IN(settle, spoiled(how))
+    PUT_IN(explain, misexplained(how))
+    PUT_IN(write_hour, miswritten(how))
+    PUT_IN(write_amount, miswritten_amount(how))
+    PUT_IN(read_amount, misread_amount(how))
+    PUT_IN(body, misbodied(how))
+#undef PUT_IN
+    return found;
 }
 
 static void try_cases(unsigned long cases)
@@ -35,9 +45,9 @@ static void try_cases(unsigned long cases)
     for (unsigned long at = 0; at < cases; at++) {
         standing.case_number = at;
         chance_start(standing.seed, at);
-        try_settling(settle);
-        try_writing();
-        try_reading();
+        try_settling(settle, body);
+        try_writing(write_amount);
+        try_reading(read_amount);
         try_writing_hour(write_hour);
         try_explaining(explain);
     }

@@ -89,20 +89,20 @@ static void compare_buffers(lengths lent, uint64_t number)
 }
 
 /* Every position, the first that is not there, and ones whose bytes could not be counted. */
-static void try_bodies(void)
+static void try_bodies(body_function *body)
 {
     static const size_t far[] = { (size_t)1 << 23, (size_t)1 << 55, ((size_t)1 << 55) - 1, SIZE_MAX / 512, SIZE_MAX - 1, SIZE_MAX };
     standing.function = "sneupelaar_body";
     guard_untouchable(&file_room); /* it looks at the length only */
     for (size_t at = 0; at <= MADE_BLOCKS + sizeof far / sizeof *far; at++) {
         size_t block = at <= MADE_BLOCKS ? at : far[at - MADE_BLOCKS - 1];
-        sneupelaar_part part = sneupelaar_body(file_room.at, hour.bytes, block), wanted = hand_body(file_room.at, hour.bytes, block);
+        sneupelaar_part part = body(file_room.at, hour.bytes, block), wanted = hand_body(file_room.at, hour.bytes, block);
         must(part.from == wanted.from && part.length == wanted.length, "the part differs");
         seen.bodies++;
     }
 }
 
-void try_settling(settle_function *settle)
+void try_settling(settle_function *settle, body_function *body)
 {
     make_rooms();
     make_hour(&hour);
@@ -128,5 +128,5 @@ void try_settling(settle_function *settle)
     must(same_answer(&settled, &wanted), "the answer differs");
     compare_buffers(lent, settled.number);
     seen.settled[settled.number]++;
-    try_bodies();
+    try_bodies(body);
 }

@@ -19,13 +19,22 @@ typedef sneupelaar_explained explain_function(const uint8_t *, size_t, uint32_t)
 
 typedef sneupelaar_written write_hour_function(const uint32_t *, size_t, const uint32_t *, size_t, uint8_t *, size_t);
 
-/* Settling, by sneupelaar_settle or what stands in for it; the hour's file is then asked for each of its bodies. */
-void try_settling(settle_function *settle);
+typedef sneupelaar_answer write_function(int64_t, uint8_t *, size_t);
+
+typedef sneupelaar_reading read_function(const uint8_t *, size_t);
+
+typedef sneupelaar_part body_function(const uint8_t *, size_t, size_t);
+
+/* Settling, by sneupelaar_settle or what stands in for it; the hour's file is then asked for each of its bodies, by sneupelaar_body or what
+   stands in for it. */
+void try_settling(settle_function *settle, body_function *body);
 
 /* Explaining, by sneupelaar_explain or what stands in for it. */
 void try_explaining(explain_function *explain);
-void try_writing(void);
-void try_reading(void);
+
+/* Writing and reading an amount, by sneupelaar_write and sneupelaar_read or what stands in for them. */
+void try_writing(write_function *write);
+void try_reading(read_function *read);
 
 /* Writing an hour file, by sneupelaar_write_hour or what stands in for it. */
 void try_writing_hour(write_hour_function *write_hour);
@@ -38,6 +47,9 @@ void lie(const char *buffer, const char *side);
 settle_function *spoiled(const char *how);
 explain_function *misexplained(const char *how);
 write_hour_function *miswritten(const char *how);
+write_function *miswritten_amount(const char *how);
+read_function *misread_amount(const char *how);
+body_function *misbodied(const char *how);
 
 /* A word of a block changed, with the sum mended: nothing but the word tells. */
 void change_word(uint8_t *block, size_t at, uint32_t value);

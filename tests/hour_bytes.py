@@ -1,0 +1,85 @@
+"""Hours before they are bytes, and as words and bytes, as document 01 lays them out."""
+
+import struct
+
+GENERATOR, REAL_TIME_LOAD, PROFILE_LOAD, IMPORT, EXPORT = 1, 2, 3, 4, 5
+KINDS = (GENERATOR, REAL_TIME_LOAD, PROFILE_LOAD, IMPORT, EXPORT)
+LOADS = (REAL_TIME_LOAD, PROFILE_LOAD)
+
+# A record's words 3 to 10 by document 01's letters, the letters that each kind uses, and their ends.
+LETTERS = "SAJNOMFH"
+USED = {GENERATOR: "SAJNOMFH", REAL_TIME_LOAD: "SAJNO", PROFILE_LOAD: "SAJNO", IMPORT: "SJNFH", EXPORT: "SAJ"}
+LOWEST = dict(S=0, A=0, J=-100_000, N=0, O=0, M=0, F=1, H=1)
+HIGHEST = dict(S=100_000, A=100_000, J=100_000, N=100_000, O=100_000, M=100_000, F=20_000, H=20_000)
+
+MOST_PRICE = 1_000_000
+MOST_TIE = 10_000_000
+MOST_RECORDS = 250
+
+
+class Hour:
+    """An hour before it is bytes: prices one a zone, areas as [zone, tie in, tie out], records as made
+    by `record`."""
+
+    def __init__(self, number, members, prices, areas, records):
+        self.number = number
+        self.members = members
+        self.prices = prices
+        self.areas = areas
+        self.records = records
+
+    def blocks(self):
+        """The blocks as lists of 128 words, sums mended."""
+        held = [self.records[at:at + 10] for at in range(0, len(self.records), 10)]
+        first = [1, 0, len(held), 0, 0, 0, 0, 0, self.number, self.members, len(self.prices), len(self.areas)]
+        first += padded([price % 2**32 for price in self.prices], 4)
+        for zone, tie_in, tie_out in self.areas:
+            first += [zone, tie_in, tie_out, 0]
+        blocks = [padded(first, 128)]
+        for position, records in enumerate(held, 1):
+            words = [2, position, len(records), 0, 0, 0, 0, 0]
+            for each in records:
+                words += record_words(each)
+            blocks.append(padded(words, 128))
+        for block in blocks:
+            mend(block)
+        return blocks
+
+    def encode(self):
+        return to_bytes(self.blocks())
+
+    def of_area(self, area, *kinds):
+        return [r for r in self.records if r["area"] == area and r["kind"] in kinds]
+
+
+def record(kind, member, area, **letters):
+    """A record; letters that are left out are 0."""
+    return {"kind": kind, "member": member, "area": area, **dict.fromkeys(LETTERS, 0), **letters}
+
+
+def letter_of_actual(kind):
+    """The letter of what a record took or brought: an import is deemed to have brought what was scheduled (document 02, A3)."""
+    return "S" if kind == IMPORT else "A"
+
+
+def record_words(each):
+    return [each["kind"], each["member"], each["area"], *(each[letter] % 2**32 for letter in LETTERS), 0]
+
+
+def padded(words, length):
+    return words + [0] * (length - len(words))
+
+
+def mend(block):
+    """Chooses word 7 so that the block's words add up to zero."""
+    block[7] = 0
+    block[7] = -sum(block) % 2**32
+
+
+def to_bytes(blocks):
+    return b"".join(struct.pack("<128I", *block) for block in blocks)
+
+
+def question(member, file):
+    """The input of program `explanation`: a member's number, and an hour file (document 02, A5)."""
+    return struct.pack("<I", member) + file
