@@ -43,6 +43,7 @@ class Slips(unittest.TestCase):
 
     def test_a_text_differs_in_its_first_and_last_character(self):
         self.assertEqual(sorted(changed('t = "ab"')), ['t = "ax"', 't = "xb"'])
+        self.assertEqual(changed(r't = "\n"'), ['t = "x"'])
 
     def test_types_and_comments_are_left_alone(self):
         for path in sorted((ROOT / mutants.SPECS).glob("*.antt")):
