@@ -14,6 +14,7 @@ ghost use Rattle.writer.specs.Lists.{hourOfLists, ListsWhole};
 ghost use Rattle.writer.specs.Stored.{blockBytes, blockPlaced, heldWords};
 
 mod block;
+pub mod boundary;
 mod lists;
 
 use rules::Answer;

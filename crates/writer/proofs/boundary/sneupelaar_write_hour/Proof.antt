@@ -1,10 +1,10 @@
 -- What was answered and written goes out as it is.
-use mathlib.Core.Path.{_∙_}
+use mathlib.Core.Path.{_∙_, ap₂}
 use borrow.Author.Needs.{needs}
 use Rattle.rules.proofs.Writing.{as-written}
-use Rattle.sneupelaar.proofs.HandedOut.{numbered-verdict}
-use Rattle.sneupelaar.proofs.sneupelaar_write_hour.Statement.{statement}
-use Rattle.sneupelaar.proofs.sneupelaar_write_hour.Tie as tie
+use Rattle.rules.specs.Refusals.{refusedAt}
+use Rattle.writer.proofs.boundary.sneupelaar_write_hour.Statement.{statement}
+use Rattle.writer.proofs.boundary.sneupelaar_write_hour.Tie as tie
 
 write-hour-requires : tie.Need-write-hour-requires
 write-hour-requires c κs = tt
@@ -23,7 +23,7 @@ returns : tie.Need-returns
 returns c =
     let wrote = c .before .before .before .before .write-hour in
     let e = wrote .ensures in (
-      as-written _ _ _ (numbered-verdict (wrote .result .answer) (c .before .number-of .ensures) (c .place-of .ensures) ∙ e .0)
+      as-written _ _ _ (ap₂ refusedAt (c .before .number-of .ensures) (c .place-of .ensures) ∙ e .0)
           (e .1 .0) (e .1 .1 .0),
       e .1 .1 .1,
     )
