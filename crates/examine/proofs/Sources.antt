@@ -41,7 +41,8 @@ body-good file e = split (lengthBad hourly file) (λ bad. absurd (empty bad)) (�
     empty : lengthBad hourly file ≡ true → ⊥
     empty bad = omega (arith, e, ap length (body-empty-bad hourly file 0 bad))
 
-file-head : (file : List ℕ) → lengthBad hourly file ≡ false → (w : ℕ) → 8 ≤ w → w < 128 → word (body hourly file 0) (w - 8) ≡ hourIn file .head w
+file-head : (file : List ℕ) → lengthBad hourly file ≡ false → (w : ℕ) → 8 ≤ w → w < 128 →
+    word (body hourly file 0) (w - 8) ≡ hourIn file .head w
 file-head file good w l m =
     body-word hourly file 0 good (w - 8) (omega arith) ∙ ap (blockWord file 0) (omega arith) ∙ sym (head-word hourly file w l m)
 

@@ -1,7 +1,6 @@
-// Refusals 1 to 5 and 14 of an hour file, in the order of the table: the length, the blocks' sums, their layout, then the head, the records and
-// the generators' schedules, which `search` looks through for the writer too. The first three are those of `blocks` in the hourly layout.
-// Each row is looked through in its order and left at the first fault, so that a refused file costs no more than an accepted one; row 14
-// is looked for on the way through row 5, which comes first.
+// Refusals 1 to 5 and 14 of an hour file, in the order of the table. The first three, the length, the blocks' sums and their layout, are those
+// of `blocks` in the hourly layout. The others, the head, the records and the generators' schedules, are `search`'s, and the writer's too. Each
+// row is looked through in its order and left at the first fault, so that a refused file costs no more than an accepted one.
 ghost use mathlib.Core.Path.{_≡_};
 ghost use Rattle.rules.specs.Refusals as Refusals;
 use rules::Answer;

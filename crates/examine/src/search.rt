@@ -1,14 +1,13 @@
-// Refusals 4, 5 and 14 of an hour, in their order: the head, the records, the generators' schedules. The reader and the writer search by the
-// same functions: an hour's words stand in the blocks of a file, or in a head and records as lists of words. An enum can't hold a slice, so
-// file and lists both come beside the source; what the source doesn't name is empty and isn't read. A caller names its source, so that the
-// compiler folds it in. `wordrules` says what each word may be.
+// Refusals 4, 5 and 14 of an hour, in their order: the head, the records, the generators' schedules. Reader and writer search by the same
+// functions: the source says whether the hour's words stand in a file or in lists. An enum can't hold a slice, so file and lists both come
+// beside the source; what it doesn't name is empty and isn't read. Each caller names its source, so that the compiler folds it in.
+// `wordrules` says what each word may be. Row 14 is looked for on the way through row 5, which comes first.
 ghost use mathlib.Core.Path.{_≡_};
 ghost use mathlib.Core.Bool.{not, cond, _&&_};
 ghost use mathlib.Core.List.{List, _++_};
 ghost use mathlib.Core.Option.{none};
 ghost use Prim.Native.Nat.{ℕ, _-_, _≤_, _<_};
 ghost use lib.Dec.{ltb};
-ghost use Rattle.rules.specs.HourFile.{hourly, body};
 ghost use Rattle.rules.specs.Ranges as Ranges;
 ghost use Rattle.rules.specs.Ranges.{hourlyForm};
 ghost use Rattle.rules.specs.Refusals as Refusals;
@@ -51,7 +50,8 @@ fn head_word_bad(
     w: usize,
 ) -> bool
     requires { ⌜ HasWords 120 source (now body) (now head) × (8 ≤ w) × (w < 128) ⌝ }
-    ensures { λ r. ⌜ r ≡ not (Ranges.keeps (Ranges.headRule zones areas w) (wordBy source (now (body .entry)) (now (head .entry)) (w - 8))) ⌝ }
+    ensures { λ r. ⌜ r
+        ≡ not (Ranges.keeps (Ranges.headRule zones areas w) (wordBy source (now (body .entry)) (now (head .entry)) (w - 8))) ⌝ }
 {
     let rule = wordrules::head_rule(zones, areas, w);
     !wordrules::keeps(rule, word_of(source, body, head, w - 8))
@@ -136,7 +136,8 @@ fn record_word_bad(
     w: usize,
 ) -> bool
     requires { ⌜ HasWords 12 source (now bytes) (now words) × (w < 12) ⌝ }
-    ensures { λ r. ⌜ r ≡ not (Ranges.keeps (Ranges.recordRule members areas kind w) (wordBy source (now (bytes .entry)) (now (words .entry)) w)) ⌝ }
+    ensures { λ r. ⌜ r
+        ≡ not (Ranges.keeps (Ranges.recordRule members areas kind w) (wordBy source (now (bytes .entry)) (now (words .entry)) w)) ⌝ }
 {
     !wordrules::record_keeps(members, areas, kind, w, word_of(source, bytes, words, w))
 }

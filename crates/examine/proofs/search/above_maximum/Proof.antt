@@ -15,12 +15,12 @@ returns c = rw (no-generator _ (c .if1 .taken))
 -- word_of(source, bytes, words, 3)
 word-of-requires : tie.Need-word-of-requires
 word-of-requires c κs = let start = c .before .before .before in
-    word-there 12 3 (start .args .source) (start .args .bytes .now) (start .args .words .now) (start .pre) (omega arith)
+    word-there 12 _ (start .args .source) (start .args .bytes .now) (start .args .words .now) (start .pre) (omega arith)
 
 -- word_of(source, bytes, words, 8)
 word-of-requires-2 : tie.Need-word-of-requires-2
 word-of-requires-2 c κs = let start = c .before .before .before .before in
-    word-there 12 8 (start .args .source) (start .args .bytes .now) (start .args .words .now) (start .pre) (omega arith)
+    word-there 12 _ (start .args .source) (start .args .bytes .now) (start .args .words .now) (start .pre) (omega arith)
 
 scheduled-above-requires : tie.Need-scheduled-above-requires
 scheduled-above-requires c κs = tt

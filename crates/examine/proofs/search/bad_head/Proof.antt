@@ -1,4 +1,5 @@
--- `examine::search::bad_head` meets its contract. The loops' invariant: no word passed breaks its rule. From word 48 on the test is for zero.
+-- `examine::search::bad_head` meets its contract. The loops' invariant: no word passed breaks its rule. From word 48 on the test is for
+-- zero.
 use mathlib.Core.Path.{_≡_, sym, _∙_, ap}
 use mathlib.Core.Bool.{Bool, not}
 use mathlib.Core.Option.{none, some}
@@ -58,7 +59,8 @@ alike : (source : Source) (part head : List ℕ) (z a w : ℕ) → z ≡ wordBy 
     not (keeps (headRule z a w) (wordBy source part head (w - 8))) ≡ headBad source part head w
 alike source part head z a w ez ea = rw (ez, ea)
 
-told-here : (c : tie.After-head-word-bad Inv-loop μ-loop Inv-loop2 μ-loop2) → c .head-word-bad .result ≡ bad (turn-of c) (turn-of c .loop .w)
+told-here : (c : tie.After-head-word-bad Inv-loop μ-loop Inv-loop2 μ-loop2) →
+    c .head-word-bad .result ≡ bad (turn-of c) (turn-of c .loop .w)
 told-here c =
     let turn = turn-of c in
     let counts = turn .before in

@@ -1,5 +1,5 @@
--- `examine::search::examine_hour` meets its contract: the first row that is broken. The search tells the first bad record, or else what row 14
--- names.
+-- `examine::search::examine_hour` meets its contract: the first row that is broken. The search tells the first bad record, or else what
+-- row 14 names.
 use mathlib.Core.Path.{_≡_, sym, _∙_, ap}
 use mathlib.Core.Option.{none}
 use mathlib.Core.List.{List}

@@ -1,5 +1,5 @@
--- `examine::search::first_fault` meets its contract. Two loops, left at once by a label. Their invariants: no record passed is bad, and of this
--- record no word passed; what is kept is the first of the records passed that row 14 names.
+-- `examine::search::first_fault` meets its contract. Two loops, left at once by a label. Their invariants: no record passed is bad, and of
+-- this record no word passed; what is kept is the first of the records passed that row 14 names.
 use mathlib.Core.Path.{_≡_, refl, sym, _∙_, ap}
 use mathlib.Core.Logic.{⊎-elim}
 use mathlib.Core.Bool.{Bool, true, false, not}
@@ -29,7 +29,8 @@ abbrev record-bad : (h : Hour) (i : ℕ) → Bool
 record-bad h i = isBroken (badWord hourlyForm h i)
 
 abbrev Inv-loop : tie.InvT-loop
-Inv-loop source file head records members areas n i w₀ above bytes words kind w = firstBelow (word-bad (hourBy source file head records) i) w ≡ none
+Inv-loop source file head records members areas n i w₀ above bytes words kind w =
+    firstBelow (word-bad (hourBy source file head records) i) w ≡ none
 
 abbrev μ-loop : tie.MeasureT-loop
 μ-loop source file head records members areas n i w₀ above bytes words kind w = 12 - w
@@ -71,7 +72,8 @@ module _ (c : tie.After-body Inv-loop μ-loop Inv-rows μ-rows) where
   whole-head = head-there file (c .body .result .now) (c .body .ensures) source head (start .pre)
 
   word-here : (w : ℕ) → 8 ≤ w → w < 128 → wordBy source (c .body .result .now) head (w - 8) ≡ hour .head w
-  word-here = head-says source file head records (c .body .result .now) whole-head (first-body file (c .body .result .now) (c .body .ensures) source)
+  word-here =
+      head-says source file head records (c .body .result .now) whole-head (first-body file (c .body .result .now) (c .body .ensures) source)
 
 -- a turn of the outer loop: its hour, and the record at which it stands
 module _ (turn : tie.At-rows Inv-loop μ-loop Inv-rows μ-rows) where
@@ -177,7 +179,8 @@ word-of-requires-3 c κs =
 above-maximum-requires : tie.Need-above-maximum-requires Inv-loop μ-loop Inv-rows μ-rows
 above-maximum-requires c κs =
     let turn = c .before .before .before .before in
-    whole-record turn _ _ 0 (c .before .before .before .rows-test .taken) (c .before .before .file-record .ensures) (c .before .list-record .ensures)
+    whole-record turn _ _ 0 (c .before .before .before .rows-test .taken) (c .before .before .file-record .ensures)
+    (c .before .list-record .ensures)
 
 first-found-requires : tie.Need-first-found-requires Inv-loop μ-loop Inv-rows μ-rows
 first-found-requires c κs = tt
@@ -245,7 +248,8 @@ returns c =
     ⊎-elim
     (λ ran-out. absurd (omega (arith, ran-out .0 .left, c .if2 .taken)))
     (λ left.
-    let here = stops turn _ _ _ (left .0 .taken) (left .1 .ensures) (left .2 .ensures) (left .3 .ensures) (left .6 .w) (left .7 .taken) (left .6 .inv) in
+    let here = stops turn _ _ _ (left .0 .taken) (left .1 .ensures) (left .2 .ensures) (left .3 .ensures) (left .6 .w) (left .7 .taken)
+    (left .6 .inv) in
     let found = here (sym (left .8 .ensures) ∙ left .9 .taken) in
     (sym (found ∙ ap (λ (w : ℕ). some (at turn, w)) (sym (left .10))), λ e. never-some e))
     (c .before .rows-test .came)
@@ -278,13 +282,17 @@ module _ (c : tie.Else2 Inv-loop μ-loop Inv-rows μ-rows) where
 
 -- return Fault::Above(above)
 returns-2 : tie.Need-returns-2 Inv-loop μ-loop Inv-rows μ-rows
-returns-2 c = let passed = c .before in
-    (sym (nowhere passed), λ e. sym (as-counted passed ∙ kept-some (counted (last passed)) _ _ (above-kept passed) (c .if3 .taken)))
+returns-2 c =
+    let passed = c .before in
+    let one-kept = kept-some (counted (last passed)) _ _ (above-kept passed) (c .if3 .taken) in
+    (sym (nowhere passed), λ e. sym (as-counted passed ∙ one-kept))
 
 -- Fault::Nowhere
 returns-3 : tie.Need-returns-3 Inv-loop μ-loop Inv-rows μ-rows
-returns-3 c = let passed = c .before in
-    (sym (nowhere passed), λ e. sym (as-counted passed ∙ kept-none (counted (last passed)) (overScheduled (h (last passed))) _ (above-kept passed) (c .if3 .left)))
+returns-3 c =
+    let passed = c .before in
+    let none-kept = kept-none (counted (last passed)) (overScheduled (h (last passed))) _ (above-kept passed) (c .if3 .left) in
+    (sym (nowhere passed), λ e. sym (as-counted passed ∙ none-kept))
 
 pub first-fault-spec : {M : Type 1} → statement M
 first-fault-spec =

@@ -17,7 +17,8 @@ record-keeps-requires c κs = tt
 returns : tie.Need-returns
 returns c =
     let given = c .before .before .before .before .args in
-    ap not (c .record-keeps .ensures ∙ ap (keeps (recordRule (given .members) (given .areas) (given .kind) (given .w))) (c .before .word-of .ensures))
+    let rule = recordRule (given .members) (given .areas) (given .kind) (given .w) in
+    ap not (c .record-keeps .ensures ∙ ap (keeps rule) (c .before .word-of .ensures))
 
 pub record-word-bad-spec : {M : Type 1} → statement M
 record-word-bad-spec = tie.close (tie.spec word-of-requires record-keeps-requires returns)

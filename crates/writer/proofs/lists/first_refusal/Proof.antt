@@ -67,7 +67,8 @@ module _ (c : tie.After-enum-told) where
   lists = searched .before .before
 
   room-decides : let room = given lists .args .room in
-      verdict (writeHourRows (head lists) (records lists) room) ≡ verdict (row 11 (noRoom (hourOfLists (head lists) (records lists)) room) ∷ [])
+      verdict (writeHourRows (head lists) (records lists) room)
+      ≡ verdict (row 11 (noRoom (hourOfLists (head lists) (records lists)) room) ∷ [])
   room-decides =
       search-passed (head lists) (records lists) (given lists .args .room) (lists-good lists)
       (sym (searched .examine-hour .ensures) ∙ ap verdictOf (c .enum-told .given .1))
@@ -87,7 +88,8 @@ unfolding verdict
 returns-3 c =
     let passed = c .before .before in
     let at = lists passed in
-    let room = no-room (head at) (records at) (given at .args .room) _ (c .before .blocks-for .ensures (head at)) (c .if2 .taken) in
+    let needed = c .before .blocks-for .ensures (head at) in
+    let room = no-room (head at) (records at) (given at .args .room) _ needed (omega (arith, c .if2 .taken)) in
     sym (room-decides passed ∙ rw room)
 
 -- Answer::Accepted
@@ -96,7 +98,8 @@ unfolding verdict
 returns-4 c =
     let passed = c .before .before in
     let at = lists passed in
-    let room = has-room (head at) (records at) (given at .args .room) _ (c .before .blocks-for .ensures (head at)) (c .if2 .left) in
+    let needed = c .before .blocks-for .ensures (head at) in
+    let room = has-room (head at) (records at) (given at .args .room) _ needed (c .if2 .left) in
     sym (room-decides passed ∙ rw room)
 
 pub first-refusal-spec : {M : Type 1} → statement M
