@@ -101,7 +101,7 @@ fn count(source: Source, file: &[u8], records: &[u32]) -> usize
     }
 }
 
-// The bytes of record `i`, a part of the file.
+// The bytes of record `i`, a part of the file; none where the hour stands in lists.
 fn file_record(source: Source, file: &[u8], i: usize) -> &[u8]
     requires { ⌜ FileRecordThere source (now file) i ⌝ }
     ensures { λ r. ⌜ now r ≡ fileRecord source (now (file .entry)) i ⌝ }
@@ -112,7 +112,7 @@ fn file_record(source: Source, file: &[u8], i: usize) -> &[u8]
     }
 }
 
-// The words of record `i`, a part of the list.
+// The words of record `i`, a part of the list; none where the hour stands in a file.
 fn list_record(source: Source, records: &[u32], i: usize) -> &[u32]
     requires { ⌜ ListRecordThere source (now records) i ⌝ }
     ensures { λ r. ⌜ now r ≡ listRecord source (now (records .entry)) i ⌝ }
@@ -159,8 +159,8 @@ fn above_maximum(source: Source, bytes: &[u8], words: &[u32], kind: u32) -> bool
     )
 }
 
-// The place that was found below this one, or else this one, if what is looked for is here. A place that isn't below says that nothing was
-// found.
+// What was found, if it lies below this place; or else this place, if what is looked for is here. A number that isn't below says that nothing
+// was found yet.
 fn first_found(found: usize, here: bool, at: usize) -> usize
     ensures { λ r. ⌜ r ≡ cond (not (ltb found at) && here) at found ⌝ }
 {
