@@ -43,8 +43,9 @@ kit_run() {
 }
 
 # The crates that export functions to C. The compiler takes a crate's archive as a whole, and makes what two of its functions call a function
-# apart; so explaining, which settles, is not in one with settling. Whoever calls only some of the functions links only their archive's code.
-kit_exporting=(sneupelaar explain)
+# apart; so explaining, which settles, and writing an hour, which searches as settling does, are not in one with settling. Whoever calls only
+# some of the functions links only their archive's code.
+kit_exporting=(sneupelaar explain writer)
 
 kit_archive() {
     local archive=$kit_root/target/libsneupelaar.a crate said made=()

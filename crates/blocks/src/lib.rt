@@ -114,7 +114,7 @@ pub fn count(file: &[u8]) -> usize
 }
 
 // Block `b`, a part of the file itself.
-pub fn block(file: &[u8], b: usize) -> &[u8]
+fn block(file: &[u8], b: usize) -> &[u8]
     requires { ⌜ 512 * b + 512 ≤ length (now file) ⌝ }
     ensures { λ r. ⌜ now r ≡ take 512 (drop (512 * b) (now (file .entry))) ⌝ }
 {
@@ -212,7 +212,7 @@ pub fn bad_sum(file: &[u8]) -> Found
 // ---- refusal 3: the layout of the blocks
 
 // The first word of a block, from `from` on, that isn't zero.
-pub fn first_not_zero(block: &[u8], from: usize) -> Found
+fn first_not_zero(block: &[u8], from: usize) -> Found
     ensures { λ r. ⌜ foundAt r ≡ firstBelow (λ w. leb from w && not (eqb (HourFile.word (now (block .entry)) w) 0)) 128 ⌝ }
 {
     let mut w = from;

@@ -1,2 +1,5 @@
--- What the floors above learn of a file that was examined.
+-- What the floors above learn of a file that was examined, and of lists; laws of an hour by its source.
 pub mod Examined
+pub mod Listed
+mod Sources
+mod SoFar

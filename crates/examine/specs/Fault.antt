@@ -2,8 +2,8 @@
 -- that row 14 names, or none.
 use Prim.Native.Nat.{ℕ}
 use mathlib.Core.Option.{Option, none, some}
-use Rattle.examine.specs.declared.Fault.{Fault}
-use Rattle.examine.specs.declared.Fault.the-variants.{Word, Above, Nowhere}
+use Rattle.examine.specs.declared.search.Fault.{Fault}
+use Rattle.examine.specs.declared.search.Fault.the-variants.{Word, Above, Nowhere}
 
 abbrev pub faultAt : Fault → Option (ℕ × ℕ)
 faultAt (Word i w) = some (i, w)

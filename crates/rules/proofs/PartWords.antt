@@ -9,9 +9,9 @@ use lib.Seq.{getD-drop, getD-take}
 use Rattle.whole.specs.Below.{sumBelow}
 use Rattle.whole.proofs.Sums.{sum-ext}
 use Rattle.rules.specs.declared.Layout.{Layout}
-use Rattle.rules.specs.HourFile.{hourly, word, blockWord, blockSum, lengthBad, body, recordCount, recordWord, hourOf, hourIn}
+use Rattle.rules.specs.HourFile.{word, blockWord, blockSum, lengthBad, body, recordCount, recordWord, hourOf}
 use Rattle.rules.specs.Inner.Layouts.{FitsBody}
-use Rattle.rules.proofs.Words.{body-word, head-word, record-word}
+use Rattle.rules.proofs.Words.{body-word, record-word}
 use Rattle.rules.proofs.Layouts.{ends-inside}
 
 module _ (s : List ℕ) where
@@ -50,10 +50,6 @@ module _ (s : List ℕ) where
   pub block-part-sum : (b : ℕ) → sumBelow (word (take 512 (drop (512 * b) s))) 128 % 0x1_0000_0000 ≡ blockSum s b
   unfolding blockSum
   block-part-sum b = ap (λ (n : ℕ). n % 0x1_0000_0000) (sum-ext _ _ 128 (block-part-word b))
-
-  -- the first block has the head
-  pub head-part-word : (w : ℕ) → 8 ≤ w → w < 128 → word (take 512 (drop (512 * 0) s)) w ≡ hourIn s .head w
-  head-part-word w l m = block-part-word 0 w m ∙ sym (head-word hourly s w l m)
 
 -- ---- a record: a part of its block's body
 

@@ -5,18 +5,14 @@ use mathlib.Core.List.{List}
 use lib.Dec.{leb}
 use Rattle.rules.specs.HourFile.{hourly, lengthBad, blocks}
 use Rattle.rules.specs.Refusals.{Buffers}
-use Rattle.rules.specs.Settling.{Settlement, HourWritten, Written, ReadAmount}
+use Rattle.rules.specs.Settling.{Settlement, Written, ReadAmount}
 use Rattle.sneupelaar.specs.declared.NumberedAnswer.{NumberedAnswer}
-use Rattle.sneupelaar.specs.declared.NumberedFiled.{NumberedFiled}
 use Rattle.sneupelaar.specs.declared.NumberedReading.{NumberedReading}
 use Rattle.sneupelaar.specs.declared.NumberedSettled.{NumberedSettled}
 use Rattle.sneupelaar.specs.declared.Part.{Part}
 
 abbrev pub settlement : NumberedSettled → Buffers → Settlement
 settlement r after = record { verdict = record { number = r .number; place = r .place }; ufe = r .ufe; buffers = after }
-
-abbrev pub hourWritten : NumberedFiled → List ℕ → HourWritten
-hourWritten r after = record { verdict = record { number = r .number; place = r .place }; length = r .length; file = after }
 
 abbrev pub written : NumberedAnswer → List ℕ → Written
 written r after = record { verdict = record { number = r .number; place = r .place }; field = after }

@@ -5,9 +5,8 @@ ghost use lib.ListN.{drop, take};
 ghost use Rattle.rules.specs.HourFile.{body, hourly};
 ghost use Rattle.rules.specs.Refusals.{numberOf, placeOf};
 ghost use Rattle.rules.specs.Settling as Settling;
-ghost use Rattle.rules.specs.Promised.Writing.{AreWords};
 ghost use Rattle.pool.specs.Buffers.{buffers};
-ghost use Rattle.sneupelaar.specs.HandedOut.{bodyPart, hourWritten, readAmount, settlement, written};
+ghost use Rattle.sneupelaar.specs.HandedOut.{bodyPart, readAmount, settlement, written};
 use rules::Line;
 use rules::Settled;
 
@@ -29,13 +28,6 @@ pub struct NumberedReading {
     pub number: u64,
     pub place: u64,
     pub amount: i64,
-}
-
-#[repr(C)]
-pub struct NumberedFiled {
-    pub number: u64,
-    pub place: u64,
-    pub length: usize,
 }
 
 // A part of a file: its first byte's place, and how many bytes it has.
@@ -99,27 +91,6 @@ pub extern "C" fn sneupelaar_read(field: &[u8]) -> NumberedReading
         number: answer::number_of(answer),
         place: answer::place_of(answer) as u64,
         amount: reading.amount,
-    }
-}
-
-// Writes the hour file of a head and records at the start of the buffer.
-#[no_mangle]
-pub extern "C" fn sneupelaar_write_hour(
-    head: &[u32],
-    records: &[u32],
-    file: &mut [u8],
-) -> NumberedFiled
-    ensures file { λ r. ⌜ hourWritten r (now (file .exit))
-        ≡ Settling.writeHour (now (head .entry)) (now (records .entry)) (now (file .entry)) ⌝ }
-    ensures words { λ r. ⌜ AreWords (now (head .entry)) × AreWords (now (records .entry)) ⌝ }
-{
-    let filed = writer::write_hour(head, records, file);
-    let answer = filed.answer;
-    let length = filed.length;
-    NumberedFiled {
-        number: answer::number_of(answer),
-        place: answer::place_of(answer) as u64,
-        length: length,
     }
 }
 

@@ -8,11 +8,9 @@ use Rattle.blocks.proofs.whole_word.Reads as whole-word
 use Rattle.blocks.proofs.word.Reads as word
 use Rattle.blocks.proofs.length_bad.Reads as length-bad
 use Rattle.blocks.proofs.count.Reads as count
-use Rattle.blocks.proofs.block.Reads as block-of
 use Rattle.blocks.proofs.body.Reads as body
 use Rattle.blocks.proofs.head_word.Reads as head-word
 use Rattle.blocks.proofs.bad_sum.Reads as bad-sum
-use Rattle.blocks.proofs.first_not_zero.Reads as first-not-zero
 use Rattle.blocks.proofs.bad_block.Reads as bad-block
 use Rattle.blocks.proofs.records.Reads as records
 use Rattle.blocks.proofs.record.Reads as record-of
@@ -29,9 +27,6 @@ one-length-bad κs a x y s t = agree
 pub one-count : (κs : Lfts 1) → OneResult (count.Learnt κs)
 one-count κs a x y s t = agree
 
-pub one-block : (κs : Lfts 1) → OnePart (block-of.Learnt κs) now
-one-block κs a x y s t = agree
-
 pub one-body : (κs : Lfts 1) → OnePart (body.Learnt κs) now
 one-body κs a x y s t = agree
 
@@ -40,9 +35,6 @@ one-head-word κs a x y s t = λ p q. agree (p hourly) (q hourly)
 
 pub one-bad-sum : (κs : Lfts 1) → OneResult (bad-sum.Learnt κs)
 one-bad-sum κs a x y s t = agree-found
-
-pub one-first-not-zero : (κs : Lfts 1) → OneResult (first-not-zero.Learnt κs)
-one-first-not-zero κs a x y s t = agree-found
 
 pub one-bad-block : (κs : Lfts 1) → OneResult (bad-block.Learnt κs)
 one-bad-block κs a x y s t = agree-found

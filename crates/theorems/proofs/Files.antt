@@ -9,6 +9,7 @@ use Rattle.hour.proofs.records.Reads as records
 use Rattle.hour.proofs.body.Reads as body
 use Rattle.hour.proofs.record.Reads as record-of
 use Rattle.examine.proofs.examine.Reads as examine
+use Rattle.examine.proofs.search.examine_hour.Reads as examine-hour
 use Rattle.hour.proofs.head_of.Reads as head-of
 use Rattle.hour.proofs.kind_in.Reads as kind-in
 use Rattle.hour.proofs.area_in.Reads as area-in
@@ -38,6 +39,9 @@ one-record κs a x y s t = agree
 
 pub one-examine : (κs : Lfts 1) → OneResult (examine.Learnt κs)
 one-examine κs a x y s t = agree-answer
+
+pub one-examine-hour : (κs : Lfts 3) → OneResult (examine-hour.Learnt κs)
+one-examine-hour κs a x y s t = agree-answer
 
 pub one-head-of : (κs : Lfts 1) → OneResult (head-of.Learnt κs)
 one-head-of κs a x y s t = agree

@@ -29,7 +29,7 @@ use Rattle.pool.proofs.Port.settle.Reads as settle
 use Rattle.pool.proofs.settle_unlined.Reads as settle-unlined
 use Rattle.sneupelaar.proofs.Port.sneupelaar_settle.Reads as sneupelaar-settle
 use Rattle.sneupelaar.proofs.sneupelaar_write.Reads as sneupelaar-write
-use Rattle.sneupelaar.proofs.sneupelaar_write_hour.Reads as sneupelaar-write-hour
+use Rattle.writer.proofs.boundary.sneupelaar_write_hour.Reads as sneupelaar-write-hour
 use Rattle.sneupelaar.proofs.sneupelaar_read.Reads as sneupelaar-read
 use Rattle.sneupelaar.proofs.sneupelaar_body.Reads as sneupelaar-body
 use Rattle.printing.proofs.put_first_line.Reads as put-first-line

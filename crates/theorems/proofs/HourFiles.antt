@@ -23,7 +23,7 @@ use Rattle.theorems.specs.Determined.{Gives}
 use Rattle.theorems.specs.Demanded.{KeepsWriting, IsPut}
 use Rattle.writer.proofs.write_hour.Reads as write-hour
 use Rattle.report.proofs.written.put_written_hour.Reads as write-raw
-use Rattle.sneupelaar.proofs.sneupelaar_write_hour.Reads as sneupelaar-write-hour
+use Rattle.writer.proofs.boundary.sneupelaar_write_hour.Reads as sneupelaar-write-hour
 
 module _ (head records before : List ℕ) where
   own-bytes : (s : List ℕ) → AreBytes s → verdict (fileRows s) ≡ accepted → head ≡ headWords s → records ≡ recordWords hourly s →

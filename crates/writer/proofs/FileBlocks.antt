@@ -18,7 +18,8 @@ use Rattle.rules.specs.HourFile.{hourly}
 use Rattle.rules.specs.HourWords.{closing, openBlock, blocksFor, heldIn, bodyWord, openWord, fileWord, fileByte}
 use Rattle.writer.specs.Lists.{hourOfLists, ListsWhole}
 use Rattle.writer.specs.Stored.{bytesOf, openList, closedBlock, blockBytes, blockPlaced, heldWords}
-use Rattle.writer.proofs.Said.{said-count, said-head, said-word, block-count, gap}
+use Rattle.examine.proofs.Listed.{said-count, said-head, said-word, gap}
+use Rattle.writer.proofs.Said.{block-count}
 
 -- ---- a block that says what block b of an hour's file says
 

@@ -10,7 +10,7 @@ use Rattle.whole.specs.Below.{sumBelow}
 use Rattle.whole.proofs.Sums.{sum-then, sum-ext, sum-zero}
 use Rattle.rules.specs.HourWords.{closing, openBlock}
 use Rattle.writer.specs.Stored.{openList, closedBlock}
-use Rattle.writer.proofs.Said.{gap}
+use Rattle.examine.proofs.Listed.{gap}
 
 -- past the end of a list all are 0
 words-sum : (l : List ℕ) (n : ℕ) → length l ≤ n → sumBelow (λ k. getD l k 0) n ≡ sumBelow (λ k. getD l k 0) (length l)

@@ -14,6 +14,7 @@ ghost use Rattle.writer.specs.Lists.{hourOfLists, ListsWhole};
 ghost use Rattle.writer.specs.Stored.{blockBytes, blockPlaced, heldWords};
 
 mod block;
+pub mod boundary;
 mod lists;
 
 use rules::Answer;
@@ -70,7 +71,7 @@ pub fn write_hour(head: &[u32], records: &[u32], file: &mut [u8]) -> Filed
     ensures file { λ r. ⌜ now (file .exit) ≡ Settling.writeHour (now (head .entry)) (now (records .entry)) (now (file .entry)) .file ⌝ }
     ensures words { λ r. ⌜ AreWords (now (head .entry)) × AreWords (now (records .entry)) ⌝ }
 {
-    let answer = lists::examine(head, records, file.len());
+    let answer = lists::first_refusal(head, records, file.len());
     let Answer::Accepted = answer else {
         return Filed {
             answer: answer,

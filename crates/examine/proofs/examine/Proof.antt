@@ -1,5 +1,5 @@
 -- `examine::examine` meets its contract: the first row that is broken. What the rows before let pass is what the searches ask.
-use mathlib.Core.Path.{_≡_, sym, _∙_, ap}
+use mathlib.Core.Path.{_≡_, refl, sym, _∙_, ap}
 use mathlib.Core.Bool.{false}
 use mathlib.Core.Option.{none}
 use mathlib.Core.List.{List}
@@ -103,19 +103,27 @@ returns-3 c =
 enum-told-2 : tie.Need-enum-told-2
 enum-told-2 c = c .match2 .keys2
 
+-- &words[..0]
+array-share-prefix-words : tie.Need-array-share-prefix-words
+array-share-prefix-words c = omega arith
+
+slice-aggregate-no-list : tie.Need-slice-aggregate-no-list
+slice-aggregate-no-list c = refl
+
 examine-hour-requires : tie.Need-examine-hour-requires
 examine-hour-requires c κs =
-    let length = row-1 (row-2 c) in
+    let passed = c .before in
+    let length = row-1 (row-2 passed) in
     record {
       length-good = length-good length;
-      few-records = few-records hourly (file length) (blocks-good c);
+      few-records = few-records hourly (file length) (blocks-good passed);
     }
 
--- examine_hour(file)
+-- search::examine_hour(Source::File, file, no_list, no_list)
 returns-4 : tie.Need-returns-4
 unfolding verdict blockRows wordRows formRows fileRows badLength
 returns-4 c =
-    let blocks = c .before in
+    let blocks = c .before .before in
     c .examine-hour .ensures ∙ simp (length-good (row-1 (row-2 blocks)), sums-good (row-2 blocks), blocks-good blocks)
 
 pub examine-spec : {M : Type 1} → statement M
@@ -133,5 +141,7 @@ examine-spec =
     enum-known-b-2
     returns-3
     enum-told-2
+    array-share-prefix-words
+    slice-aggregate-no-list
     examine-hour-requires
     returns-4)

@@ -5,7 +5,7 @@ use native.Mathlib.Omega.{arith}
 use lib.ListN.{length, drop, length-drop}
 use lib.Seq.{take-all}
 use Rattle.writer.specs.Stored.{heldWords}
-use Rattle.writer.proofs.Said.{part-is}
+use Rattle.examine.proofs.Listed.{part-is}
 use Rattle.writer.proofs.held_by.Statement.{statement}
 use Rattle.writer.proofs.held_by.Tie as tie
 

@@ -12,7 +12,8 @@ use Rattle.rules.specs.HourFile.{hourly}
 use Rattle.rules.specs.HourWords.{blocksFor, fileByte, fileLength}
 use Rattle.writer.specs.Lists.{hourOfLists, ListsWhole}
 use Rattle.writer.specs.Stored.{blockBytes, blockPlaced}
-use Rattle.writer.proofs.Said.{said-count, block-count, few-blocks, file-length}
+use Rattle.examine.proofs.Listed.{said-count}
+use Rattle.writer.proofs.Said.{block-count, few-blocks, file-length}
 use Rattle.writer.proofs.FileBlocks.{head-placed, records-placed, held-few}
 use Rattle.writer.proofs.put_file.Statement.{statement}
 use Rattle.writer.proofs.put_file.Tie as tie

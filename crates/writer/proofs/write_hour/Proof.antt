@@ -13,7 +13,7 @@ use Rattle.writer.proofs.write_hour.Statement.{statement}
 use Rattle.writer.proofs.write_hour.Tie as tie
 
 -- the lists are examined
-module _ (c : tie.After-examine) where
+module _ (c : tie.After-first-refusal) where
   abbrev start : tie.Start
   start = c .before .before .before .before
 
@@ -32,14 +32,14 @@ module _ (c : tie.After-examine) where
 
 -- and accepted
 module _ (c : tie.After-enum-told) where
-  abbrev examined : tie.After-examine
+  abbrev examined : tie.After-first-refusal
   examined = c .before .before
 
   passed : verdict (writeHourRows (head examined) (records examined) (length (file examined))) ≡ accepted
-  passed = sym (examined .examine .ensures) ∙ ap verdictOf (c .enum-told .given .1)
+  passed = sym (examined .first-refusal .ensures) ∙ ap verdictOf (c .enum-told .given .1)
 
-examine-requires : tie.Need-examine-requires
-examine-requires c κs = tt
+first-refusal-requires : tie.Need-first-refusal-requires
+first-refusal-requires c κs = tt
 
 -- let Answer::Accepted = answer
 enum-told : tie.Need-enum-told
@@ -49,7 +49,7 @@ enum-told c = c .match .keys1
 returns : tie.Need-returns
 returns c =
     let e = c .before in
-    let leaves = sym (refused-leaves (head e) (records e) (file e) (e .examine .result) (e .examine .ensures)
+    let leaves = sym (refused-leaves (head e) (records e) (file e) (e .first-refusal .result) (e .first-refusal .ensures)
     (λ a. no-other (rw a at (c .match .keys2)))) in (
       ap (λ (r : HourWritten). r .verdict) leaves,
       (ap (λ (r : HourWritten). r .length) leaves, (ap (λ (r : HourWritten). r .file) leaves, words e)),
@@ -81,7 +81,7 @@ pub write-hour-spec : {M : Type 1} → statement M
 write-hour-spec =
     tie.close
     (tie.spec
-    examine-requires
+    first-refusal-requires
     enum-told
     returns
     put-file-requires

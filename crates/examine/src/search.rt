@@ -1,0 +1,232 @@
+// Refusals 4, 5 and 14 of an hour, in their order: the head, the records, the generators' schedules. Reader and writer search by the same
+// functions: the source says whether the hour's words stand in a file or in lists. An enum can't hold a slice, so file and lists both come
+// beside the source; what it doesn't name is empty and isn't read. Each caller names its source, so that the compiler folds it in.
+// `wordrules` says what each word may be. Row 14 is looked for on the way through row 5, which comes first.
+ghost use mathlib.Core.Path.{_≡_};
+ghost use mathlib.Core.Bool.{not, cond, _&&_};
+ghost use mathlib.Core.List.{List, _++_};
+ghost use mathlib.Core.Option.{none};
+ghost use Prim.Native.Nat.{ℕ, _-_, _≤_, _<_};
+ghost use lib.Dec.{ltb};
+ghost use Rattle.rules.specs.Ranges as Ranges;
+ghost use Rattle.rules.specs.Ranges.{hourlyForm};
+ghost use Rattle.rules.specs.Refusals as Refusals;
+ghost use Rattle.rules.specs.Refusals.{foundAt};
+ghost use Rattle.examine.specs.Fault.{faultAt, aboveAt};
+ghost use Rattle.examine.specs.Sources.{hourBy, HourThere, FirstBody, wordBy, WordThere, HasWords};
+ghost use Rattle.examine.specs.Sources.{fileRecord, FileRecordThere, listRecord, ListRecordThere};
+use rules::Answer;
+use rules::Found;
+
+// Where an hour's words stand: in the blocks of a file, or in a head and records as lists.
+pub enum Source {
+    File,
+    Lists,
+}
+
+// Words to a record.
+const WORDS: usize = 12;
+
+// Word `k` of a part of the hour, which is so many bytes of the file, or so many words of a list.
+fn word_of(source: Source, bytes: &[u8], words: &[u32], k: usize) -> u32
+    requires { ⌜ WordThere source (now bytes) (now words) k ⌝ }
+    ensures { λ r. ⌜ r ≡ wordBy source (now (bytes .entry)) (now (words .entry)) k ⌝ }
+{
+    match source {
+        Source::File => blocks::whole_word(bytes, k),
+        Source::Lists => words[k],
+    }
+}
+
+// ---- refusal 4: the head
+
+// Whether word `w` of the first block breaks layout or range, in an hour of so many zones and areas.
+fn head_word_bad(
+    source: Source,
+    body: &[u8],
+    head: &[u32],
+    zones: u32,
+    areas: u32,
+    w: usize,
+) -> bool
+    requires { ⌜ HasWords 120 source (now body) (now head) × (8 ≤ w) × (w < 128) ⌝ }
+    ensures { λ r. ⌜ r
+        ≡ not (Ranges.keeps (Ranges.headRule zones areas w) (wordBy source (now (body .entry)) (now (head .entry)) (w - 8))) ⌝ }
+{
+    let rule = wordrules::head_rule(zones, areas, w);
+    !wordrules::keeps(rule, word_of(source, body, head, w - 8))
+}
+
+// The first word of the head that breaks layout or range, by its number in the first block: word 8 + k of the block is word k of its body.
+// From word 48 on all are zero.
+fn bad_head(source: Source, body: &[u8], head: &[u32]) -> Found
+    requires { ⌜ HasWords 120 source (now body) (now head) ⌝ }
+    ensures { λ r. ⌜ ((file records : List ℕ) → FirstBody source file (now (body .entry))
+        → foundAt r ≡ Refusals.badHead hourlyForm (hourBy source file (now (head .entry)) records)) ⌝ }
+{
+    let zones = word_of(source, body, head, 2);
+    let areas = word_of(source, body, head, 3);
+    let mut w = 9;
+    while w < 48 {
+        if head_word_bad(source, body, head, zones, areas, w) {
+            return Found::At(w);
+        }
+        w += 1;
+    }
+    while w < 128 {
+        if word_of(source, body, head, w - 8) != 0 {
+            return Found::At(w);
+        }
+        w += 1;
+    }
+    Found::Nothing
+}
+
+// ---- refusals 5 and 14: the records
+
+// Where the search stops: at this word of this record, or nowhere; then whether a generator is scheduled above its maximum, and which.
+enum Fault {
+    Word(usize, usize),
+    Above(usize),
+    Nowhere,
+}
+
+// How many records the hour has.
+fn count(source: Source, file: &[u8], records: &[u32]) -> usize
+    ensures { λ r. ⌜ ((head : List ℕ) → r ≡ hourBy source (now (file .entry)) head (now (records .entry)) .count) ⌝ }
+{
+    match source {
+        Source::File => hour::records(file),
+        Source::Lists => records.len() / WORDS,
+    }
+}
+
+// The bytes of record `i`, a part of the file; none where the hour stands in lists.
+fn file_record(source: Source, file: &[u8], i: usize) -> &[u8]
+    requires { ⌜ FileRecordThere source (now file) i ⌝ }
+    ensures { λ r. ⌜ now r ≡ fileRecord source (now (file .entry)) i ⌝ }
+{
+    match source {
+        Source::File => hour::record(file, i),
+        Source::Lists => &file[..0],
+    }
+}
+
+// The words of record `i`, a part of the list; none where the hour stands in a file.
+fn list_record(source: Source, records: &[u32], i: usize) -> &[u32]
+    requires { ⌜ ListRecordThere source (now records) i ⌝ }
+    ensures { λ r. ⌜ now r ≡ listRecord source (now (records .entry)) i ⌝ }
+{
+    if let Source::File = source {
+        return &records[..0];
+    }
+    let from = WORDS * i;
+    let to = from + WORDS;
+    &records[from..to]
+}
+
+// Whether word `w` of a record of this kind breaks kind, number, range or zero, in an hour of so many members and areas.
+fn record_word_bad(
+    source: Source,
+    bytes: &[u8],
+    words: &[u32],
+    members: u32,
+    areas: u32,
+    kind: u32,
+    w: usize,
+) -> bool
+    requires { ⌜ HasWords 12 source (now bytes) (now words) × (w < 12) ⌝ }
+    ensures { λ r. ⌜ r
+        ≡ not (Ranges.keeps (Ranges.recordRule members areas kind w) (wordBy source (now (bytes .entry)) (now (words .entry)) w)) ⌝ }
+{
+    !wordrules::record_keeps(members, areas, kind, w, word_of(source, bytes, words, w))
+}
+
+// Whether a record of this kind is a generator that is scheduled above its maximum. The kind is asked before schedule and maximum are read,
+// which no other kind has: read first, they cost every record six instructions.
+fn above_maximum(source: Source, bytes: &[u8], words: &[u32], kind: u32) -> bool
+    requires { ⌜ HasWords 12 source (now bytes) (now words) ⌝ }
+    ensures { λ r. ⌜ r ≡ Refusals.scheduledAbove kind
+        (wordBy source (now (bytes .entry)) (now (words .entry)) 3) (wordBy source (now (bytes .entry)) (now (words .entry)) 8) ⌝ }
+{
+    if kind != 1 {
+        return false;
+    }
+    wordrules::scheduled_above(
+        kind,
+        word_of(source, bytes, words, 3),
+        word_of(source, bytes, words, 8),
+    )
+}
+
+// What was found, if it lies below this place; or else this place, if what is looked for is here. A number that isn't below says that nothing
+// was found yet.
+fn first_found(found: usize, here: bool, at: usize) -> usize
+    ensures { λ r. ⌜ r ≡ cond (not (ltb found at) && here) at found ⌝ }
+{
+    if found < at {
+        return found;
+    }
+    if here {
+        return at;
+    }
+    found
+}
+
+// The search leaves all the rows at the first record, and in it the first word, that breaks a rule. On its way it keeps the first generator
+// that is scheduled above its maximum, or `n` while there is none; it counts only where no record of the whole hour breaks a rule.
+fn first_fault(source: Source, file: &[u8], head: &[u32], records: &[u32]) -> Fault
+    requires { ⌜ HourThere source (now file) (now head) ⌝ }
+    ensures fault { λ r. ⌜ faultAt r
+        ≡ Refusals.firstFault hourlyForm (hourBy source (now (file .entry)) (now (head .entry)) (now (records .entry))) ⌝ }
+    ensures above { λ r. ⌜ (faultAt r ≡ none
+        → aboveAt r ≡ Refusals.aboveMaximum (hourBy source (now (file .entry)) (now (head .entry)) (now (records .entry)))) ⌝ }
+{
+    let body = hour::body(file, 0);
+    let members = word_of(source, body, head, 1);
+    let areas = word_of(source, body, head, 3);
+    let n = count(source, file, records);
+    let mut i = 0;
+    let mut w = 0;
+    let mut above = n;
+    'rows: while i < n {
+        let bytes = file_record(source, file, i);
+        let words = list_record(source, records, i);
+        let kind = word_of(source, bytes, words, 0);
+        above = first_found(above, above_maximum(source, bytes, words, kind), i);
+        w = 0;
+        while w < WORDS {
+            if record_word_bad(source, bytes, words, members, areas, kind, w) {
+                break 'rows;
+            }
+            w += 1;
+        }
+        i += 1;
+    }
+    if i < n {
+        return Fault::Word(i, w);
+    }
+    if above < n {
+        return Fault::Above(above);
+    }
+    Fault::Nowhere
+}
+
+// ---- the rows
+
+// Accepted, or the first of refusals 4, 5 and 14 that the hour breaks, with its place.
+pub fn examine_hour(source: Source, file: &[u8], head: &[u32], records: &[u32]) -> Answer
+    requires { ⌜ HourThere source (now file) (now head) ⌝ }
+    ensures { λ r. ⌜ Refusals.verdictOf r
+        ≡ Refusals.verdict (let h = hourBy source (now (file .entry)) (now (head .entry)) (now (records .entry)) in
+        Refusals.wordRows hourlyForm h ++ Refusals.comparisonRows h) ⌝ }
+{
+    if let Found::At(w) = bad_head(source, hour::body(file, 0), head) {
+        return Answer::BadHead(w);
+    }
+    match first_fault(source, file, head, records) {
+        Fault::Word(i, _) => Answer::BadRecord(i),
+        Fault::Above(i) => Answer::AboveMaximum(i),
+        Fault::Nowhere => Answer::Accepted,
+    }
+}
