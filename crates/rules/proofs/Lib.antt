@@ -4,6 +4,7 @@ pub mod Starred
 pub mod MissingBlock
 pub mod Unwritten
 pub mod Tariff
+pub mod Rounding
 pub mod Posting
 pub mod Shares
 pub mod Digits

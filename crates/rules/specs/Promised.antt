@@ -1,5 +1,6 @@
 -- What is promised, as statements about the definitions: the second reading of 003, the demands, what document 02 asks.
 pub mod Tariff
+pub mod Rounding
 pub mod Demands
 pub mod Finals
 pub mod Writing
