@@ -1,6 +1,7 @@
 -- What the contracts of settling, writing and explaining give, and those of what programs print: the customer's demands, stated of what was
 -- handed in, what was answered and what was left in the buffers.
 use mathlib.Core.Path.{_≡_}
+use mathlib.Core.Logic.{_↔_}
 use mathlib.Core.List.{List, _++_}
 use Prim.Native.Nat.{ℕ, _≤_, _<_}
 use mathlib.Core.Option.{Option, none}
@@ -76,8 +77,8 @@ pub record KeepsExplaining (file : List ℕ) (member : ℕ) (e : Explanation) : 
   -- to each member of an hour that settling accepts, by the line and the charge that settling writes
   pub explained : (b : Buffers) → Accepts file b → member < members (hourIn file) → (e .verdict ≡ accepted)
       × ExplainsOutcome (hourIn file) (settle file b .buffers) member (e .heads) (e .decided)
-  -- and to nobody else: 13 comes last
-  pub no-member : (b : Buffers) → Accepts file b → members (hourIn file) ≤ member → e .verdict ≡ refusedAt 13 0
+  -- and to nobody else: 13 exactly where every row of the hour is passed and the member's number isn't below the member count
+  pub no-member : (e .verdict ≡ refusedAt 13 0) ↔ ((verdict (hourRows file) ≡ accepted) × (members (hourIn file) ≤ member))
   pub refused-alike : (verdict (hourRows file) ≡ accepted → ⊥) → e .verdict ≡ verdict (hourRows file)
   -- A1 and A6, as of a settling
   pub held-to-demand : HeldToDemand file (e .verdict)
