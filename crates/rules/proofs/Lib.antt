@@ -38,3 +38,5 @@ pub mod Raw
 pub mod Explaining
 pub mod Engines
 pub mod Worded
+pub mod PartsCut
+pub mod SixLines

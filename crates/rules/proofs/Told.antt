@@ -60,7 +60,7 @@ number-told n m s t a b p q e =
 
 -- ---- numbers and places of a table are small
 
-abbrev Small : Verdict → Type 0
+abbrev pub Small : Verdict → Type 0
 Small v = (v .number < 10 ^ 20) × (v .place < 10 ^ 20)
 
 data SmallRows : List Row → Type 0 where
@@ -114,7 +114,7 @@ module _ (s : List ℕ) (b : AreBytes s) where
       small-row 12 (omega arith) (zero-small (eqb (hourDemand h) 0 && not (eqb (natAbs (neutrality h)) 0))) no-row))))))))
 
   -- a file that is too long has place 0; of the others every place is small
-  hour-small : Small (verdict (hourRows s))
+  pub hour-small : Small (verdict (hourRows s))
   hour-small = split (ltb 13312 (length s))
       (λ t. rw (too-long-refused s (ltb-true 13312 (length s) t)) (omega arith, omega arith))
       (λ t. verdict-small (rows-small (ltb-false 13312 (length s) t)))
@@ -127,7 +127,7 @@ module _ (v w : Verdict) (a : Small v) (b : Small w) (e : refusedLine v ≡ refu
   unfolding refusedLine
   refused-parts u = simp append-assoc
 
-  refusal-told : v ≡ w
+  pub refusal-told : v ≡ w
   unfolding digitCount
   refusal-told =
       let number = number-told (v .number) (w .number) _ _ (a .0) (b .0) refl refl

@@ -7,3 +7,4 @@ pub mod Writing
 pub mod Imports
 pub mod Engines
 pub mod Deciding
+pub mod SixLines

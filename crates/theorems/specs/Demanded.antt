@@ -15,13 +15,14 @@ use Rattle.rules.specs.HourWords.{hourFrom, headWords, recordWords}
 use Rattle.rules.specs.Refusals.{Verdict, accepted, refusedAt, verdict, Buffers, badLists}
 use Rattle.rules.specs.Refusals.{blockRows, formRows, fileRows, hourRows, settleRows, explainRows, listFormRows, writeHourRows}
 use Rattle.rules.specs.Settling.{settle, noFigures, emptyLine, HourWritten}
-use Rattle.rules.specs.Explanation.{Explanation, noHeads}
+use Rattle.rules.specs.Explanation.{Explanation, noHeads, memberAsked, hourAsked}
 use Rattle.rules.specs.Promised.Demands.{Accepts, ByFormula, FairOutcome}
 use Rattle.rules.specs.Promised.Finals.{NeutralOutcome, HeldToDemand, AreBytes, SameSheet, Shows}
 use Rattle.rules.specs.Promised.Writing.{lengthFor, fileIn}
 use Rattle.rules.specs.Promised.Imports.{FirstMetered}
 use Rattle.rules.specs.Promised.Engines.{HeldToMaximum}
 use Rattle.rules.specs.Promised.Deciding.{Explains}
+use Rattle.rules.specs.Promised.SixLines.{Says, answerTo}
 use Rattle.rules.specs.Ranges.{hourlyForm}
 
 -- the three demands of a settling and what document 02 asks of its finals (A1), of imports (A3) and of schedules (A6), by its file, its
@@ -98,3 +99,24 @@ IsReadBack file lent count after = 1095 ≤ length lent → verdict (hourRows fi
 -- two statements that are the same say the same of both files (A1)
 abbrev pub Tells : (file sheet other otherSheet : List ℕ) → Type 0
 Tells file sheet other otherSheet = AreBytes file → AreBytes other → sheet ≡ otherSheet → SameSheet file other
+
+-- of an explanation that was put: read, it says exactly what is answered to the input (A5)
+abbrev pub SaysAnswer : (input lent : List ℕ) (count : ℕ) (after : List ℕ) → Type 0
+SaysAnswer input lent count after = 165 ≤ length lent → (heads : List ℤ) (decided : Option ℕ) →
+    Says (take count after) heads decided ↔ (answerTo input ≡ record { verdict = accepted; heads = heads; decided = decided })
+
+-- two explanations that are the same answer the same to both inputs (A5)
+abbrev pub TellsAnswer : (input text other otherText : List ℕ) → Type 0
+TellsAnswer input text other otherText = AreBytes input → AreBytes other → text ≡ otherText → answerTo input ≡ answerTo other
+
+-- settled into buffers that hold this afterwards, then printed from an input that asks for this file: what is read from the text adds up to the
+-- line of the member asked for, and decided on its charge (A5)
+abbrev pub SaysOutcome : (file : List ℕ) (after : Buffers) (input lent text : List ℕ) → Type 0
+SaysOutcome file after input lent text = 4 ≤ length input → hourAsked input ≡ file → 165 ≤ length lent →
+    let h = hourIn file in memberAsked input < members h →
+    (heads : List ℤ) (decided : Option ℕ) → Says text heads decided → ExplainsOutcome h after (memberAsked input) heads decided
+
+-- explained, then printed from an input that asks for this file and member: the text says these heads and the head that decided (A5)
+abbrev pub SaysExplained : (file : List ℕ) (member : ℕ) → Explanation → (input lent text : List ℕ) → Type 0
+SaysExplained file member e input lent text = 4 ≤ length input → hourAsked input ≡ file → memberAsked input ≡ member → 165 ≤ length lent →
+    e .verdict ≡ accepted → Says text (e .heads) (e .decided)
