@@ -30,6 +30,7 @@ pub mod FileWords
 pub mod Said
 pub mod OwnHour
 pub mod Stated
+pub mod PartsCut
 pub mod Sheet
 pub mod Told
 pub mod Writing
@@ -38,5 +39,4 @@ pub mod Raw
 pub mod Explaining
 pub mod Engines
 pub mod Worded
-pub mod PartsCut
 pub mod SixLines

@@ -1,6 +1,6 @@
 -- A text cut at a byte: a part in which that byte doesn't stand is cut off whole; digits have neither line feeds nor blanks among them; and
 -- the decimal digits of a number are read as that number. Document 02, A5.
-use mathlib.Core.Path.{_≡_, refl, _∙_}
+use mathlib.Core.Path.{_≡_, refl, _∙_, ap}
 use mathlib.Core.Bool.{Bool, true, false, not, cond, _&&_}
 use mathlib.Core.Option.{some, bind}
 use mathlib.Core.List.{List, [], _∷_, _++_, append-assoc, append-nil}
@@ -12,9 +12,11 @@ use lib.IntN.{ℤ, pos, negsuc, natAbs}
 use lib.ListN.{length, getD}
 use borrow.Author.Tests.{le-leb, eq-eqb, ne-eqb, not-true}
 use Rattle.whole.proofs.Tests.{split, both}
-use Rattle.rules.specs.Text.{digitByte, digitsUpTo, decimal, digitCount, digitsValue, withMinus}
+use Rattle.rules.specs.Text.{bytes, digitByte, digitsUpTo, decimal, digitCount, digitsValue, withMinus}
+use Rattle.rules.specs.Refusals.{Verdict}
+use Rattle.rules.specs.Statement.{refusedLine}
 use Rattle.rules.specs.Explanation.{signedDecimal}
-use Rattle.rules.specs.Promised.SixLines.{partsAt, naturalIn, numberIn}
+use Rattle.rules.specs.Promised.Lines.{partsAt, lines, words, naturalIn, numberIn, SaysRefused}
 use Rattle.rules.proofs.Digits.{DigitsOf, one, more, all-counted, make-the-number, decimal-digits, decimal-at-least-1}
 
 -- ---- parts
@@ -28,6 +30,9 @@ pub lacks-both : (byte : ℕ) (s t : List ℕ) → lacks byte s ≡ true → lac
 unfolding lacks
 lacks-both byte [] t p q = q
 lacks-both byte (c ∷ s) t p q = let b = both (not (eqb c byte)) (lacks byte s) p in rw (b .0) (lacks-both byte s t (b .1) q)
+
+pub digit-lacks : (d : ℕ) → eqb (digitByte d) 10 ≡ false
+digit-lacks d = ne-eqb (digitByte d) 10 (λ e. omega arith)
 
 module _ (byte : ℕ) where
   pub part-and-rest : (s rest : List ℕ) → lacks byte s ≡ true → partsAt byte (s ++ byte ∷ rest) ≡ s ∷ partsAt byte rest
@@ -43,7 +48,7 @@ module _ (byte : ℕ) where
 
   -- ---- digits
 
-  pub digits-lack : byte < 48 → (k n : ℕ) → lacks byte (digitsUpTo k n) ≡ true
+  digits-lack : byte < 48 → (k n : ℕ) → lacks byte (digitsUpTo k n) ≡ true
   unfolding lacks digitsUpTo
   digits-lack small zero n = refl
   digits-lack small (suc k) n = lacks-both byte (cond (ltb n 10) [] (digitsUpTo k (n / 10))) (digitByte (n % 10) ∷ [])
@@ -65,7 +70,7 @@ begins-with-digit : {n : ℕ} {s : List ℕ} → DigitsOf n s → (t : List ℕ)
 begins-with-digit (one n l) t = omega arith
 begins-with-digit (more {s = s} d p l r) t = rw (append-assoc s (digitByte d ∷ []) t) (begins-with-digit r (digitByte d ∷ t))
 
-natural-read : (n : ℕ) → n < 10 ^ 20 → naturalIn (decimal n) ≡ some n
+pub natural-read : (n : ℕ) → n < 10 ^ 20 → naturalIn (decimal n) ≡ some n
 unfolding naturalIn digitCount
 natural-read n h =
     let digits = decimal-digits n h in
@@ -83,3 +88,38 @@ unfolding numberIn signedDecimal withMinus bind
 number-read (pos n) h =
     no-sign (decimal n) (rw append-nil at (begins-with-digit (decimal-digits n h) [])) ∙ rw (natural-read n h)
 number-read (negsuc n) h = rw (natural-read (suc n) h)
+
+-- ---- a refusal's line
+
+abbrev pub refusedText : Verdict → List ℕ
+refusedText v = bytes "refused " ++ decimal (v .number) ++ bytes " at " ++ decimal (v .place)
+
+pub refused-cut : (v : Verdict) → lines (refusedLine v) ≡ refusedText v ∷ [] ∷ []
+unfolding refusedLine partsAt lacks
+refused-cut v = part-and-rest 10 (refusedText v) []
+    (lacks-both 10 (bytes "refused " ++ decimal (v .number) ++ bytes " at ") (decimal (v .place))
+    (lacks-both 10 (bytes "refused " ++ decimal (v .number)) (bytes " at ")
+    (decimal-lacks 10 (omega arith) (v .number)) refl)
+    (decimal-lacks 10 (omega arith) (v .place)))
+
+refused-words : (v : Verdict) → words (refusedText v)
+    ≡ bytes "refused" ∷ decimal (v .number) ∷ bytes "at" ∷ decimal (v .place) ∷ []
+unfolding lacks
+refused-words v = simp append-assoc (
+    part-and-rest 32 (bytes "refused") (decimal (v .number) ++ (bytes " at " ++ decimal (v .place))) refl
+    ∙ ap (λ (t : List (List ℕ)). bytes "refused" ∷ t)
+    (part-and-rest 32 (decimal (v .number)) (bytes "at " ++ decimal (v .place)) (decimal-lacks 32 (omega arith) (v .number))
+    ∙ ap (λ (t : List (List ℕ)). decimal (v .number) ∷ t)
+    (part-and-rest 32 (bytes "at") (decimal (v .place)) refl
+    ∙ ap (λ (t : List (List ℕ)). bytes "at" ∷ t) (last-part 32 (decimal (v .place)) (decimal-lacks 32 (omega arith) (v .place))))))
+
+pub says-refused : (v : Verdict) → v .number < 10 ^ 20 → v .place < 10 ^ 20 → SaysRefused (refusedLine v) v
+says-refused v number place = record {
+  one-line = rw (refused-cut v);
+  nothing-else = rw (refused-cut v);
+  four-words = rw (refused-cut v, refused-words v);
+  refused-is = rw (refused-cut v, refused-words v);
+  number-read = rw (refused-cut v, refused-words v) (natural-read (v .number) number);
+  at-is = rw (refused-cut v, refused-words v);
+  place-read = rw (refused-cut v, refused-words v) (natural-read (v .place) place);
+}

@@ -2,7 +2,7 @@
 use mathlib.Core.Path.{_≡_, refl, sym, _∙_, ap}
 use mathlib.Core.Logic.{_↔_}
 use mathlib.Core.Bool.{true, cond}
-use mathlib.Core.Option.{Option, none, some}
+use mathlib.Core.Option.{Option, none, some, Option·some-injective}
 use mathlib.Core.List.{List, [], _∷_, _++_, append-assoc}
 use Prim.Native.Nat.{ℕ, zero, suc, _+_, _^_, _≤_, _<_}
 use native.Mathlib.Nat.{le-refl}
@@ -14,7 +14,7 @@ use lib.Seq.{ext-getD, getD-drop}
 use borrow.Author.Tests.{ltb-true, ltb-false, leb-true, leb-false, eqb-true, eqb-false, lt-ltb, le-ltb, ne-eqb}
 use Rattle.whole.proofs.Tests.{split}
 use Rattle.rules.specs.Record.{Hour, members}
-use Rattle.rules.specs.Text.{bytes, decimal}
+use Rattle.rules.specs.Text.{bytes}
 use Rattle.rules.specs.HourFile.{hourIn}
 use Rattle.rules.specs.Refusals.{row, Verdict, accepted, noMember, refusedAt, verdict, hourRows, explainRows, Buffers}
 use Rattle.rules.specs.Settling.{isAccepted, settle, emptyLine}
@@ -23,8 +23,9 @@ use Rattle.rules.specs.Explanation.{Explanation, heads, decided, noHeads
 use Rattle.rules.specs.Explanation.{explain, explanationLines, worded, memberAsked, hourAsked, explanation}
 use Rattle.rules.specs.Promised.Demands.{Accepts}
 use Rattle.rules.specs.Promised.Deciding.{Explains}
+use Rattle.rules.specs.Promised.Lines.{partsAt, lines, lineAt, words, SaysRefused}
 use Rattle.rules.specs.Promised.Finals.{AreBytes}
-use Rattle.rules.specs.Promised.SixLines.{partsAt, lines, words, name, nameOrNone, lineAt, SaysNumber, Says, answerTo, SixLines}
+use Rattle.rules.specs.Promised.SixLines.{name, nameOrNone, SaysNumber, Says, answerTo, SixLines}
 use Rattle.rules.proofs.Rows.{accepts-when-whole, zero-accepts, whole-parts, hour-numbered}
 use Rattle.rules.proofs.Kept.{passed-kept}
 use Rattle.rules.proofs.Heads.{heads-posted, heads-running, five-heads}
@@ -32,7 +33,7 @@ use Rattle.rules.proofs.Explaining.{explain-numbered, explain-verdict, 
 use Rattle.rules.proofs.Explaining.{rows-refused-alike, rows-member, rows-no-member}
 use Rattle.rules.proofs.Worded.{too-few-bytes, four-bytes}
 use Rattle.rules.proofs.Told.{Small, hour-small, refusal-told}
-use Rattle.rules.proofs.PartsCut.{lacks, lacks-both, part-and-rest, last-part, decimal-lacks, signed-lacks, number-read}
+use Rattle.rules.proofs.PartsCut.{lacks, lacks-both, part-and-rest, last-part, signed-lacks, number-read, refused-cut, says-refused}
 
 -- ---- the six lines, cut
 
@@ -85,7 +86,11 @@ decided-words d = part-and-rest 32 (bytes "decided") (decidedName d) refl
     ∙ ap (λ (t : List (List ℕ)). bytes "decided" ∷ t) (last-part 32 (decidedName d) (decided-lacks d .1))
 
 says-number : (k : ℕ) (z : ℤ) → natAbs z < 10 ^ 20 → SaysNumber (headText k z) (name k) z
-says-number k z h = record { digits = signedDecimal z; two-words = head-words k z; number-read = number-read z h }
+says-number k z h = record {
+  two-words = rw (head-words k z);
+  word-is = rw (head-words k z);
+  number-read = rw (head-words k z) (number-read z h);
+}
 
 same-name : (d : Option ℕ) → decidedName d ≡ nameOrNone d
 same-name none = refl
@@ -114,7 +119,7 @@ module _ (hs : List ℤ) (d : Option ℕ) (five : length hs ≡ 5) (small : (k :
 -- ---- a text says one thing
 
 one-number : {line word : List ℕ} {y z : ℤ} → SaysNumber line word y → SaysNumber line word z → y ≡ z
-one-number a b = cc (a .two-words, b .two-words, a .number-read, b .number-read)
+one-number a b = Option·some-injective _ _ (sym (a .number-read) ∙ b .number-read)
 
 -- the names differ in their first letter
 headNamed : (letter : ℕ) → Option ℕ
@@ -139,16 +144,6 @@ one-reading text hs gs d e a b = (
       ∙ ap (λ (ws : List (List ℕ)). headNamed (getD (getD ws 1 []) 0 0)) (sym (a .decided-said) ∙ b .decided-said)
       ∙ by-first-letter e (b .one-of-five),
 )
-
--- ---- a refusal is one line, and says nothing of the kind
-
-refused-cut : (v : Verdict) → length (lines (refusedLine v)) ≡ 2
-unfolding refusedLine partsAt lacks
-refused-cut v = ap length (part-and-rest 10 (bytes "refused " ++ decimal (v .number) ++ bytes " at " ++ decimal (v .place)) []
-    (lacks-both 10 (bytes "refused " ++ decimal (v .number) ++ bytes " at ") (decimal (v .place))
-    (lacks-both 10 (bytes "refused " ++ decimal (v .number)) (bytes " at ")
-    (decimal-lacks 10 (omega arith) (v .number)) refl)
-    (decimal-lacks 10 (omega arith) (v .place))))
 
 -- ---- what is answered
 
@@ -176,7 +171,7 @@ says-exactly e (explained v says) hs d = (
   λ t. says-alike (ap (λ (x : Explanation). x .heads) t) (ap (λ (x : Explanation). x .decided) t) says,
 )
 says-exactly e (refused r hs₀ d₀) hs d = (
-  λ t. absurd (omega (arith, t .six-lines, ap (λ (x : List ℕ). length (lines x)) (worded-refused e r), refused-cut (e .verdict))),
+  λ t. absurd (omega (arith, t .six-lines, ap (λ (x : List ℕ). length (lines x)) (worded-refused e r), ap length (refused-cut (e .verdict)))),
   λ t. absurd (r (ap (λ (x : Explanation). x .verdict .number) t)),
 )
 
@@ -249,6 +244,13 @@ module _ (s : List ℕ) where
       (λ l. rw (too-short l) (omega arith, omega arith))
       (λ l. rw (long-enough l) (answer-small (hourAsked s) (memberAsked s) (λ i. rw (getD-drop 4 s i 0) (bytes (4 + i)))))
 
+refused-read : (s : List ℕ) → AreBytes s → (answerTo s .verdict ≡ accepted → ⊥) → SaysRefused (explanation s) (answerTo s .verdict)
+refused-read s bytes r = rw (answer-worded s) (of (answerTo s) (answered s) (small s bytes) r)
+  where
+    of : (e : Explanation) → Answered e → Small (e .verdict) → (e .verdict ≡ accepted → ⊥) → SaysRefused (worded e) (e .verdict)
+    of e (explained v says) l r = absurd (r v)
+    of e (refused q hs d) l r = rw (worded-refused e q) (says-refused (e .verdict) (l .0) (l .1))
+
 read-back : (s : List ℕ) (hs : List ℤ) (d : Option ℕ) →
     Says (explanation s) hs d ↔ (answerTo s ≡ record { verdict = accepted; heads = hs; decided = d })
 read-back s hs d = rw (answer-worded s) (says-exactly (answerTo s) (answered s) hs d)
@@ -265,6 +267,7 @@ pub six-lines : SixLines
 six-lines = record {
   one-reading = one-reading;
   read-back = read-back;
+  refused-read = refused-read;
   as-settled = as-settled;
   tells = λ s t a b same. told-apart (answerTo s) (answerTo t) (answered s) (answered t) (small s a) (small t b)
       (sym (answer-worded s) ∙ same ∙ answer-worded t);

@@ -16,9 +16,9 @@ use Rattle.amount.proofs.write.Reads as write
 use Rattle.amount.proofs.read.Reads as read
 use Rattle.hour.proofs.body.Reads as body
 use Rattle.examine.proofs.examine.Reads as examine
-use Rattle.report.proofs.statement.put_statement.Reads as put-statement
-use Rattle.report.proofs.explanation.put_explanation.Reads as put-explanation
-use Rattle.report.proofs.written.put_written_hour.Reads as put-written-hour
+use Rattle.report.proofs.statement.put_statement.Reads as statement
+use Rattle.report.proofs.explanation.put_explanation.Reads as explanation
+use Rattle.report.proofs.written.put_written_hour.Reads as write-raw
 
 -- ---- the functions for C
 
@@ -68,11 +68,11 @@ asks-nothing-examine κs a = tt
 
 -- ---- what the programs print
 
-pub asks-nothing-put-statement : (κs : Lfts 2) → AsksNothing (put-statement.Asked κs)
-asks-nothing-put-statement κs a = tt
+pub asks-nothing-statement : (κs : Lfts 2) → AsksNothing (statement.Asked κs)
+asks-nothing-statement κs a = tt
 
-pub asks-nothing-put-explanation : (κs : Lfts 2) → AsksNothing (put-explanation.Asked κs)
-asks-nothing-put-explanation κs a = tt
+pub asks-nothing-explanation : (κs : Lfts 2) → AsksNothing (explanation.Asked κs)
+asks-nothing-explanation κs a = tt
 
-pub asks-nothing-put-written-hour : (κs : Lfts 2) → AsksNothing (put-written-hour.Asked κs)
-asks-nothing-put-written-hour κs a = tt
+pub asks-nothing-write-raw : (κs : Lfts 2) → AsksNothing (write-raw.Asked κs)
+asks-nothing-write-raw κs a = tt

@@ -1,33 +1,29 @@
--- Explanations: no second result fits the contracts, and what the pages say of them, said of the contracts as their callers read them.
+-- Explanations: no second result fits the contracts, and what the pages say of them, said of the contracts as their callers read them. What
+-- is read from their text stands in `SixLines`.
 use mathlib.Core.Path.{_≡_, refl, sym, _∙_, ap, ap₂, subst}
 use mathlib.Core.Option.{Option, none, some}
 use mathlib.Core.List.{List}
-use Prim.Native.Nat.{ℕ, zero, suc, _<_, _≤_}
+use Prim.Native.Nat.{ℕ, zero, suc}
 use lib.IntN.{ℤ}
-use lib.ListN.{length, take}
 use contract.Lifetimes.{Lfts}
 use denote.Ref.{now}
 use Rattle.rules.specs.declared.Answer.{Answer}
 use Rattle.rules.specs.declared.Answer.the-variants.{Accepted}
 use Rattle.rules.specs.declared.Found.{Found}
-use Rattle.rules.specs.Record.{members}
-use Rattle.rules.specs.HourFile.{hourIn}
-use Rattle.rules.specs.Refusals.{Verdict, accepted, refusedAt, verdictOf, Buffers}
-use Rattle.rules.specs.Settling.{Settlement, settle as settling}
+use Rattle.rules.specs.Refusals.{refusedAt, verdictOf, Buffers}
+use Rattle.rules.specs.Settling.{Settlement}
 use Rattle.rules.specs.Explanation as Explanation
-use Rattle.rules.specs.Promised.Demands.{Accepts}
-use Rattle.rules.specs.Promised.SixLines.{Says}
 use Rattle.rules.proofs.Explaining.{explain-verdict, explaining}
 use Rattle.rules.proofs.Finals.{neutrality-shared}
 use Rattle.rules.proofs.Engines.{engines}
 use Rattle.rules.proofs.Worded.{cut-input-same}
-use Rattle.rules.proofs.SixLines.{long-enough, six-lines}
 use Rattle.printing.proofs.Showing.{whole-text}
 use Rattle.pool.specs.Buffers.{buffers}
 use Rattle.explain.specs.Answered.{answered}
 use Rattle.explain.specs.HandedOut.{explanationOf, headCounted}
 use Rattle.theorems.specs.Determined.{OneResult, OneOutcome, Gives}
-use Rattle.theorems.specs.Demanded.{KeepsExplaining, ExplainsOutcome, IsPut, SaysAnswer, TellsAnswer, SaysOutcome, SaysExplained}
+use Rattle.theorems.specs.Demanded.{KeepsExplaining, ExplainsSettled}
+use Rattle.theorems.specs.Texts.{IsPut, IsPutOfCut}
 use Rattle.theorems.proofs.Laws.{agree, agree-answer, agree-found}
 use Rattle.printing.proofs.explanation.put_six_lines.Reads as put-six-lines
 use Rattle.explain.proofs.explain.Reads as explain
@@ -93,10 +89,9 @@ sneupelaar-explain-keeps κs a x s p = keeps p
 -- that it wrote
 
 pub settled-is-explained : (κs : Lfts 6) (μs : Lfts 1) → Gives (settle.Learnt κs) (λ a x s. x .answer ≡ Accepted →
-    Gives (explain.Learnt μs) (λ b y t. now (b .0) ≡ now (a .0) → let h = hourIn (now (a .0)) in b .1 .0 < members h →
-    ExplainsOutcome h
+    Gives (explain.Learnt μs) (λ b y t. ExplainsSettled (now (a .0))
     (buffers (now (s .1 .1 .0)) (now (s .1 .1 .1 .0)) (now (s .1 .1 .1 .1 .0)) (now (s .1 .1 .1 .1 .1 .0)) (now (s .1 .0)))
-    (b .1 .0) (y .heads) (answered y .decided)))
+    (now (b .0)) (b .1 .0) (y .heads) (answered y .decided)))
 settled-is-explained κs μs a x s p accepts b y t q same there =
     let lent = buffers (now (a .1 .1 .0)) (now (a .1 .1 .1 .0)) (now (a .1 .1 .1 .1 .0)) (now (a .1 .1 .1 .1 .1 .0)) (now (a .1 .0)) in
     let e = keeps (rw same at q) .explained lent (sym (p .verdict-is) ∙ ap verdictOf accepts) there .1 in
@@ -105,10 +100,9 @@ settled-is-explained κs μs a x s p accepts b y t q same there =
 -- the same for C
 pub sneupelaar-settled-is-explained : (κs : Lfts 6) (μs : Lfts 1) → Gives (sneupelaar-settle.Learnt κs) (λ a x s.
     x .number ≡ 0 → x .place ≡ 0 →
-    Gives (sneupelaar-explain.Learnt μs) (λ b y t. now (b .0) ≡ now (a .0) → let h = hourIn (now (a .0)) in b .1 .0 < members h →
-    ExplainsOutcome h
+    Gives (sneupelaar-explain.Learnt μs) (λ b y t. ExplainsSettled (now (a .0))
     (buffers (now (s .1 .1 .0)) (now (s .1 .1 .1 .0)) (now (s .1 .1 .1 .1 .0)) (now (s .1 .1 .1 .1 .1 .0)) (now (s .1 .0)))
-    (b .1 .0) (y .heads) (headCounted (y .decided))))
+    (now (b .0)) (b .1 .0) (y .heads) (headCounted (y .decided))))
 sneupelaar-settled-is-explained κs μs a x s p number place b y t q same there =
     let lent = buffers (now (a .1 .1 .0)) (now (a .1 .1 .1 .0)) (now (a .1 .1 .1 .1 .0)) (now (a .1 .1 .1 .1 .1 .0)) (now (a .1 .0)) in
     let accepts = sym (ap (λ (z : Settlement). z .verdict) p) ∙ ap₂ refusedAt number place in
@@ -123,68 +117,7 @@ pub explanation-is-put : (κs : Lfts 2) → Gives (explanation.Learnt κs) (λ a
 explanation-is-put κs a x s p room = whole-text (record { count-is = p .0; out-is = p .1 }) room
 
 -- a reader that stops one byte past the longest input prints what its whole input asks for
-pub cut-input-is-put : (κs : Lfts 2) (input : List ℕ) → Gives (explanation.Learnt κs) (λ a x s. now (a .0) ≡ take 13317 input →
-    IsPut 165 (Explanation.explanation input) (now (a .1 .0)) x (now (s .1 .0)))
+pub cut-input-is-put : (κs : Lfts 2) (input : List ℕ) → Gives (explanation.Learnt κs) (λ a x s.
+    IsPutOfCut 13317 165 Explanation.explanation input (now (a .0)) (now (a .1 .0)) x (now (s .1 .0)))
 cut-input-is-put κs input a x s p cut room =
     explanation-is-put κs a x s p room ∙ ap Explanation.explanation cut ∙ cut-input-same input
-
--- read, the bytes put say exactly what is answered
-pub explanation-says : (κs : Lfts 2) → Gives (explanation.Learnt κs) (λ a x s. SaysAnswer (now (a .0)) (now (a .1 .0)) x (now (s .1 .0)))
-explanation-says κs a x s p room hs d = rw (explanation-is-put κs a x s p room) (six-lines .read-back (now (a .0)) hs d)
-
-pub explanation-tells : (κs μs : Lfts 2) → Gives (explanation.Learnt κs) (λ a x s. 165 ≤ length (now (a .1 .0)) →
-    Gives (explanation.Learnt μs) (λ b y t. 165 ≤ length (now (b .1 .0)) →
-    TellsAnswer (now (a .0)) (take x (now (s .1 .0))) (now (b .0)) (take y (now (t .1 .0)))))
-explanation-tells κs μs a x s p room b y t q room₂ bytes bytes₂ same = six-lines .tells (now (a .0)) (now (b .0)) bytes bytes₂
-    (sym (explanation-is-put κs a x s p room) ∙ same ∙ explanation-is-put μs b y t q room₂)
-
--- ---- settled, then printed: what is read from the text adds up to what settling wrote into the member's line, and decided on the charge that
--- it wrote
-
-said-outcome : (input : List ℕ) (b : Buffers) {file : List ℕ} → Accepts file b → 4 ≤ length input → Explanation.hourAsked input ≡ file →
-    Explanation.memberAsked input < members (hourIn file) → (hs : List ℤ) (d : Option ℕ) → Says (Explanation.explanation input) hs d →
-    ExplainsOutcome (hourIn file) (settling file b .buffers) (Explanation.memberAsked input) hs d
-said-outcome input b {file} accepts long same there hs d says =
-    rw same at (six-lines .as-settled input b hs d long (rw same accepts) (rw same there) says)
-
-pub settled-is-said : (κs : Lfts 6) (μs : Lfts 2) → Gives (settle.Learnt κs) (λ a x s. x .answer ≡ Accepted →
-    Gives (explanation.Learnt μs) (λ b y t. SaysOutcome (now (a .0))
-    (buffers (now (s .1 .1 .0)) (now (s .1 .1 .1 .0)) (now (s .1 .1 .1 .1 .0)) (now (s .1 .1 .1 .1 .1 .0)) (now (s .1 .0)))
-    (now (b .0)) (now (b .1 .0)) (take y (now (t .1 .0)))))
-settled-is-said κs μs a x s p accepts b y t q long same room there hs d says =
-    let lent = buffers (now (a .1 .1 .0)) (now (a .1 .1 .1 .0)) (now (a .1 .1 .1 .1 .0)) (now (a .1 .1 .1 .1 .1 .0)) (now (a .1 .0)) in
-    let e = said-outcome (now (b .0)) lent (sym (p .verdict-is) ∙ ap verdictOf accepts) long same there hs d
-    (rw (explanation-is-put μs b y t q room) at says) in
-    rw (ap (λ (z : Buffers). z .lines) (p .buffers-are), ap (λ (z : Buffers). z .charges) (p .buffers-are)) e
-
--- the same for C
-pub sneupelaar-settled-is-said : (κs : Lfts 6) (μs : Lfts 2) → Gives (sneupelaar-settle.Learnt κs) (λ a x s. x .number ≡ 0 → x .place ≡ 0 →
-    Gives (explanation.Learnt μs) (λ b y t. SaysOutcome (now (a .0))
-    (buffers (now (s .1 .1 .0)) (now (s .1 .1 .1 .0)) (now (s .1 .1 .1 .1 .0)) (now (s .1 .1 .1 .1 .1 .0)) (now (s .1 .0)))
-    (now (b .0)) (now (b .1 .0)) (take y (now (t .1 .0)))))
-sneupelaar-settled-is-said κs μs a x s p number place b y t q long same room there hs d says =
-    let lent = buffers (now (a .1 .1 .0)) (now (a .1 .1 .1 .0)) (now (a .1 .1 .1 .1 .0)) (now (a .1 .1 .1 .1 .1 .0)) (now (a .1 .0)) in
-    let accepts = sym (ap (λ (z : Settlement). z .verdict) p) ∙ ap₂ refusedAt number place in
-    let e = said-outcome (now (b .0)) lent accepts long same there hs d (rw (explanation-is-put μs b y t q room) at says) in
-    rw (ap (λ (z : Settlement). z .buffers .lines) p, ap (λ (z : Settlement). z .buffers .charges) p) e
-
--- ---- explained, then printed: the text says the numbers that were handed out
-
-said-explained : (input : List ℕ) {file : List ℕ} {m : ℕ} {e : Explanation.Explanation} → e ≡ Explanation.explain file m →
-    4 ≤ length input → Explanation.hourAsked input ≡ file → Explanation.memberAsked input ≡ m → e .verdict ≡ accepted →
-    Says (Explanation.explanation input) (e .heads) (e .decided)
-said-explained input {file} {m} {e} is long same same-member accepts = six-lines .read-back input (e .heads) (e .decided) .1
-    (long-enough input long ∙ ap₂ Explanation.explain same same-member ∙ sym is
-    ∙ ap (λ (v : Verdict). record { verdict = v; heads = e .heads; decided = e .decided }) accepts)
-
-pub explained-is-said : (κs : Lfts 1) (μs : Lfts 2) → Gives (explain.Learnt κs) (λ a x s. Gives (explanation.Learnt μs) (λ b y t.
-    SaysExplained (now (a .0)) (a .1 .0) (answered x) (now (b .0)) (now (b .1 .0)) (take y (now (t .1 .0)))))
-explained-is-said κs μs a x s p b y t q long same same-member room accepts =
-    rw (explanation-is-put μs b y t q room) (said-explained (now (b .0)) p long same same-member accepts)
-
--- the same for C
-pub sneupelaar-explained-is-said : (κs : Lfts 1) (μs : Lfts 2) → Gives (sneupelaar-explain.Learnt κs) (λ a x s.
-    Gives (explanation.Learnt μs) (λ b y t.
-    SaysExplained (now (a .0)) (a .1 .0) (explanationOf x) (now (b .0)) (now (b .1 .0)) (take y (now (t .1 .0)))))
-sneupelaar-explained-is-said κs μs a x s p b y t q long same same-member room accepts =
-    rw (explanation-is-put μs b y t q room) (said-explained (now (b .0)) p long same same-member accepts)

@@ -8,5 +8,6 @@ pub mod Filled
 pub mod Demanded
 pub mod HourFiles
 pub mod Explaining
+pub mod SixLines
 pub mod Asked
 pub mod Figures

@@ -1,28 +1,25 @@
--- What the contracts of settling, writing and explaining give, and those of what programs print: the customer's demands, stated of what was
--- handed in, what was answered and what was left in the buffers.
+-- What the contracts of settling, writing and explaining give: the customer's demands, stated of what was handed in, what was answered and
+-- what was left in the buffers.
 use mathlib.Core.Path.{_≡_}
 use mathlib.Core.Logic.{_↔_}
 use mathlib.Core.List.{List, _++_}
 use Prim.Native.Nat.{ℕ, _≤_, _<_}
 use mathlib.Core.Option.{Option, none}
 use lib.IntN.{ℤ, pos}
-use lib.ListN.{length, take, drop, getD}
+use lib.ListN.{length, drop, getD}
 use Rattle.rules.specs.Record.{Hour, members}
-use Rattle.rules.specs.Charge.{charge}
-use Rattle.rules.specs.Neutrality.{final}
 use Rattle.rules.specs.HourFile.{hourly, hourIn}
 use Rattle.rules.specs.HourWords.{hourFrom, headWords, recordWords}
 use Rattle.rules.specs.Refusals.{Verdict, accepted, refusedAt, verdict, Buffers, badLists}
 use Rattle.rules.specs.Refusals.{blockRows, formRows, fileRows, hourRows, settleRows, explainRows, listFormRows, writeHourRows}
 use Rattle.rules.specs.Settling.{settle, noFigures, emptyLine, HourWritten}
-use Rattle.rules.specs.Explanation.{Explanation, noHeads, memberAsked, hourAsked}
+use Rattle.rules.specs.Explanation.{Explanation, noHeads}
 use Rattle.rules.specs.Promised.Demands.{Accepts, ByFormula, FairOutcome}
-use Rattle.rules.specs.Promised.Finals.{NeutralOutcome, HeldToDemand, AreBytes, SameSheet, Shows}
+use Rattle.rules.specs.Promised.Finals.{NeutralOutcome, HeldToDemand, AreBytes}
 use Rattle.rules.specs.Promised.Writing.{lengthFor, fileIn}
 use Rattle.rules.specs.Promised.Imports.{FirstMetered}
 use Rattle.rules.specs.Promised.Engines.{HeldToMaximum}
 use Rattle.rules.specs.Promised.Deciding.{Explains}
-use Rattle.rules.specs.Promised.SixLines.{Says, answerTo}
 use Rattle.rules.specs.Ranges.{hourlyForm}
 
 -- the three demands of a settling and what document 02 asks of its finals (A1), of imports (A3) and of schedules (A6), by its file, its
@@ -85,38 +82,7 @@ pub record KeepsExplaining (file : List ℕ) (member : ℕ) (e : Explanation) : 
   pub held-to-demand : HeldToDemand file (e .verdict)
   pub held-to-maximum : HeldToMaximum (formRows hourlyForm file) (hourIn file) (e .verdict)
 
--- ---- what programs print, by what was handed in, the slice lent, the count answered and the slice afterwards
-
--- with room for the longest, the bytes put are this text, all of it and nothing else
-abbrev pub IsPut : (most : ℕ) (text lent : List ℕ) (count : ℕ) (after : List ℕ) → Type 0
-IsPut most text lent count after = most ≤ length lent → take count after ≡ text
-
--- of an accepted hour the statement that was put, read, gives each charge and each final (A1)
-abbrev pub IsReadBack : (file lent : List ℕ) (count : ℕ) (after : List ℕ) → Type 0
-IsReadBack file lent count after = 1095 ≤ length lent → verdict (hourRows file) ≡ accepted →
-    let h = hourIn file in Shows h (charge h) (final h) (take count after)
-
--- two statements that are the same say the same of both files (A1)
-abbrev pub Tells : (file sheet other otherSheet : List ℕ) → Type 0
-Tells file sheet other otherSheet = AreBytes file → AreBytes other → sheet ≡ otherSheet → SameSheet file other
-
--- of an explanation that was put: read, it says exactly what is answered to the input (A5)
-abbrev pub SaysAnswer : (input lent : List ℕ) (count : ℕ) (after : List ℕ) → Type 0
-SaysAnswer input lent count after = 165 ≤ length lent → (heads : List ℤ) (decided : Option ℕ) →
-    Says (take count after) heads decided ↔ (answerTo input ≡ record { verdict = accepted; heads = heads; decided = decided })
-
--- two explanations that are the same answer the same to both inputs (A5)
-abbrev pub TellsAnswer : (input text other otherText : List ℕ) → Type 0
-TellsAnswer input text other otherText = AreBytes input → AreBytes other → text ≡ otherText → answerTo input ≡ answerTo other
-
--- settled into buffers that hold this afterwards, then printed from an input that asks for this file: what is read from the text adds up to the
--- line of the member asked for, and decided on its charge (A5)
-abbrev pub SaysOutcome : (file : List ℕ) (after : Buffers) (input lent text : List ℕ) → Type 0
-SaysOutcome file after input lent text = 4 ≤ length input → hourAsked input ≡ file → 165 ≤ length lent →
-    let h = hourIn file in memberAsked input < members h →
-    (heads : List ℤ) (decided : Option ℕ) → Says text heads decided → ExplainsOutcome h after (memberAsked input) heads decided
-
--- explained, then printed from an input that asks for this file and member: the text says these heads and the head that decided (A5)
-abbrev pub SaysExplained : (file : List ℕ) (member : ℕ) → Explanation → (input lent text : List ℕ) → Type 0
-SaysExplained file member e input lent text = 4 ≤ length input → hourAsked input ≡ file → memberAsked input ≡ member → 165 ≤ length lent →
-    e .verdict ≡ accepted → Says text (e .heads) (e .decided)
+-- settled into buffers that hold this afterwards, then explained from the same file
+abbrev pub ExplainsSettled : (file : List ℕ) (after : Buffers) (handed : List ℕ) (member : ℕ) (heads : List ℤ) (decided : Option ℕ) → Type 0
+ExplainsSettled file after handed member heads decided =
+    handed ≡ file → let h = hourIn file in member < members h → ExplainsOutcome h after member heads decided

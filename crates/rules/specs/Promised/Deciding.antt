@@ -60,7 +60,7 @@ pub record Explaining : Type 0 where
       × Explains (hourIn s) m
       (getD (settle s b .buffers .lines) m emptyLine .amount) (getD (settle s b .buffers .charges) m (pos 0))
       (explain s m .heads) (explain s m .decided)
-  -- no two heads decide, on a tie neither
+  -- no two heads decide, not on a tie either
   pub one-decides : (charge : ℤ) (heads : List ℤ) (j k : ℕ) → Decides charge heads j → Decides charge heads k → j ≡ k
   -- 13 exactly where every row of the hour is passed and the member's number isn't below the member count
   pub no-member : (s : List ℕ) (m : ℕ) →

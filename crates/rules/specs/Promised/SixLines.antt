@@ -1,51 +1,24 @@
--- The lines that an explanation prints, read a second way: cut at line feeds and at blanks, whatever put them together. What is read is
--- what was answered, and it is tied to what settling wrote. Document 02, A5.
+-- The lines that an explanation prints, read as `Lines` reads them, whatever put them together. What is read is what was answered, and it is
+-- tied to what settling wrote. Document 02, A5.
 use Prim.Native.Nat.{ℕ, _<_, _≤_}
 use mathlib.Core.Path.{_≡_}
 use mathlib.Core.Logic.{_↔_}
-use mathlib.Core.Bool.{true, false, cond, _&&_}
-use mathlib.Core.Option.{Option, none, some, bind}
+use mathlib.Core.Bool.{cond}
+use mathlib.Core.Option.{Option, none, some}
 use mathlib.Core.List.{List, [], _∷_}
 use lib.IntN.{ℤ, pos}
 use lib.ListN.{length, getD}
-use lib.Dec.{leb, ltb, eqb}
+use lib.Dec.{ltb}
 use Rattle.rules.specs.Record.{members}
-use Rattle.rules.specs.Text.{bytes, digitCount, digitsValue, withMinus}
+use Rattle.rules.specs.Text.{bytes}
 use Rattle.rules.specs.HourFile.{hourIn}
 use Rattle.rules.specs.Refusals.{accepted, refusedAt, Buffers}
 use Rattle.rules.specs.Settling.{settle, emptyLine}
 use Rattle.rules.specs.Explanation.{Explanation, noHeads, headAt, explain, memberAsked, hourAsked, explanation}
+use Rattle.rules.specs.Promised.Lines.{lines, lineAt, words, wordAt, numberIn, SaysRefused}
 use Rattle.rules.specs.Promised.Demands.{Accepts}
 use Rattle.rules.specs.Promised.Deciding.{Explains}
 use Rattle.rules.specs.Promised.Finals.{AreBytes}
-
--- ---- a text in parts
-
-abbrev pub inFirst : ℕ → List (List ℕ) → List (List ℕ)
-inFirst c [] = (c ∷ []) ∷ []
-inFirst c (part ∷ parts) = (c ∷ part) ∷ parts
-
--- what stands before, between and after the bytes of this value: one part more than there are such bytes
-unfoldable pub partsAt : (byte : ℕ) → List ℕ → List (List ℕ)
-partsAt byte [] = [] ∷ []
-partsAt byte (c ∷ s) = cond (eqb c byte) ([] ∷ partsAt byte s) (inFirst c (partsAt byte s))
-
--- a line feed is 10
-abbrev pub lines : List ℕ → List (List ℕ)
-lines text = partsAt 10 text
-
--- a blank is 32
-abbrev pub words : List ℕ → List (List ℕ)
-words line = partsAt 32 line
-
--- ---- a number: digits and nothing else, one at least, and - (45) before them if it is negative
-
-unfoldable pub naturalIn : List ℕ → Option ℕ
-naturalIn s = cond (leb 1 (length s) && eqb (digitCount s) (length s)) (some (digitsValue s (length s))) none
-
-unfoldable pub numberIn : List ℕ → Option ℤ
-numberIn [] = none
-numberIn (c ∷ s) = cond (eqb c 45) (bind (naturalIn s) (withMinus true)) (bind (naturalIn (c ∷ s)) (withMinus false))
 
 -- ---- six lines
 
@@ -59,12 +32,9 @@ nameOrNone (some k) = name k
 
 -- a line of two words: this one and a number
 pub record SaysNumber (line word : List ℕ) (number : ℤ) : Type 0 where
-  pub digits : List ℕ
-  pub two-words : words line ≡ word ∷ digits ∷ []
-  pub number-read : numberIn digits ≡ some number
-
-abbrev pub lineAt : List ℕ → ℕ → List ℕ
-lineAt text k = getD (lines text) k []
+  pub two-words : length (words line) ≡ 2
+  pub word-is : wordAt line 0 ≡ word
+  pub number-read : numberIn (wordAt line 1) ≡ some number
 
 -- a text that says these five heads and which of them decided
 pub record Says (text : List ℕ) (heads : List ℤ) (decided : Option ℕ) : Type 0 where
@@ -85,9 +55,11 @@ answerTo s = cond (ltb (length s) 4)
 pub record SixLines : Type 0 where
   -- a text says one thing at most
   pub one-reading : (text : List ℕ) (hs gs : List ℤ) (d e : Option ℕ) → Says text hs d → Says text gs e → (hs ≡ gs) × (d ≡ e)
-  -- what is printed says exactly what was answered, and a refusal says nothing of the kind
+  -- what is printed says exactly what was answered
   pub read-back : (s : List ℕ) (hs : List ℤ) (d : Option ℕ) →
       Says (explanation s) hs d ↔ (answerTo s ≡ record { verdict = accepted; heads = hs; decided = d })
+  -- or it says the refusal, and nothing else
+  pub refused-read : (s : List ℕ) → AreBytes s → (answerTo s .verdict ≡ accepted → ⊥) → SaysRefused (explanation s) (answerTo s .verdict)
   -- of an hour that settling accepts, into any buffers: what is read adds up to the member's line, and decided on its charge
   pub as-settled : (s : List ℕ) (b : Buffers) (hs : List ℤ) (d : Option ℕ) → let h = hourIn (hourAsked s) in let m = memberAsked s in
       4 ≤ length s → Accepts (hourAsked s) b → m < members h → Says (explanation s) hs d →
