@@ -16,7 +16,7 @@ use Rattle.rules.specs.Text.{bytes, digitByte, digitsUpTo, decimal, digi
 use Rattle.rules.specs.Refusals.{Verdict}
 use Rattle.rules.specs.Statement.{refusedLine}
 use Rattle.rules.specs.Explanation.{signedDecimal}
-use Rattle.rules.specs.Promised.Lines.{partsAt, lines, words, naturalIn, numberIn, SaysRefused}
+use Rattle.rules.specs.Promised.Lines.{partsAt, linesOf, wordsOf, naturalIn, numberIn, SaysRefused}
 use Rattle.rules.proofs.Digits.{DigitsOf, one, more, all-counted, make-the-number, decimal-digits, decimal-at-least-1}
 
 -- ---- parts
@@ -94,7 +94,7 @@ number-read (negsuc n) h = rw (natural-read (suc n) h)
 abbrev pub refusedText : Verdict → List ℕ
 refusedText v = bytes "refused " ++ decimal (v .number) ++ bytes " at " ++ decimal (v .place)
 
-pub refused-cut : (v : Verdict) → lines (refusedLine v) ≡ refusedText v ∷ [] ∷ []
+pub refused-cut : (v : Verdict) → linesOf (refusedLine v) ≡ refusedText v ∷ [] ∷ []
 unfolding refusedLine partsAt lacks
 refused-cut v = part-and-rest 10 (refusedText v) []
     (lacks-both 10 (bytes "refused " ++ decimal (v .number) ++ bytes " at ") (decimal (v .place))
@@ -102,7 +102,7 @@ refused-cut v = part-and-rest 10 (refusedText v) []
     (decimal-lacks 10 (omega arith) (v .number)) refl)
     (decimal-lacks 10 (omega arith) (v .place)))
 
-refused-words : (v : Verdict) → words (refusedText v)
+refused-words : (v : Verdict) → wordsOf (refusedText v)
     ≡ bytes "refused" ∷ decimal (v .number) ∷ bytes "at" ∷ decimal (v .place) ∷ []
 unfolding lacks
 refused-words v = simp append-assoc (

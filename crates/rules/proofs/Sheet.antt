@@ -21,7 +21,7 @@ use Rattle.rules.specs.Refusals.{accepted, verdict, hourRows, writeAmoun
 use Rattle.rules.specs.Settling.{isAccepted, Written, write, read}
 use Rattle.rules.specs.Statement.{firstLine, column, memberLine, memberLines, acceptedLines, statement}
 use Rattle.rules.specs.Inner.Kept.{HourKept}
-use Rattle.rules.specs.Promised.Lines.{partsAt, lines, lineAt, words, naturalIn}
+use Rattle.rules.specs.Promised.Lines.{partsAt, linesOf, lineAt, wordsOf, naturalIn}
 use Rattle.rules.specs.Promised.Finals.{AreBytes, memberLineAt, chargeColumn, finalColumn, SaysCounts, Shows}
 use Rattle.rules.proofs.Digits.{is-digit}
 use Rattle.rules.proofs.PartsCut.{lacks, lacks-both, part-and-rest, last-part, digit-lacks, decimal-lacks, natural-read}
@@ -79,8 +79,8 @@ module _ (m : ℕ) (c f : ℤ) where
       (lacks-both 10 (column c) (bytes " " ++ column f) (column-lacks c) (column-lacks f))
 
   -- it is cut off at its line feed
-  member-cut : (rest : List ℕ) → lines (memberLine m c f ++ rest) ≡ memberText ∷ lines rest
-  member-cut rest = ap lines (ap (λ (l : List ℕ). l ++ rest) line-is ∙ append-assoc memberText (bytes "\n") rest)
+  member-cut : (rest : List ℕ) → linesOf (memberLine m c f ++ rest) ≡ memberText ∷ linesOf rest
+  member-cut rest = ap linesOf (ap (λ (l : List ℕ). l ++ rest) line-is ∙ append-assoc memberText (bytes "\n") rest)
       ∙ part-and-rest 10 memberText rest text-lacks
 
   -- the charge stands at place 3, the final at place 18
@@ -119,14 +119,14 @@ module _ (h : Hour) where
   abbrev text : ℕ → List ℕ
   text m = memberText m (charge h m) (final h m)
 
-  members-cut : (n : ℕ) (rest : List ℕ) → lines (memberLines h n ++ rest) ≡ valuesBelow text n ++ lines rest
+  members-cut : (n : ℕ) (rest : List ℕ) → linesOf (memberLines h n ++ rest) ≡ valuesBelow text n ++ linesOf rest
   unfolding memberLines valuesBelow
   members-cut zero rest = refl
   members-cut (suc n) rest = let line = memberLine n (charge h n) (final h n) in
-      ap lines (append-assoc (memberLines h n) line rest)
+      ap linesOf (append-assoc (memberLines h n) line rest)
       ∙ members-cut n (line ++ rest)
       ∙ ap (λ (ls : List (List ℕ)). valuesBelow text n ++ ls) (member-cut n (charge h n) (final h n) rest)
-      ∙ sym (append-assoc (valuesBelow text n) (text n ∷ []) (lines rest))
+      ∙ sym (append-assoc (valuesBelow text n) (text n ∷ []) (linesOf rest))
 
   abbrev firstText : List ℕ
   firstText = bytes "hour " ++ decimal (hourNumber h) ++ bytes " members " ++ decimal (members h) ++ bytes " records " ++ decimal (h .count)
@@ -143,13 +143,13 @@ module _ (h : Hour) where
   abbrev shown : List (List ℕ)
   shown = firstText ∷ (valuesBelow text (members h) ++ [] ∷ [])
 
-  sheet-cut : lines (acceptedLines h) ≡ shown
+  sheet-cut : linesOf (acceptedLines h) ≡ shown
   unfolding acceptedLines firstLine partsAt
-  sheet-cut = ap lines (append-assoc firstText (bytes "\n") (memberLines h (members h)))
+  sheet-cut = ap linesOf (append-assoc firstText (bytes "\n") (memberLines h (members h)))
       ∙ part-and-rest 10 firstText (memberLines h (members h)) first-lacks
-      ∙ ap (λ (ls : List (List ℕ)). firstText ∷ ls) (ap lines (sym (append-nil (memberLines h (members h)))) ∙ members-cut (members h) [])
+      ∙ ap (λ (ls : List (List ℕ)). firstText ∷ ls) (ap linesOf (sym (append-nil (memberLines h (members h)))) ∙ members-cut (members h) [])
 
-  first-words : words firstText ≡ bytes "hour" ∷ decimal (hourNumber h) ∷ bytes "members" ∷ decimal (members h)
+  first-words : wordsOf firstText ≡ bytes "hour" ∷ decimal (hourNumber h) ∷ bytes "members" ∷ decimal (members h)
       ∷ bytes "records" ∷ decimal (h .count) ∷ []
   unfolding lacks
   first-words = let digits = decimal-lacks 32 (omega arith) in simp append-assoc (

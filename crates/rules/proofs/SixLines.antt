@@ -23,9 +23,9 @@ use Rattle.rules.specs.Explanation.{Explanation, heads, decided, noHeads
 use Rattle.rules.specs.Explanation.{explain, explanationLines, worded, memberAsked, hourAsked, explanation}
 use Rattle.rules.specs.Promised.Demands.{Accepts}
 use Rattle.rules.specs.Promised.Deciding.{Explains}
-use Rattle.rules.specs.Promised.Lines.{partsAt, lines, lineAt, words, SaysRefused}
+use Rattle.rules.specs.Promised.Lines.{partsAt, linesOf, lineAt, wordsOf, SaysRefused}
 use Rattle.rules.specs.Promised.Finals.{AreBytes}
-use Rattle.rules.specs.Promised.SixLines.{name, nameOrNone, SaysNumber, Says, answerTo, SixLines}
+use Rattle.rules.specs.Promised.SixLines.{nameAt, nameOrNone, SaysNumber, SaysHeads, answerTo, SixLines}
 use Rattle.rules.proofs.Rows.{accepts-when-whole, zero-accepts, whole-parts, hour-numbered}
 use Rattle.rules.proofs.Kept.{passed-kept}
 use Rattle.rules.proofs.Heads.{heads-posted, heads-running, five-heads}
@@ -56,17 +56,17 @@ unfolding lacks
 decided-lacks none = (refl, refl)
 decided-lacks (some k) = name-lacks k
 
-line-cut : (k : ℕ) (z : ℤ) (rest : List ℕ) → lines (headLine k z ++ rest) ≡ headText k z ∷ lines rest
+line-cut : (k : ℕ) (z : ℤ) (rest : List ℕ) → linesOf (headLine k z ++ rest) ≡ headText k z ∷ linesOf rest
 unfolding headLine lacks
-line-cut k z rest = ap lines (append-assoc (headText k z) (bytes "\n") rest) ∙ part-and-rest 10 (headText k z) rest
+line-cut k z rest = ap linesOf (append-assoc (headText k z) (bytes "\n") rest) ∙ part-and-rest 10 (headText k z) rest
     (lacks-both 10 (headName k ++ bytes " ") (signedDecimal z) (lacks-both 10 (headName k) (bytes " ") (name-lacks k .0) refl)
     (signed-lacks 10 (omega arith) z))
 
-decided-cut : (d : Option ℕ) → lines (decidedLine d) ≡ (bytes "decided " ++ decidedName d) ∷ [] ∷ []
+decided-cut : (d : Option ℕ) → linesOf (decidedLine d) ≡ (bytes "decided " ++ decidedName d) ∷ [] ∷ []
 unfolding decidedLine lacks partsAt
 decided-cut d = part-and-rest 10 (bytes "decided " ++ decidedName d) [] (decided-lacks d .0)
 
-cut : (hs : List ℤ) (d : Option ℕ) → lines (explanationLines hs d)
+cut : (hs : List ℤ) (d : Option ℕ) → linesOf (explanationLines hs d)
     ≡ headText 0 (headAt hs 0) ∷ headText 1 (headAt hs 1) ∷ headText 2 (headAt hs 2) ∷ headText 3 (headAt hs 3) ∷ headText 4 (headAt hs 4)
     ∷ (bytes "decided " ++ decidedName d) ∷ [] ∷ []
 unfolding explanationLines
@@ -74,18 +74,18 @@ cut hs d = simp (append-assoc, line-cut, decided-cut)
 
 -- ---- they say the heads and the head that decided
 
-head-words : (k : ℕ) (z : ℤ) → words (headText k z) ≡ headName k ∷ signedDecimal z ∷ []
+head-words : (k : ℕ) (z : ℤ) → wordsOf (headText k z) ≡ headName k ∷ signedDecimal z ∷ []
 unfolding lacks
-head-words k z = ap words (append-assoc (headName k) (bytes " ") (signedDecimal z))
+head-words k z = ap wordsOf (append-assoc (headName k) (bytes " ") (signedDecimal z))
     ∙ part-and-rest 32 (headName k) (signedDecimal z) (name-lacks k .1)
     ∙ ap (λ (t : List (List ℕ)). headName k ∷ t) (last-part 32 (signedDecimal z) (signed-lacks 32 (omega arith) z))
 
-decided-words : (d : Option ℕ) → words (bytes "decided " ++ decidedName d) ≡ bytes "decided" ∷ decidedName d ∷ []
+decided-words : (d : Option ℕ) → wordsOf (bytes "decided " ++ decidedName d) ≡ bytes "decided" ∷ decidedName d ∷ []
 unfolding lacks
 decided-words d = part-and-rest 32 (bytes "decided") (decidedName d) refl
     ∙ ap (λ (t : List (List ℕ)). bytes "decided" ∷ t) (last-part 32 (decidedName d) (decided-lacks d .1))
 
-says-number : (k : ℕ) (z : ℤ) → natAbs z < 10 ^ 20 → SaysNumber (headText k z) (name k) z
+says-number : (k : ℕ) (z : ℤ) → natAbs z < 10 ^ 20 → SaysNumber (headText k z) (nameAt k) z
 says-number k z h = record {
   two-words = rw (head-words k z);
   word-is = rw (head-words k z);
@@ -98,7 +98,7 @@ same-name (some k) = refl
 
 module _ (hs : List ℤ) (d : Option ℕ) (five : length hs ≡ 5) (small : (k : ℕ) → natAbs (headAt hs k) < 10 ^ 20)
     (one-of-five : (k : ℕ) → d ≡ some k → k < 5) where
-  head-said : (k : ℕ) → k < 5 → SaysNumber (lineAt (explanationLines hs d) k) (name k) (headAt hs k)
+  head-said : (k : ℕ) → k < 5 → SaysNumber (lineAt (explanationLines hs d) k) (nameAt k) (headAt hs k)
   head-said zero l = rw (cut hs d) (says-number 0 (headAt hs 0) (small 0))
   head-said (suc zero) l = rw (cut hs d) (says-number 1 (headAt hs 1) (small 1))
   head-said (suc (suc zero)) l = rw (cut hs d) (says-number 2 (headAt hs 2) (small 2))
@@ -106,7 +106,7 @@ module _ (hs : List ℤ) (d : Option ℕ) (five : length hs ≡ 5) (small : (k :
   head-said (suc (suc (suc (suc zero)))) l = rw (cut hs d) (says-number 4 (headAt hs 4) (small 4))
   head-said (suc (suc (suc (suc (suc k))))) l = absurd (omega arith)
 
-  lines-say : Says (explanationLines hs d) hs d
+  lines-say : SaysHeads (explanationLines hs d) hs d
   lines-say = record {
     six-lines = rw (cut hs d);
     nothing-else = rw (cut hs d);
@@ -136,7 +136,7 @@ by-first-letter (some (suc (suc (suc zero)))) five = refl
 by-first-letter (some (suc (suc (suc (suc zero))))) five = refl
 by-first-letter (some (suc (suc (suc (suc (suc k)))))) five = absurd (omega (arith, five _ refl))
 
-one-reading : (text : List ℕ) (hs gs : List ℤ) (d e : Option ℕ) → Says text hs d → Says text gs e → (hs ≡ gs) × (d ≡ e)
+one-reading : (text : List ℕ) (hs gs : List ℤ) (d e : Option ℕ) → SaysHeads text hs d → SaysHeads text gs e → (hs ≡ gs) × (d ≡ e)
 one-reading text hs gs d e a b = (
   ext-getD (pos 0) hs gs (a .five-heads ∙ sym (b .five-heads))
       (λ k l. let five : k < 5 = omega (arith, a .five-heads) in one-number (a .head-said k five) (b .head-said k five)),
@@ -148,7 +148,7 @@ one-reading text hs gs d e a b = (
 -- ---- what is answered
 
 data Answered (e : Explanation) : Type 0 where
-  explained : e .verdict ≡ accepted → Says (worded e) (e .heads) (e .decided) → Answered e
+  explained : e .verdict ≡ accepted → SaysHeads (worded e) (e .heads) (e .decided) → Answered e
   refused : (e .verdict .number ≡ 0 → ⊥) → e .heads ≡ noHeads → e .decided ≡ none → Answered e
 
 same-answer : {e f : Explanation} → e .verdict ≡ f .verdict → e .heads ≡ f .heads → e .decided ≡ f .decided → e ≡ f
@@ -161,17 +161,17 @@ worded-refused : (e : Explanation) → (e .verdict .number ≡ 0 → ⊥) → wo
 unfolding worded
 worded-refused e r = rw (ne-eqb (e .verdict .number) 0 r)
 
-says-alike : {text : List ℕ} {hs gs : List ℤ} {d c : Option ℕ} → hs ≡ gs → d ≡ c → Says text hs d → Says text gs c
+says-alike : {text : List ℕ} {hs gs : List ℤ} {d c : Option ℕ} → hs ≡ gs → d ≡ c → SaysHeads text hs d → SaysHeads text gs c
 says-alike p q says = rw (p, q) at says
 
 says-exactly : (e : Explanation) → Answered e → (hs : List ℤ) (d : Option ℕ) →
-    Says (worded e) hs d ↔ (e ≡ record { verdict = accepted; heads = hs; decided = d })
+    SaysHeads (worded e) hs d ↔ (e ≡ record { verdict = accepted; heads = hs; decided = d })
 says-exactly e (explained v says) hs d = (
   λ t. let one = one-reading (worded e) (e .heads) hs (e .decided) d says t in same-answer v (one .0) (one .1),
   λ t. says-alike (ap (λ (x : Explanation). x .heads) t) (ap (λ (x : Explanation). x .decided) t) says,
 )
 says-exactly e (refused r hs₀ d₀) hs d = (
-  λ t. absurd (omega (arith, t .six-lines, ap (λ (x : List ℕ). length (lines x)) (worded-refused e r), ap length (refused-cut (e .verdict)))),
+  λ t. absurd (omega (arith, t .six-lines, ap (λ (x : List ℕ). length (linesOf x)) (worded-refused e r), ap length (refused-cut (e .verdict)))),
   λ t. absurd (r (ap (λ (x : Explanation). x .verdict .number) t)),
 )
 
@@ -252,11 +252,11 @@ refused-read s bytes r = rw (answer-worded s) (of (answerTo s) (answered s) (sma
     of e (refused q hs d) l r = rw (worded-refused e q) (says-refused (e .verdict) (l .0) (l .1))
 
 read-back : (s : List ℕ) (hs : List ℤ) (d : Option ℕ) →
-    Says (explanation s) hs d ↔ (answerTo s ≡ record { verdict = accepted; heads = hs; decided = d })
+    SaysHeads (explanation s) hs d ↔ (answerTo s ≡ record { verdict = accepted; heads = hs; decided = d })
 read-back s hs d = rw (answer-worded s) (says-exactly (answerTo s) (answered s) hs d)
 
 as-settled : (s : List ℕ) (b : Buffers) (hs : List ℤ) (d : Option ℕ) → let h = hourIn (hourAsked s) in let m = memberAsked s in
-    4 ≤ length s → Accepts (hourAsked s) b → m < members h → Says (explanation s) hs d →
+    4 ≤ length s → Accepts (hourAsked s) b → m < members h → SaysHeads (explanation s) hs d →
     let after = settle (hourAsked s) b .buffers in
     Explains h m (getD (after .lines) m emptyLine .amount) (getD (after .charges) m (pos 0)) hs d
 as-settled s b hs d l accepts there says =

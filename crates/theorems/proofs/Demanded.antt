@@ -9,7 +9,6 @@ use lib.ListN.{length, take}
 use contract.Lifetimes.{Lfts}
 use denote.Ref.{now}
 use Rattle.rules.specs.declared.Answer.the-variants.{Accepted}
-use Rattle.rules.specs.declared.Line.{Line}
 use Rattle.rules.specs.Refusals.{Verdict, refusedAt, verdictOf, verdict, hourRows, Buffers}
 use Rattle.rules.specs.Settling.{Settlement, settle as settling}
 use Rattle.rules.specs.Statement as Statement
@@ -28,7 +27,7 @@ use Rattle.pool.specs.Unlined.{unlined, withLines, ownLines}
 use Rattle.report.specs.Stated.{HasStated}
 use Rattle.printing.proofs.Showing.{whole-text}
 use Rattle.theorems.specs.Determined.{Gives}
-use Rattle.theorems.specs.Demanded.{KeepsDemands}
+use Rattle.theorems.specs.Demanded.{KeepsDemands, KeepsDemandsUnlined}
 use Rattle.theorems.specs.Texts.{IsPut, IsPutOfCut, IsReadBack, CountsAreRead, SaysRefusal, Tells, ShowsSettled}
 use Rattle.theorems.specs.Given.{IsReadAs, IsWrittenAs, IsWritten, IsRead, IsBody, IsKept}
 use Rattle.amount.proofs.write.Reads as write
@@ -64,10 +63,10 @@ pub settle-keeps-demands : (κs : Lfts 6) → Gives (settle.Learnt κs) (λ a x 
 settle-keeps-demands κs a x s p = keeps (p .verdict-is) (p .ufe-is) (p .buffers-are)
 
 -- with the lines that it made itself
-pub settle-unlined-keeps-demands : (κs : Lfts 5) → Gives (settle-unlined.Learnt κs) (λ a x s. (lines : List Line) × KeepsDemands (now (a .0))
+pub settle-unlined-keeps-demands : (κs : Lfts 5) → Gives (settle-unlined.Learnt κs) (λ a x s. KeepsDemandsUnlined (now (a .0))
     (withLines (unlined (now (a .1 .0)) (now (a .1 .1 .0)) (now (a .1 .1 .1 .0)) (now (a .1 .1 .1 .1 .0))) ownLines)
     (verdictOf (x .answer)) (x .ufe)
-    (withLines (unlined (now (s .1 .0)) (now (s .1 .1 .0)) (now (s .1 .1 .1 .0)) (now (s .1 .1 .1 .1 .0))) lines))
+    (withLines (unlined (now (s .1 .0)) (now (s .1 .1 .0)) (now (s .1 .1 .1 .0)) (now (s .1 .1 .1 .1 .0)))))
 settle-unlined-keeps-demands κs a x s p =
     (p .lines, keeps (p .fits .verdict-is) (p .fits .ufe-is) (p .fits .buffers-are))
 

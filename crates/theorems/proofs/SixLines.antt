@@ -15,7 +15,7 @@ use Rattle.rules.specs.Refusals.{Verdict, accepted, refusedAt, verdictOf, Buffe
 use Rattle.rules.specs.Settling.{Settlement, settle as settling}
 use Rattle.rules.specs.Explanation as Explanation
 use Rattle.rules.specs.Promised.Demands.{Accepts}
-use Rattle.rules.specs.Promised.SixLines.{Says, answerTo}
+use Rattle.rules.specs.Promised.SixLines.{SaysHeads, answerTo}
 use Rattle.rules.proofs.SixLines.{long-enough, six-lines}
 use Rattle.pool.specs.Buffers.{buffers}
 use Rattle.explain.specs.Answered.{answered}
@@ -51,7 +51,7 @@ explanation-tells κs μs a x s p room b y t q room₂ bytes bytes₂ same = six
 -- it wrote
 
 said-outcome : (input : List ℕ) (b : Buffers) {file : List ℕ} → Accepts file b → 4 ≤ length input → Explanation.hourAsked input ≡ file →
-    Explanation.memberAsked input < members (hourIn file) → (hs : List ℤ) (d : Option ℕ) → Says (Explanation.explanation input) hs d →
+    Explanation.memberAsked input < members (hourIn file) → (hs : List ℤ) (d : Option ℕ) → SaysHeads (Explanation.explanation input) hs d →
     ExplainsOutcome (hourIn file) (settling file b .buffers) (Explanation.memberAsked input) hs d
 said-outcome input b {file} accepts long same there hs d says =
     rw same at (six-lines .as-settled input b hs d long (rw same accepts) (rw same there) says)
@@ -81,7 +81,7 @@ sneupelaar-settled-is-said κs μs a x s p number place b y t q long same room t
 
 said-explained : (input : List ℕ) {file : List ℕ} {m : ℕ} {e : Explanation.Explanation} → e ≡ Explanation.explain file m →
     4 ≤ length input → Explanation.hourAsked input ≡ file → Explanation.memberAsked input ≡ m → e .verdict ≡ accepted →
-    Says (Explanation.explanation input) (e .heads) (e .decided)
+    SaysHeads (Explanation.explanation input) (e .heads) (e .decided)
 said-explained input {file} {m} {e} is long same same-member accepts = six-lines .read-back input (e .heads) (e .decided) .1
     (long-enough input long ∙ ap₂ Explanation.explain same same-member ∙ sym is
     ∙ ap (λ (v : Verdict). record { verdict = v; heads = e .heads; decided = e .decided }) accepts)

@@ -7,6 +7,7 @@ use Prim.Native.Nat.{ℕ, _≤_, _<_}
 use mathlib.Core.Option.{Option, none}
 use lib.IntN.{ℤ, pos}
 use lib.ListN.{length, drop, getD}
+use Rattle.rules.specs.declared.Line.{Line}
 use Rattle.rules.specs.Record.{Hour, members}
 use Rattle.rules.specs.HourFile.{hourly, hourIn}
 use Rattle.rules.specs.HourWords.{hourFrom, headWords, recordWords}
@@ -39,6 +40,10 @@ pub record KeepsDemands (file : List ℕ) (before : Buffers) (told : Verdict) (u
   pub metered-import : (i : ℕ) → verdict (blockRows hourly file) ≡ accepted → FirstMetered (hourIn file) i → told ≡ refusedAt 5 i
   -- A6: 14 exactly where rows 1 to 5 are passed and a generator is scheduled above its maximum, at the first; accepted, none is
   pub held-to-maximum : HeldToMaximum (formRows hourlyForm file) (hourIn file) told
+
+-- of a settling that makes its lines itself: with those that it made
+abbrev pub KeepsDemandsUnlined : (file : List ℕ) (before : Buffers) → Verdict → (ufes : List ℤ) (withLines : List Line → Buffers) → Type 0
+KeepsDemandsUnlined file before told ufes withLines = (lines : List Line) × KeepsDemands file before told ufes (withLines lines)
 
 -- what document 02 asks of the writer (A2), of imports (A3) and of schedules (A6), by its head, records and buffer before, and by what was
 -- answered and left

@@ -15,7 +15,7 @@ use Rattle.rules.specs.Refusals.{Verdict, accepted, verdict, hourRows, Buffers}
 use Rattle.rules.specs.Explanation.{Explanation, memberAsked, hourAsked}
 use Rattle.rules.specs.Promised.Lines.{lineAt, SaysRefused}
 use Rattle.rules.specs.Promised.Finals.{AreBytes, SameSheet, SaysCounts, Shows, ShowsOutcome}
-use Rattle.rules.specs.Promised.SixLines.{Says, answerTo}
+use Rattle.rules.specs.Promised.SixLines.{SaysHeads, answerTo}
 use Rattle.theorems.specs.Demanded.{ExplainsOutcome}
 
 -- ---- any of them
@@ -57,7 +57,7 @@ ShowsSettled file after handed lent sheet = handed ≡ file → 1095 ≤ length 
 -- of an explanation that was put: read, it says exactly what is answered to the input (A5)
 abbrev pub SaysAnswer : (input lent : List ℕ) (count : ℕ) (after : List ℕ) → Type 0
 SaysAnswer input lent count after = 165 ≤ length lent → (heads : List ℤ) (decided : Option ℕ) →
-    Says (take count after) heads decided ↔ (answerTo input ≡ record { verdict = accepted; heads = heads; decided = decided })
+    SaysHeads (take count after) heads decided ↔ (answerTo input ≡ record { verdict = accepted; heads = heads; decided = decided })
 
 -- two explanations that are the same answer the same to both inputs (A5)
 abbrev pub TellsAnswer : (input text other otherText : List ℕ) → Type 0
@@ -68,9 +68,9 @@ TellsAnswer input text other otherText = AreBytes input → AreBytes other → t
 abbrev pub SaysOutcome : (file : List ℕ) (after : Buffers) (input lent text : List ℕ) → Type 0
 SaysOutcome file after input lent text = 4 ≤ length input → hourAsked input ≡ file → 165 ≤ length lent →
     let h = hourIn file in memberAsked input < members h →
-    (heads : List ℤ) (decided : Option ℕ) → Says text heads decided → ExplainsOutcome h after (memberAsked input) heads decided
+    (heads : List ℤ) (decided : Option ℕ) → SaysHeads text heads decided → ExplainsOutcome h after (memberAsked input) heads decided
 
 -- explained, then printed from an input that asks for this file and member: the text says these heads and the head that decided (A5)
 abbrev pub SaysExplained : (file : List ℕ) (member : ℕ) → Explanation → (input lent text : List ℕ) → Type 0
 SaysExplained file member e input lent text = 4 ≤ length input → hourAsked input ≡ file → memberAsked input ≡ member → 165 ≤ length lent →
-    e .verdict ≡ accepted → Says text (e .heads) (e .decided)
+    e .verdict ≡ accepted → SaysHeads text (e .heads) (e .decided)

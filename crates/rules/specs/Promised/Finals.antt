@@ -21,7 +21,7 @@ use Rattle.rules.specs.Settling.{settle, read}
 use Rattle.rules.specs.Statement.{statement}
 use Rattle.rules.specs.Explanation.{explain}
 use Rattle.rules.specs.Share.{rankedSize}
-use Rattle.rules.specs.Promised.Lines.{lines, lineAt, words, wordAt, naturalIn, SaysRefused}
+use Rattle.rules.specs.Promised.Lines.{linesOf, lineAt, wordsOf, wordAt, naturalIn, SaysRefused}
 use Rattle.rules.specs.Promised.Demands.{Accepts}
 
 -- ---- the finals add up to nothing
@@ -83,7 +83,7 @@ finalColumn m sheet = take 14 (drop 18 (memberLineAt m sheet))
 
 -- line 1: six words, three of them numbers
 pub record SaysCounts (line : List ℕ) (hour memberCount recordCount : ℕ) : Type 0 where
-  pub six-words : length (words line) ≡ 6
+  pub six-words : length (wordsOf line) ≡ 6
   pub hour-said : (wordAt line 0 ≡ bytes "hour") × (naturalIn (wordAt line 1) ≡ some hour)
   pub members-said : (wordAt line 2 ≡ bytes "members") × (naturalIn (wordAt line 3) ≡ some memberCount)
   pub records-said : (wordAt line 4 ≡ bytes "records") × (naturalIn (wordAt line 5) ≡ some recordCount)
@@ -101,7 +101,7 @@ pub record SameSheet (s t : List ℕ) : Type 0 where
 -- a sheet that shows these charges and finals: read, the columns of each member's line give them
 pub record Shows (h : Hour) (chargeAt finalAt : ℕ → ℤ) (sheet : List ℕ) : Type 0 where
   -- line 1 and a line a member, each with its line feed, and nothing after the last
-  pub line-count : length (lines sheet) ≡ members h + 2
+  pub line-count : length (linesOf sheet) ≡ members h + 2
   pub nothing-else : lineAt sheet (suc (members h)) ≡ []
   -- two digits, a blank, 14 columns, a blank, 14 columns
   pub in-columns : (m : ℕ) → m < members h → let line = memberLineAt m sheet in

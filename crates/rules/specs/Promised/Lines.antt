@@ -23,18 +23,18 @@ partsAt byte [] = [] ∷ []
 partsAt byte (c ∷ s) = cond (eqb c byte) ([] ∷ partsAt byte s) (inFirst c (partsAt byte s))
 
 -- a line feed is 10; what stands after the last one counts as a line
-abbrev pub lines : List ℕ → List (List ℕ)
-lines text = partsAt 10 text
+abbrev pub linesOf : List ℕ → List (List ℕ)
+linesOf text = partsAt 10 text
 
 abbrev pub lineAt : List ℕ → ℕ → List ℕ
-lineAt text k = getD (lines text) k []
+lineAt text k = getD (linesOf text) k []
 
 -- a blank is 32
-abbrev pub words : List ℕ → List (List ℕ)
-words line = partsAt 32 line
+abbrev pub wordsOf : List ℕ → List (List ℕ)
+wordsOf line = partsAt 32 line
 
 abbrev pub wordAt : List ℕ → ℕ → List ℕ
-wordAt line k = getD (words line) k []
+wordAt line k = getD (wordsOf line) k []
 
 -- ---- a number: digits and nothing else, one at least, and - (45) before them if it is negative
 
@@ -48,9 +48,9 @@ numberIn (c ∷ s) = cond (eqb c 45) (bind (naturalIn s) (withMinus true)) (bind
 -- ---- a refusal: one line and nothing else, of four words
 
 pub record SaysRefused (text : List ℕ) (v : Verdict) : Type 0 where
-  pub one-line : length (lines text) ≡ 2
+  pub one-line : length (linesOf text) ≡ 2
   pub nothing-else : lineAt text 1 ≡ []
-  pub four-words : length (words (lineAt text 0)) ≡ 4
+  pub four-words : length (wordsOf (lineAt text 0)) ≡ 4
   pub refused-is : wordAt (lineAt text 0) 0 ≡ bytes "refused"
   pub number-read : naturalIn (wordAt (lineAt text 0) 1) ≡ some (v .number)
   pub at-is : wordAt (lineAt text 0) 2 ≡ bytes "at"
