@@ -7,10 +7,10 @@ use mathlib.Core.Option.{Option, none, some}
 use mathlib.Core.List.{List}
 use Prim.Native.Nat.{ℕ, zero, suc, _+_, _/_, _<_}
 use native.Mathlib.Omega.{arith}
-use lib.Dec.{eqb}
+use lib.Dec.{ltb, eqb}
 use lib.IntN.{ℤ, pos, negsuc, negℤ, natAbs, _+ℤ_}
 use lib.Signed.{ltZ, _≤ℤ_, _<ℤ_, ltZ-no, clashℤ}
-use borrow.Author.Tests.{lt-ltb, eqb-true, eqb-false}
+use borrow.Author.Tests.{ltb-true, ltb-false, lt-ltb, eqb-true, eqb-false}
 use Rattle.whole.specs.Below.{totalBelow}
 use Rattle.whole.proofs.Tests.{split, never, neither}
 use Rattle.whole.proofs.Linear.{zr, all5, lt↑, abs-zero}
@@ -74,6 +74,24 @@ module _ (charge : ℤ) (hs : List ℤ) where
   none-has-sign : decidedBy charge hs ≡ none → (k : ℕ) → k < 5 → sameSign charge (headAt hs k) ≡ false
   unfolding decidedBy
   none-has-sign = none-waits (λ k. natAbs (headAt hs k)) (λ k. sameSign charge (headAt hs k)) 5
+
+  -- two heads that decide are as large, and neither stands before the other
+  pub one-decides : (j k : ℕ) → Decides charge hs j → Decides charge hs k → j ≡ k
+  one-decides j k a b =
+      let alike = b .largest j (a .one-of-five) (a .sign-is) in
+      split (ltb j k)
+      (λ t. absurd (omega (arith, b .first j (ltb-true j k t) (a .sign-is), a .largest k (b .one-of-five) (b .sign-is))))
+      (λ f. split (ltb k j)
+      (λ t. absurd (omega (arith, a .first k (ltb-true k j t) (b .sign-is))))
+      (λ g. omega (arith, ltb-false j k f, ltb-false k j g)))
+
+  -- The head that decided is named, and no other.
+  pub decides : (k : ℕ) → (decidedBy charge hs ≡ some k) ↔ Decides charge hs k
+  decides k = (named-decides k, λ d. named (decidedBy charge hs) refl d)
+    where
+      named : (o : Option ℕ) → decidedBy charge hs ≡ o → Decides charge hs k → o ≡ some k
+      named none e d = never (d .sign-is) (none-has-sign e k (d .one-of-five))
+      named (some j) e d = ap some (one-decides j k (named-decides j e) d)
 
 -- no head of its sign, and a charge of zero
 either-one : (o : Option ℕ) → (o ≡ none → ⊥) → (k : ℕ) × (o ≡ some k)

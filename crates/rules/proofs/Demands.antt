@@ -29,6 +29,7 @@ use Rattle.rules.specs.Statement.{column, memberLine}
 use Rattle.rules.specs.Inner.Kept.{HourKept}
 use Rattle.rules.specs.Promised.Demands.{Accepts, AllWhole, Demand1, ByFormula, allZones, Demand2, FairOutcome, Demand3}
 use Rattle.rules.proofs.Tariff.{deviation-renders, ufe-renders, amount-is-IEC}
+use Rattle.rules.proofs.Rounding.{rounding}
 use Rattle.rules.proofs.Rows.{no-place, accepts-when-whole, hour-numbered, areas-whole, settle-accepts, settle-whole, settle-refuses}
 use Rattle.rules.proofs.Rows.{settle-changes-nothing, settle-fills, write-accepts, write-refuses, write-changes-nothing}
 use Rattle.rules.proofs.Text.{read-checks, read-accepts, read-refuses, written-read, read-written, text-fits-14, write-accepted-at}
@@ -103,7 +104,7 @@ module _ (h : Hour) (kept : HourKept h) where
         deviation-is =
             λ i l. getD-replacing (λ i. deviation (entryOf h i)) (h .count) (b .deviations) i (pos 0) l ∙ deviation-renders h i;
         share-is = λ i l. getD-replacing (shareOf h) (h .count) (b .shares) i (pos 0) l ∙ shares-by-rank h i l;
-        charge-is = λ m l. charge-at m (pos 0) l ∙ ap cents (iec m);
+        charge-is = λ m l. rounding .charged _ _ .0 (charge-at m (pos 0) l ∙ ap cents (iec m));
         line-is = λ m l. line-at m emptyLine l ∙ ap (λ (z : ℤ). record { amount = z; records = recordsOf h m }) (iec m);
         no-records = λ m l e. (
           charge-at m (pos 0) l ∙ no-records-no-charge m e,

@@ -5,26 +5,28 @@ use mathlib.Core.Option.{none, some}
 use mathlib.Core.List.{List, [], _∷_}
 use Prim.Native.Nat.{ℕ, suc, _-_, _≤_, _<_}
 use native.Mathlib.Omega.{arith}
+use lib.Dec.{leb}
 use lib.IntN.{pos}
 use lib.ListN.{getD}
-use borrow.Author.Tests.{eqb-true, eqb-false, le-leb, lt-leb, ne-eqb}
-use Rattle.whole.proofs.Tests.{split, never-some}
+use borrow.Author.Tests.{leb-true, eqb-true, eqb-false, le-leb, lt-leb, ne-eqb}
+use Rattle.whole.proofs.Tests.{split, never-some, if-some}
 use Rattle.whole.proofs.Buffers.{getD-replacing}
 use Rattle.rules.specs.declared.Line.{Line}
 use Rattle.rules.specs.Record.{Hour, members, zones, areaOf, zoneOf}
 use Rattle.rules.specs.Charge.{amount, charge}
 use Rattle.rules.specs.HourFile.{hourIn}
 use Rattle.rules.specs.Refusals.{row, accepted, refusedAt, verdict, noMember, hourRows, explainRows, Buffers}
+use Rattle.rules.specs.Refusals.{blockRows, wordRows, comparisonRows, sumRows, formRows, fileRows}
 use Rattle.rules.specs.Settling.{isAccepted, settle, filled, lineOf, emptyLine}
 use Rattle.rules.specs.Explanation.{heads, noHeads, decided, explain}
 use Rattle.rules.specs.Promised.Demands.{Accepts, AllWhole, FirstBrokenRow}
 use Rattle.rules.specs.Promised.Deciding.{Explains, Explaining}
 use Rattle.rules.proofs.Rows.{Numbered, numbered-on, accepts-when-whole, zero-accepts, refuses-at-first, refused-first, passed-on, hour-numbered}
-use Rattle.rules.proofs.Rows.{settle-whole, settle-fills}
+use Rattle.rules.proofs.Rows.{hasRow, only-row, settle-whole, settle-fills}
 use Rattle.rules.proofs.Kept.{passed-kept}
 use Rattle.rules.proofs.Demands.{zone-there}
 use Rattle.rules.proofs.Heads.{heads-add-up, heads-by-tariff}
-use Rattle.rules.proofs.Decided.{named-decides, always-one, none-for-zero}
+use Rattle.rules.proofs.Decided.{named-decides, one-decides, decides, always-one, none-for-zero}
 
 -- ---- the rows
 
@@ -54,6 +56,10 @@ module _ (s : List ℕ) (m : ℕ) where
   unfolding noMember verdict
   rows-no-member w l = rows-passed w ∙ rw (le-leb (members h) m l) refl
 
+  past-count : noMember h m ≡ some 0 → members h ≤ m
+  unfolding noMember
+  past-count e = leb-true (members h) m (if-some (leb (members h) m) (some 0) 0 e .0)
+
   -- ---- what is answered
 
   pub explain-verdict : explain s m .verdict ≡ verdict (explainRows s m)
@@ -82,6 +88,13 @@ module _ (s : List ℕ) (m : ℕ) where
   nothing-said r = let e = explain-refused (λ z. r (explain-verdict ∙ zero-accepts (explainRows s m) explain-numbered z)) in
       rw e (refl, refl)
 
+  no-member : (explain s m .verdict ≡ refusedAt 13 0) ↔ ((verdict (hourRows s) ≡ accepted) × (members h ≤ m))
+  unfolding explainRows hourRows fileRows formRows blockRows wordRows comparisonRows sumRows hasRow
+  no-member = let answers = only-row 12 0 (noMember h m) [] refl (hourRows s) (hour-numbered s) refl in (
+    λ e. let broken = answers .0 (sym explain-verdict ∙ e) in (broken .0, past-count (broken .1)),
+    λ l. explain-verdict ∙ rows-no-member (accepts-when-whole (hourRows s) (hour-numbered s) .0 (l .0)) (l .1),
+  )
+
   -- the head that decided is one of the five
   pub one-of-five : (k : ℕ) → explain s m .decided ≡ some k → k < 5
   unfolding decided
@@ -98,7 +111,7 @@ unfolding decided charge
 explains h m there = record {
   by-formula = heads-by-tariff h m there;
   add-up = heads-add-up h m;
-  decides = named-decides (charge h m) (heads h m);
+  decides = decides (charge h m) (heads h m);
   always-one = always-one (heads h m) (amount h m) (heads-add-up h m);
   none-for-zero = none-for-zero (heads h m) (amount h m) (heads-add-up h m);
 }
@@ -127,6 +140,7 @@ explaining = record {
   refuses = explain-refuses;
   nothing-said = nothing-said;
   explained = explained;
-  no-member = λ s b m a l. explain-verdict s m ∙ rows-no-member s m (settle-whole s b a .0) l;
+  one-decides = one-decides;
+  no-member = no-member;
   refused-alike = λ s m r. explain-verdict s m ∙ rows-refused-alike s m r;
 }

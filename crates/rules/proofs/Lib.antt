@@ -4,6 +4,7 @@ pub mod Starred
 pub mod MissingBlock
 pub mod Unwritten
 pub mod Tariff
+pub mod Rounding
 pub mod Posting
 pub mod Shares
 pub mod Digits
@@ -29,6 +30,7 @@ pub mod FileWords
 pub mod Said
 pub mod OwnHour
 pub mod Stated
+pub mod PartsCut
 pub mod Sheet
 pub mod Told
 pub mod Writing
@@ -37,3 +39,4 @@ pub mod Raw
 pub mod Explaining
 pub mod Engines
 pub mod Worded
+pub mod SixLines

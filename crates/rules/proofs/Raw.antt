@@ -1,28 +1,32 @@
 -- What the program write_hour prints: how long it can be, and that a reader that stops one byte past the longest input prints the same.
 -- Document 02, A2.
 use mathlib.Core.Path.{_≡_, refl, sym, _∙_, ap}
-use mathlib.Core.Bool.{or-true}
+use mathlib.Core.Bool.{not, _||_, or-true}
 use mathlib.Core.Option.{none}
 use mathlib.Core.List.{List}
-use Prim.Native.Nat.{ℕ, _-_, _/_, _%_, _≤_, _<_}
+use Prim.Native.Nat.{ℕ, _-_, _/_, _%_, _^_, _≤_, _<_}
 use native.Mathlib.Omega.{arith}
 use lib.ListN.{length, take, length-drop}
 use lib.Seq.{take-all, length-take-le}
-use lib.Dec.{leb, eqb}
-use borrow.Author.Tests.{leb-true, leb-false, eqb-true, eqb-false, lt-ltb, le-ltb, ne-eqb}
+use lib.Dec.{ltb, leb, eqb}
+use borrow.Author.Tests.{ltb-true, ltb-false, leb-true, leb-false, eqb-true, eqb-false, lt-ltb, le-ltb, ne-eqb}
 use Rattle.whole.proofs.Tests.{split}
 use Rattle.whole.proofs.Buffers.{length-values}
 use Rattle.rules.specs.HourFile.{hourly, word}
 use Rattle.rules.specs.HourWords.{hourFrom, fileLength, fileOf}
 use Rattle.rules.specs.Refusals.{accepted, refusedAt, verdict, badLists, noRoom, wordRows, comparisonRows, listFormRows, listRows}
-use Rattle.rules.specs.Refusals.{writeHourRows}
+use Rattle.rules.specs.Ranges.{firstBroken}
+use Rattle.rules.specs.Refusals.{writeHourRows, badHead, badRecord, aboveMaximum}
 use Rattle.rules.specs.Settling.{isAccepted}
 use Rattle.rules.specs.Statement.{refusedLine}
+use Rattle.rules.specs.Promised.Writing.{RefusalPrinted}
 use Rattle.rules.specs.RawHour.{rawWords, rawHead, rawRecords, rawRows, rawWritten}
 use Rattle.rules.proofs.Rows.{Numbered, accepts-when-whole, zero-accepts, last-decides-nothing}
 use Rattle.rules.proofs.Stated.{refused-line-most}
 use Rattle.rules.proofs.FileWords.{some-blocks}
 use Rattle.rules.proofs.Said.{length-of-file}
+use Rattle.rules.proofs.PartsCut.{says-refused}
+use Rattle.rules.proofs.Told.{Small, SmallRows, no-row, small-row, verdict-small, zero-small, first-small}
 use Rattle.rules.proofs.Writing.{lists-whole}
 
 -- ---- room for the longest file is enough for every one: row 11 decides nothing
@@ -68,7 +72,7 @@ module _ (s : List ℕ) where
       (λ t. raw-file-most (zero-accepts (rawRows s) raw-numbered (eqb-true _ _ t)))
       (λ t. rw (raw-refused (eqb-false _ _ t)) (omega (arith, refused-line-most (verdict (rawRows s)))))
 
-  -- ---- of a cut input
+  -- ---- an input that is too long
 
   -- over 12,480 bytes are no whole words, or a head and more than 250 records, or no whole records
   pub too-long-refused : 12480 < length s → verdict (rawRows s) ≡ refusedAt 1 0
@@ -83,6 +87,31 @@ module _ (s : List ℕ) where
     where
       many : length (rawRecords s) ≡ length s / 4 - 120
       many = length-drop 120 (rawWords s) ∙ ap (λ (k : ℕ). k - 120) words-length
+
+-- ---- a refusal says its number and place
+
+module _ (s : List ℕ) where
+  raw-rows-small : length s ≤ 12480 → SmallRows (rawRows s)
+  unfolding rawRows listRows listFormRows wordRows comparisonRows badLists badHead badRecord aboveMaximum firstBroken hourFrom
+  raw-rows-small l =
+      let few : length (rawRecords s) / 12 ≤ 10 ^ 20 = omega (arith, length-drop 120 (rawWords s), words-length s) in
+      small-row 1 (omega arith) (zero-small (not (eqb (length s % 4) 0))) (
+      small-row 1 (omega arith) (zero-small (
+      not (eqb (length (rawHead s)) 120) || not (eqb (length (rawRecords s) % 12) 0) || ltb 250 (length (rawRecords s) / 12))) (
+      small-row 4 (omega arith) (first-small _ 128 (omega arith)) (
+      small-row 5 (omega arith) (first-small _ (length (rawRecords s) / 12) few) (
+      small-row 14 (omega arith) (first-small _ (length (rawRecords s) / 12) few) no-row))))
+
+  raw-small : Small (verdict (rawRows s))
+  raw-small = split (ltb 12480 (length s))
+      (λ t. rw (too-long-refused s (ltb-true 12480 (length s) t)) (omega arith, omega arith))
+      (λ f. verdict-small (raw-rows-small (ltb-false 12480 (length s) f)))
+
+pub refusal-printed : RefusalPrinted
+refusal-printed s r = rw (raw-refused s (λ z. r (zero-accepts (rawRows s) (raw-numbered s) z)))
+    (says-refused (verdict (rawRows s)) (raw-small s .0) (raw-small s .1))
+
+-- ---- of a cut input
 
 too-long : (s : List ℕ) → 12480 < length s → rawWritten s ≡ refusedLine (refusedAt 1 0)
 unfolding rawWritten

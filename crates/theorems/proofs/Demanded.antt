@@ -9,17 +9,15 @@ use lib.ListN.{length, take}
 use contract.Lifetimes.{Lfts}
 use denote.Ref.{now}
 use Rattle.rules.specs.declared.Answer.the-variants.{Accepted}
-use Rattle.rules.specs.declared.Line.{Line}
-use Rattle.rules.specs.Refusals.{Verdict, refusedAt, verdictOf, verdict, Buffers}
-use Rattle.rules.specs.HourFile.{hourIn}
+use Rattle.rules.specs.Refusals.{Verdict, refusedAt, verdictOf, verdict, hourRows, Buffers}
 use Rattle.rules.specs.Settling.{Settlement, settle as settling}
 use Rattle.rules.specs.Statement as Statement
-use Rattle.rules.specs.Promised.Finals.{ShowsOutcome}
 use Rattle.rules.proofs.Rows.{settle-verdict, settle-changes-nothing}
 use Rattle.rules.proofs.Demands.{demand2, demand3}
 use Rattle.rules.proofs.Finals.{neutrality-shared}
 use Rattle.rules.proofs.Imports.{imports}
 use Rattle.rules.proofs.Engines.{engines}
+use Rattle.rules.proofs.Stated.{cut-input-same}
 use Rattle.rules.proofs.Told.{sheet}
 use Rattle.amount.specs.Promised.{Wrote, HasRead}
 use Rattle.amount.proofs.RoundTrips as RoundTrips
@@ -29,7 +27,8 @@ use Rattle.pool.specs.Unlined.{unlined, withLines, ownLines}
 use Rattle.report.specs.Stated.{HasStated}
 use Rattle.printing.proofs.Showing.{whole-text}
 use Rattle.theorems.specs.Determined.{Gives}
-use Rattle.theorems.specs.Demanded.{KeepsDemands, IsPut, IsReadBack, Tells}
+use Rattle.theorems.specs.Demanded.{KeepsDemands, KeepsDemandsUnlined}
+use Rattle.theorems.specs.Texts.{IsPut, IsPutOfCut, IsReadBack, CountsAreRead, SaysRefusal, Tells, ShowsSettled}
 use Rattle.theorems.specs.Given.{IsReadAs, IsWrittenAs, IsWritten, IsRead, IsBody, IsKept}
 use Rattle.amount.proofs.write.Reads as write
 use Rattle.amount.proofs.read.Reads as read
@@ -64,10 +63,10 @@ pub settle-keeps-demands : (κs : Lfts 6) → Gives (settle.Learnt κs) (λ a x 
 settle-keeps-demands κs a x s p = keeps (p .verdict-is) (p .ufe-is) (p .buffers-are)
 
 -- with the lines that it made itself
-pub settle-unlined-keeps-demands : (κs : Lfts 5) → Gives (settle-unlined.Learnt κs) (λ a x s. (lines : List Line) × KeepsDemands (now (a .0))
+pub settle-unlined-keeps-demands : (κs : Lfts 5) → Gives (settle-unlined.Learnt κs) (λ a x s. KeepsDemandsUnlined (now (a .0))
     (withLines (unlined (now (a .1 .0)) (now (a .1 .1 .0)) (now (a .1 .1 .1 .0)) (now (a .1 .1 .1 .1 .0))) ownLines)
     (verdictOf (x .answer)) (x .ufe)
-    (withLines (unlined (now (s .1 .0)) (now (s .1 .1 .0)) (now (s .1 .1 .1 .0)) (now (s .1 .1 .1 .1 .0))) lines))
+    (withLines (unlined (now (s .1 .0)) (now (s .1 .1 .0)) (now (s .1 .1 .1 .0)) (now (s .1 .1 .1 .1 .0)))))
 settle-unlined-keeps-demands κs a x s p =
     (p .lines, keeps (p .fits .verdict-is) (p .fits .ufe-is) (p .fits .buffers-are))
 
@@ -127,6 +126,23 @@ statement-is-put κs a x s p = whole-text (statement-promises κs a x s p)
 pub statement-is-read-back : (κs : Lfts 2) → Gives (statement.Learnt κs) (λ a x s. IsReadBack (now (a .0)) (now (a .1 .0)) x (now (s .1 .0)))
 statement-is-read-back κs a x s p room accepts = rw (statement-is-put κs a x s p room) (sheet .read-back (now (a .0)) accepts)
 
+-- line 1 gives the hour number and the counts; a refusal its number and place
+pub statement-counts-are-read : (κs : Lfts 2) → Gives (statement.Learnt κs) (λ a x s.
+    CountsAreRead (now (a .0)) (now (a .1 .0)) x (now (s .1 .0)))
+statement-counts-are-read κs a x s p room bytes accepts =
+    rw (statement-is-put κs a x s p room) (sheet .counts-read (now (a .0)) bytes accepts)
+
+pub statement-says-refusal : (κs : Lfts 2) → Gives (statement.Learnt κs) (λ a x s.
+    SaysRefusal 1095 (now (a .0)) (verdict (hourRows (now (a .0)))) (now (a .1 .0)) x (now (s .1 .0)))
+statement-says-refusal κs a x s p room bytes refused =
+    rw (statement-is-put κs a x s p room) (sheet .refused-read (now (a .0)) bytes refused)
+
+-- a reader that stops one byte past the longest file prints what its whole input asks for
+pub cut-input-is-put : (κs : Lfts 2) (input : List ℕ) → Gives (statement.Learnt κs) (λ a x s.
+    IsPutOfCut 13313 1095 Statement.statement input (now (a .0)) (now (a .1 .0)) x (now (s .1 .0)))
+cut-input-is-put κs input a x s p cut room =
+    statement-is-put κs a x s p room ∙ ap Statement.statement cut ∙ cut-input-same input
+
 -- two statements that are the same say the same of both files
 pub statement-tells : (κs μs : Lfts 2) → Gives (statement.Learnt κs) (λ a x s. 1095 ≤ length (now (a .1 .0)) →
     Gives (statement.Learnt μs) (λ b y t. 1095 ≤ length (now (b .1 .0)) →
@@ -137,9 +153,9 @@ statement-tells κs μs a x s p room b y t q room₂ bytes bytes₂ same = sheet
 -- ---- settled, then printed: the columns of each member's line, read, give the charge and the final that settling wrote
 
 pub settled-is-printed : (κs : Lfts 6) (μs : Lfts 2) → Gives (settle.Learnt κs) (λ a x s. x .answer ≡ Accepted →
-    Gives (statement.Learnt μs) (λ b y t. now (b .0) ≡ now (a .0) → 1095 ≤ length (now (b .1 .0)) → ShowsOutcome (hourIn (now (a .0)))
+    Gives (statement.Learnt μs) (λ b y t. ShowsSettled (now (a .0))
     (buffers (now (s .1 .1 .0)) (now (s .1 .1 .1 .0)) (now (s .1 .1 .1 .1 .0)) (now (s .1 .1 .1 .1 .1 .0)) (now (s .1 .0)))
-    (take y (now (t .1 .0)))))
+    (now (b .0)) (now (b .1 .0)) (take y (now (t .1 .0)))))
 settled-is-printed κs μs a x s p accepts b y t q same room =
     let lent = buffers (now (a .1 .1 .0)) (now (a .1 .1 .1 .0)) (now (a .1 .1 .1 .1 .0)) (now (a .1 .1 .1 .1 .1 .0)) (now (a .1 .0)) in
     let shown = sheet .as-settled (now (a .0)) lent (sym (p .verdict-is) ∙ ap verdictOf accepts) in
@@ -151,9 +167,9 @@ settled-is-printed κs μs a x s p accepts b y t q same room =
 
 -- the same for C
 pub sneupelaar-settled-is-printed : (κs : Lfts 6) (μs : Lfts 2) → Gives (sneupelaar-settle.Learnt κs) (λ a x s. x .number ≡ 0 → x .place ≡ 0 →
-    Gives (statement.Learnt μs) (λ b y t. now (b .0) ≡ now (a .0) → 1095 ≤ length (now (b .1 .0)) → ShowsOutcome (hourIn (now (a .0)))
+    Gives (statement.Learnt μs) (λ b y t. ShowsSettled (now (a .0))
     (buffers (now (s .1 .1 .0)) (now (s .1 .1 .1 .0)) (now (s .1 .1 .1 .1 .0)) (now (s .1 .1 .1 .1 .1 .0)) (now (s .1 .0)))
-    (take y (now (t .1 .0)))))
+    (now (b .0)) (now (b .1 .0)) (take y (now (t .1 .0)))))
 sneupelaar-settled-is-printed κs μs a x s p number place b y t q same room =
     let lent = buffers (now (a .1 .1 .0)) (now (a .1 .1 .1 .0)) (now (a .1 .1 .1 .1 .0)) (now (a .1 .1 .1 .1 .1 .0)) (now (a .1 .0)) in
     let shown = sheet .as-settled (now (a .0)) lent (sym (ap (λ (z : Settlement). z .verdict) p) ∙ ap₂ refusedAt number place) in

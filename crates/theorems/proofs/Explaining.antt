@@ -1,17 +1,15 @@
--- Explanations: no second result fits the contracts, and what the pages say of them, said of the contracts as their callers read them.
+-- Explanations: no second result fits the contracts, and what the pages say of them, said of the contracts as their callers read them. What
+-- is read from their text stands in `SixLines`.
 use mathlib.Core.Path.{_≡_, refl, sym, _∙_, ap, ap₂, subst}
 use mathlib.Core.Option.{Option, none, some}
 use mathlib.Core.List.{List}
-use Prim.Native.Nat.{ℕ, zero, suc, _<_}
+use Prim.Native.Nat.{ℕ, zero, suc}
 use lib.IntN.{ℤ}
-use lib.ListN.{take}
 use contract.Lifetimes.{Lfts}
 use denote.Ref.{now}
 use Rattle.rules.specs.declared.Answer.{Answer}
 use Rattle.rules.specs.declared.Answer.the-variants.{Accepted}
 use Rattle.rules.specs.declared.Found.{Found}
-use Rattle.rules.specs.Record.{members}
-use Rattle.rules.specs.HourFile.{hourIn}
 use Rattle.rules.specs.Refusals.{refusedAt, verdictOf, Buffers}
 use Rattle.rules.specs.Settling.{Settlement}
 use Rattle.rules.specs.Explanation as Explanation
@@ -24,7 +22,8 @@ use Rattle.pool.specs.Buffers.{buffers}
 use Rattle.explain.specs.Answered.{answered}
 use Rattle.explain.specs.HandedOut.{explanationOf, headCounted}
 use Rattle.theorems.specs.Determined.{OneResult, OneOutcome, Gives}
-use Rattle.theorems.specs.Demanded.{KeepsExplaining, ExplainsOutcome, IsPut}
+use Rattle.theorems.specs.Demanded.{KeepsExplaining, ExplainsSettled}
+use Rattle.theorems.specs.Texts.{IsPut, IsPutOfCut}
 use Rattle.theorems.proofs.Laws.{agree, agree-answer, agree-found}
 use Rattle.printing.proofs.explanation.put_six_lines.Reads as put-six-lines
 use Rattle.explain.proofs.explain.Reads as explain
@@ -73,7 +72,7 @@ keeps {s} {m} e = subst (KeepsExplaining s m) (sym e) (record {
   by-the-table = explain-verdict s m;
   nothing-said = explaining .nothing-said s m;
   explained = λ b. explaining .explained s b m;
-  no-member = λ b. explaining .no-member s b m;
+  no-member = explaining .no-member s m;
   refused-alike = explaining .refused-alike s m;
   held-to-demand = neutrality-shared .explain-held s m;
   held-to-maximum = engines .explained s m;
@@ -90,10 +89,9 @@ sneupelaar-explain-keeps κs a x s p = keeps p
 -- that it wrote
 
 pub settled-is-explained : (κs : Lfts 6) (μs : Lfts 1) → Gives (settle.Learnt κs) (λ a x s. x .answer ≡ Accepted →
-    Gives (explain.Learnt μs) (λ b y t. now (b .0) ≡ now (a .0) → let h = hourIn (now (a .0)) in b .1 .0 < members h →
-    ExplainsOutcome h
+    Gives (explain.Learnt μs) (λ b y t. ExplainsSettled (now (a .0))
     (buffers (now (s .1 .1 .0)) (now (s .1 .1 .1 .0)) (now (s .1 .1 .1 .1 .0)) (now (s .1 .1 .1 .1 .1 .0)) (now (s .1 .0)))
-    (b .1 .0) (y .heads) (answered y .decided)))
+    (now (b .0)) (b .1 .0) (y .heads) (answered y .decided)))
 settled-is-explained κs μs a x s p accepts b y t q same there =
     let lent = buffers (now (a .1 .1 .0)) (now (a .1 .1 .1 .0)) (now (a .1 .1 .1 .1 .0)) (now (a .1 .1 .1 .1 .1 .0)) (now (a .1 .0)) in
     let e = keeps (rw same at q) .explained lent (sym (p .verdict-is) ∙ ap verdictOf accepts) there .1 in
@@ -102,10 +100,9 @@ settled-is-explained κs μs a x s p accepts b y t q same there =
 -- the same for C
 pub sneupelaar-settled-is-explained : (κs : Lfts 6) (μs : Lfts 1) → Gives (sneupelaar-settle.Learnt κs) (λ a x s.
     x .number ≡ 0 → x .place ≡ 0 →
-    Gives (sneupelaar-explain.Learnt μs) (λ b y t. now (b .0) ≡ now (a .0) → let h = hourIn (now (a .0)) in b .1 .0 < members h →
-    ExplainsOutcome h
+    Gives (sneupelaar-explain.Learnt μs) (λ b y t. ExplainsSettled (now (a .0))
     (buffers (now (s .1 .1 .0)) (now (s .1 .1 .1 .0)) (now (s .1 .1 .1 .1 .0)) (now (s .1 .1 .1 .1 .1 .0)) (now (s .1 .0)))
-    (b .1 .0) (y .heads) (headCounted (y .decided))))
+    (now (b .0)) (b .1 .0) (y .heads) (headCounted (y .decided))))
 sneupelaar-settled-is-explained κs μs a x s p number place b y t q same there =
     let lent = buffers (now (a .1 .1 .0)) (now (a .1 .1 .1 .0)) (now (a .1 .1 .1 .1 .0)) (now (a .1 .1 .1 .1 .1 .0)) (now (a .1 .0)) in
     let accepts = sym (ap (λ (z : Settlement). z .verdict) p) ∙ ap₂ refusedAt number place in
@@ -120,7 +117,7 @@ pub explanation-is-put : (κs : Lfts 2) → Gives (explanation.Learnt κs) (λ a
 explanation-is-put κs a x s p room = whole-text (record { count-is = p .0; out-is = p .1 }) room
 
 -- a reader that stops one byte past the longest input prints what its whole input asks for
-pub cut-input-is-put : (κs : Lfts 2) (input : List ℕ) → Gives (explanation.Learnt κs) (λ a x s. now (a .0) ≡ take 13317 input →
-    IsPut 165 (Explanation.explanation input) (now (a .1 .0)) x (now (s .1 .0)))
+pub cut-input-is-put : (κs : Lfts 2) (input : List ℕ) → Gives (explanation.Learnt κs) (λ a x s.
+    IsPutOfCut 13317 165 Explanation.explanation input (now (a .0)) (now (a .1 .0)) x (now (s .1 .0)))
 cut-input-is-put κs input a x s p cut room =
     explanation-is-put κs a x s p room ∙ ap Explanation.explanation cut ∙ cut-input-same input

@@ -4,23 +4,24 @@
 use mathlib.Core.Path.{_≡_, sym, _∙_, ap, subst}
 use mathlib.Core.List.{List, _++_}
 use Prim.Native.Nat.{ℕ, _≤_}
-use lib.ListN.{length, take, drop}
+use lib.ListN.{length, drop}
 use contract.Lifetimes.{Lfts}
 use denote.Ref.{now}
 use Rattle.rules.specs.HourFile.{hourly}
 use Rattle.rules.specs.HourWords.{headWords, recordWords}
-use Rattle.rules.specs.Refusals.{accepted, refusedAt, verdictOf, verdict, fileRows}
+use Rattle.rules.specs.Refusals.{accepted, verdictOf, verdict, fileRows}
 use Rattle.rules.specs.Settling.{HourWritten, writeHour}
-use Rattle.rules.specs.RawHour.{rawWritten}
+use Rattle.rules.specs.RawHour.{rawRows, rawWritten}
 use Rattle.rules.specs.Promised.Finals.{AreBytes}
 use Rattle.rules.specs.Promised.Writing.{AreWords}
 use Rattle.rules.proofs.Writing.{verdict-is, as-written, writing}
 use Rattle.rules.proofs.Imports.{imports}
 use Rattle.rules.proofs.Engines.{engines}
-use Rattle.rules.proofs.Raw.{cut-input-same}
+use Rattle.rules.proofs.Raw.{refusal-printed, cut-input-same}
 use Rattle.printing.proofs.Showing.{whole-text}
 use Rattle.theorems.specs.Determined.{Gives}
-use Rattle.theorems.specs.Demanded.{KeepsWriting, IsPut}
+use Rattle.theorems.specs.Demanded.{KeepsWriting}
+use Rattle.theorems.specs.Texts.{IsPut, IsPutOfCut, SaysRefusal}
 use Rattle.writer.proofs.write_hour.Reads as write-hour
 use Rattle.report.proofs.written.put_written_hour.Reads as write-raw
 use Rattle.writer.proofs.boundary.sneupelaar_write_hour.Reads as sneupelaar-write-hour
@@ -62,7 +63,13 @@ pub write-raw-is-put : (κs : Lfts 2) → Gives (write-raw.Learnt κs) (λ a x s
     IsPut 13312 (rawWritten (now (a .0))) (now (a .1 .0)) x (now (s .1 .0)))
 write-raw-is-put κs a x s p room = whole-text (record { count-is = p .0; out-is = p .1 }) room
 
+-- read, a refusal gives its number and place
+pub write-raw-says-refusal : (κs : Lfts 2) → Gives (write-raw.Learnt κs) (λ a x s.
+    SaysRefusal 13312 (now (a .0)) (verdict (rawRows (now (a .0)))) (now (a .1 .0)) x (now (s .1 .0)))
+write-raw-says-refusal κs a x s p room bytes refused =
+    rw (write-raw-is-put κs a x s p room) (refusal-printed (now (a .0)) refused)
+
 -- a reader that stops one byte past the longest input prints what its whole input asks for
-pub cut-input-is-put : (κs : Lfts 2) (input : List ℕ) → Gives (write-raw.Learnt κs) (λ a x s. now (a .0) ≡ take 12481 input →
-    IsPut 13312 (rawWritten input) (now (a .1 .0)) x (now (s .1 .0)))
+pub cut-input-is-put : (κs : Lfts 2) (input : List ℕ) → Gives (write-raw.Learnt κs) (λ a x s.
+    IsPutOfCut 12481 13312 rawWritten input (now (a .0)) (now (a .1 .0)) x (now (s .1 .0)))
 cut-input-is-put κs input a x s p cut room = write-raw-is-put κs a x s p room ∙ ap rawWritten cut ∙ cut-input-same input

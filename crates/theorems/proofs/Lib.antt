@@ -1,5 +1,5 @@
--- For each public function, crate by crate: no second result fits its contract; what the contracts of the entry points give; and figures
--- of whole files.
+-- For each public function, crate by crate: no second result fits its contract; what the contracts of the entry points give, and that they
+-- ask nothing; and figures of whole files.
 pub mod Laws
 pub mod Values
 pub mod Blocks
@@ -8,4 +8,6 @@ pub mod Filled
 pub mod Demanded
 pub mod HourFiles
 pub mod Explaining
+pub mod SixLines
+pub mod Asked
 pub mod Figures

@@ -1,14 +1,14 @@
--- What the contracts of settling, writing and explaining give, and those of what programs print: the customer's demands, stated of what was
--- handed in, what was answered and what was left in the buffers.
+-- What the contracts of settling, writing and explaining give: the customer's demands, stated of what was handed in, what was answered and
+-- what was left in the buffers.
 use mathlib.Core.Path.{_≡_}
+use mathlib.Core.Logic.{_↔_}
 use mathlib.Core.List.{List, _++_}
 use Prim.Native.Nat.{ℕ, _≤_, _<_}
 use mathlib.Core.Option.{Option, none}
 use lib.IntN.{ℤ, pos}
-use lib.ListN.{length, take, drop, getD}
+use lib.ListN.{length, drop, getD}
+use Rattle.rules.specs.declared.Line.{Line}
 use Rattle.rules.specs.Record.{Hour, members}
-use Rattle.rules.specs.Charge.{charge}
-use Rattle.rules.specs.Neutrality.{final}
 use Rattle.rules.specs.HourFile.{hourly, hourIn}
 use Rattle.rules.specs.HourWords.{hourFrom, headWords, recordWords}
 use Rattle.rules.specs.Refusals.{Verdict, accepted, refusedAt, verdict, Buffers, badLists}
@@ -16,7 +16,7 @@ use Rattle.rules.specs.Refusals.{blockRows, formRows, fileRows, hourRows, settl
 use Rattle.rules.specs.Settling.{settle, noFigures, emptyLine, HourWritten}
 use Rattle.rules.specs.Explanation.{Explanation, noHeads}
 use Rattle.rules.specs.Promised.Demands.{Accepts, ByFormula, FairOutcome}
-use Rattle.rules.specs.Promised.Finals.{NeutralOutcome, HeldToDemand, AreBytes, SameSheet, Shows}
+use Rattle.rules.specs.Promised.Finals.{NeutralOutcome, HeldToDemand, AreBytes}
 use Rattle.rules.specs.Promised.Writing.{lengthFor, fileIn}
 use Rattle.rules.specs.Promised.Imports.{FirstMetered}
 use Rattle.rules.specs.Promised.Engines.{HeldToMaximum}
@@ -40,6 +40,10 @@ pub record KeepsDemands (file : List ℕ) (before : Buffers) (told : Verdict) (u
   pub metered-import : (i : ℕ) → verdict (blockRows hourly file) ≡ accepted → FirstMetered (hourIn file) i → told ≡ refusedAt 5 i
   -- A6: 14 exactly where rows 1 to 5 are passed and a generator is scheduled above its maximum, at the first; accepted, none is
   pub held-to-maximum : HeldToMaximum (formRows hourlyForm file) (hourIn file) told
+
+-- of a settling that makes its lines itself: with those that it made
+abbrev pub KeepsDemandsUnlined : (file : List ℕ) (before : Buffers) → Verdict → (ufes : List ℤ) (withLines : List Line → Buffers) → Type 0
+KeepsDemandsUnlined file before told ufes withLines = (lines : List Line) × KeepsDemands file before told ufes (withLines lines)
 
 -- what document 02 asks of the writer (A2), of imports (A3) and of schedules (A6), by its head, records and buffer before, and by what was
 -- answered and left
@@ -76,24 +80,14 @@ pub record KeepsExplaining (file : List ℕ) (member : ℕ) (e : Explanation) : 
   -- to each member of an hour that settling accepts, by the line and the charge that settling writes
   pub explained : (b : Buffers) → Accepts file b → member < members (hourIn file) → (e .verdict ≡ accepted)
       × ExplainsOutcome (hourIn file) (settle file b .buffers) member (e .heads) (e .decided)
-  -- and to nobody else: 13 comes last
-  pub no-member : (b : Buffers) → Accepts file b → members (hourIn file) ≤ member → e .verdict ≡ refusedAt 13 0
+  -- and to nobody else: 13 exactly where every row of the hour is passed and the member's number isn't below the member count
+  pub no-member : (e .verdict ≡ refusedAt 13 0) ↔ ((verdict (hourRows file) ≡ accepted) × (members (hourIn file) ≤ member))
   pub refused-alike : (verdict (hourRows file) ≡ accepted → ⊥) → e .verdict ≡ verdict (hourRows file)
   -- A1 and A6, as of a settling
   pub held-to-demand : HeldToDemand file (e .verdict)
   pub held-to-maximum : HeldToMaximum (formRows hourlyForm file) (hourIn file) (e .verdict)
 
--- ---- what programs print, by what was handed in, the slice lent, the count answered and the slice afterwards
-
--- with room for the longest, the bytes put are this text, all of it and nothing else
-abbrev pub IsPut : (most : ℕ) (text lent : List ℕ) (count : ℕ) (after : List ℕ) → Type 0
-IsPut most text lent count after = most ≤ length lent → take count after ≡ text
-
--- of an accepted hour the statement that was put, read, gives each charge and each final (A1)
-abbrev pub IsReadBack : (file lent : List ℕ) (count : ℕ) (after : List ℕ) → Type 0
-IsReadBack file lent count after = 1095 ≤ length lent → verdict (hourRows file) ≡ accepted →
-    let h = hourIn file in Shows h (charge h) (final h) (take count after)
-
--- two statements that are the same say the same of both files (A1)
-abbrev pub Tells : (file sheet other otherSheet : List ℕ) → Type 0
-Tells file sheet other otherSheet = AreBytes file → AreBytes other → sheet ≡ otherSheet → SameSheet file other
+-- settled into buffers that hold this afterwards, then explained from the same file
+abbrev pub ExplainsSettled : (file : List ℕ) (after : Buffers) (handed : List ℕ) (member : ℕ) (heads : List ℤ) (decided : Option ℕ) → Type 0
+ExplainsSettled file after handed member heads decided =
+    handed ≡ file → let h = hourIn file in member < members h → ExplainsOutcome h after member heads decided

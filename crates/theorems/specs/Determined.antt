@@ -1,4 +1,4 @@
--- When a promise leaves no second result, and what it gives. A promise is a function's contract as its callers read it: a claim about the
+-- When a promise leaves no second result, and what it gives; and when nothing is asked for it. A promise is a function's contract as its callers read it: a claim about the
 -- arguments, the result and what the arguments are at exit.
 use mathlib.Core.Path.{_≡_}
 
@@ -18,3 +18,7 @@ module _ {A X S : Type 0} (promise : A → X → S → Type 0) where
   -- whatever keeps the promise has this property
   abbrev pub Gives : (A → X → S → Type 0) → Type 0
   Gives property = (a : A) (x : X) (s : S) → promise a x s → property a x s
+
+-- what callers have to show before a call holds of all arguments: nothing is asked of them
+abbrev pub AsksNothing : {A : Type 0} → (asked : A → Type 0) → Type 0
+AsksNothing {A} asked = (a : A) → asked a

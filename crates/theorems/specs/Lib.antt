@@ -1,3 +1,4 @@
 pub mod Determined
 pub mod Demanded
+pub mod Texts
 pub mod Given

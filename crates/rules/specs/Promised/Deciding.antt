@@ -43,7 +43,8 @@ pub record Decides (charge : ℤ) (heads : List ℤ) (k : ℕ) : Type 0 where
 pub record Explains (h : Hour) (m : ℕ) (amount charge : ℤ) (heads : List ℤ) (decided : Option ℕ) : Type 0 where
   pub by-formula : heads ≡ tariffHeads h m
   pub add-up : totalBelow (headAt heads) 5 ≡ amount
-  pub decides : (k : ℕ) → decided ≡ some k → Decides charge heads k
+  -- a head is named exactly if it decided
+  pub decides : (k : ℕ) → (decided ≡ some k) ↔ Decides charge heads k
   -- a charge other than zero always has one, and a charge of zero none
   pub always-one : (charge ≡ pos 0 → ⊥) → (k : ℕ) × (decided ≡ some k)
   pub none-for-zero : (decided ≡ none) ↔ (charge ≡ pos 0)
@@ -59,6 +60,9 @@ pub record Explaining : Type 0 where
       × Explains (hourIn s) m
       (getD (settle s b .buffers .lines) m emptyLine .amount) (getD (settle s b .buffers .charges) m (pos 0))
       (explain s m .heads) (explain s m .decided)
-  -- and to nobody else; 13 comes last
-  pub no-member : (s : List ℕ) (b : Buffers) (m : ℕ) → Accepts s b → members (hourIn s) ≤ m → explain s m .verdict ≡ refusedAt 13 0
+  -- no two heads decide, not on a tie either
+  pub one-decides : (charge : ℤ) (heads : List ℤ) (j k : ℕ) → Decides charge heads j → Decides charge heads k → j ≡ k
+  -- 13 exactly where every row of the hour is passed and the member's number isn't below the member count
+  pub no-member : (s : List ℕ) (m : ℕ) →
+      (explain s m .verdict ≡ refusedAt 13 0) ↔ ((verdict (hourRows s) ≡ accepted) × (members (hourIn s) ≤ m))
   pub refused-alike : (s : List ℕ) (m : ℕ) → (verdict (hourRows s) ≡ accepted → ⊥) → explain s m .verdict ≡ verdict (hourRows s)

@@ -14,7 +14,7 @@ use Rattle.rules.specs.declared.Settled.{Settled}
 use Rattle.rules.specs.Record.{Hour, members, zones, areas, price, memberOf, areaOf, entryOf, isLoad}
 use Rattle.rules.specs.Ufe.{inArea, ufe, demand, areaDemand}
 use Rattle.rules.specs.Share.{rankedSize}
-use Rattle.rules.specs.Charge.{entering, shareOf, recordsOf, cents, charge, poolTotal}
+use Rattle.rules.specs.Charge.{entering, shareOf, recordsOf, grainsPerCent, charge, poolTotal}
 use Rattle.rules.specs.Neutrality.{final}
 use Rattle.rules.specs.Text.{bytes, digitByte, amountText, amountField}
 use Rattle.rules.specs.HourFile.{hourIn}
@@ -22,6 +22,7 @@ use Rattle.rules.specs.Refusals.{Row, row, accepted, refusedAt, verdictO
 use Rattle.rules.specs.Settling.{settle, noFigures, write, read, emptyLine}
 use Rattle.rules.specs.Statement.{memberLine}
 use Rattle.rules.specs.Promised.Tariff.{devAs, ufeOfTerritory, IEC}
+use Rattle.rules.specs.Promised.Rounding.{Nearest}
 
 abbrev pub Accepts : List ℕ → Buffers → Type 0
 Accepts s b = settle s b .verdict ≡ accepted
@@ -78,7 +79,8 @@ pub record ByFormula (h : Hour) (before : Buffers) (ufes : List ℤ) (after : Bu
   pub past-areas : (a : ℕ) → areas h ≤ a → a < 8 → getD ufes a (pos 0) ≡ pos 0
   pub deviation-is : (i : ℕ) → i < h .count → getD (after .deviations) i (pos 0) ≡ devAs (entryOf h i .kind) (entryOf h i)
   pub share-is : (i : ℕ) → i < h .count → getD (after .shares) i (pos 0) ≡ rankedShare h i
-  pub charge-is : (m : ℕ) → m < members h → getD (after .charges) m (pos 0) ≡ cents (allZones h m)
+  -- the nearest cent to the exact amount, which the line holds; `Rounding` says that no other charge is
+  pub charge-is : (m : ℕ) → m < members h → Nearest grainsPerCent (allZones h m) (getD (after .charges) m (pos 0))
   pub line-is : (m : ℕ) → m < members h → getD (after .lines) m emptyLine ≡ record { amount = allZones h m; records = recordsOf h m }
   -- a member without records pays nothing
   pub no-records : (m : ℕ) → m < members h → recordsOf h m ≡ 0 →

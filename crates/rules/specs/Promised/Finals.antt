@@ -1,9 +1,10 @@
 -- What is asked of the finals, as statements about the definitions: they add up to nothing, and the sheet tells them.
 -- Document 02, A1.
-use Prim.Native.Nat.{ℕ, _+_, _*_, _<_}
+use Prim.Native.Nat.{ℕ, suc, _+_, _*_, _<_}
 use mathlib.Core.Path.{_≡_}
 use mathlib.Core.Logic.{_↔_}
 use mathlib.Core.Bool.{true}
+use mathlib.Core.Option.{some}
 use mathlib.Core.List.{List, [], _∷_, _++_}
 use lib.IntN.{ℤ, pos, natAbs, _-ℤ_, _*ℤ_}
 use lib.ListN.{length, take, drop, getD}
@@ -13,12 +14,14 @@ use Rattle.rules.specs.Record.{Hour, hourNumber, members, areas, entryOf
 use Rattle.rules.specs.Ufe.{areaDemand}
 use Rattle.rules.specs.Charge.{charge}
 use Rattle.rules.specs.Neutrality.{everyMember, memberDemand, hourDemand, neutrality, final}
+use Rattle.rules.specs.Text.{bytes}
 use Rattle.rules.specs.HourFile.{hourIn}
 use Rattle.rules.specs.Refusals.{row, Verdict, accepted, refusedAt, verdict, Buffers, badArea, fileRows, hourRows}
 use Rattle.rules.specs.Settling.{settle, read}
-use Rattle.rules.specs.Statement.{firstLine, statement}
+use Rattle.rules.specs.Statement.{statement}
 use Rattle.rules.specs.Explanation.{explain}
 use Rattle.rules.specs.Share.{rankedSize}
+use Rattle.rules.specs.Promised.Lines.{linesOf, lineAt, wordsOf, wordAt, naturalIn, SaysRefused}
 use Rattle.rules.specs.Promised.Demands.{Accepts}
 
 -- ---- the finals add up to nothing
@@ -67,17 +70,23 @@ pub record Neutrality : Type 0 where
 
 -- ---- the sheet tells charges and finals
 
-module _ (h : Hour) (m : ℕ) where
-  -- where a member's line begins in the statement of an hour
-  unfoldable pub memberPlace : ℕ
-  memberPlace = length (firstLine (hourNumber h) (members h) (h .count)) + 33 * m
+-- line 1 is before the members' lines
+abbrev pub memberLineAt : (member : ℕ) (sheet : List ℕ) → List ℕ
+memberLineAt m sheet = lineAt sheet (suc m)
 
-  -- the 14 columns of its charge, and of its final
-  unfoldable pub chargeColumn : List ℕ → List ℕ
-  chargeColumn sheet = take 14 (drop (memberPlace + 3) sheet)
+-- the 14 columns of a member's charge, and of its final
+abbrev pub chargeColumn : (member : ℕ) (sheet : List ℕ) → List ℕ
+chargeColumn m sheet = take 14 (drop 3 (memberLineAt m sheet))
 
-  unfoldable pub finalColumn : List ℕ → List ℕ
-  finalColumn sheet = take 14 (drop (memberPlace + 18) sheet)
+abbrev pub finalColumn : (member : ℕ) (sheet : List ℕ) → List ℕ
+finalColumn m sheet = take 14 (drop 18 (memberLineAt m sheet))
+
+-- line 1: six words, three of them numbers
+pub record SaysCounts (line : List ℕ) (hour memberCount recordCount : ℕ) : Type 0 where
+  pub six-words : length (wordsOf line) ≡ 6
+  pub hour-said : (wordAt line 0 ≡ bytes "hour") × (naturalIn (wordAt line 1) ≡ some hour)
+  pub members-said : (wordAt line 2 ≡ bytes "members") × (naturalIn (wordAt line 3) ≡ some memberCount)
+  pub records-said : (wordAt line 4 ≡ bytes "records") × (naturalIn (wordAt line 5) ≡ some recordCount)
 
 -- two files of which the same is to be said: refused alike, or the same hour number and counts, and the same charges and finals
 pub record SameSheet (s t : List ℕ) : Type 0 where
@@ -91,8 +100,15 @@ pub record SameSheet (s t : List ℕ) : Type 0 where
 
 -- a sheet that shows these charges and finals: read, the columns of each member's line give them
 pub record Shows (h : Hour) (chargeAt finalAt : ℕ → ℤ) (sheet : List ℕ) : Type 0 where
-  pub charge-shown : (m : ℕ) → m < members h → read (chargeColumn h m sheet) ≡ record { verdict = accepted; amount = chargeAt m }
-  pub final-shown : (m : ℕ) → m < members h → read (finalColumn h m sheet) ≡ record { verdict = accepted; amount = finalAt m }
+  -- line 1 and a line a member, each with its line feed, and nothing after the last
+  pub line-count : length (linesOf sheet) ≡ members h + 2
+  pub nothing-else : lineAt sheet (suc (members h)) ≡ []
+  -- two digits, a blank, 14 columns, a blank, 14 columns
+  pub in-columns : (m : ℕ) → m < members h → let line = memberLineAt m sheet in
+      (length line ≡ 32) × (getD line 2 0 ≡ 32) × (getD line 17 0 ≡ 32)
+  pub member-shown : (m : ℕ) → m < members h → naturalIn (take 2 (memberLineAt m sheet)) ≡ some m
+  pub charge-shown : (m : ℕ) → m < members h → read (chargeColumn m sheet) ≡ record { verdict = accepted; amount = chargeAt m }
+  pub final-shown : (m : ℕ) → m < members h → read (finalColumn m sheet) ≡ record { verdict = accepted; amount = finalAt m }
 
 -- what a settling left in the buffers
 abbrev pub ShowsOutcome : Hour → Buffers → List ℕ → Type 0
@@ -102,6 +118,10 @@ abbrev pub AreBytes : List ℕ → Type 0
 AreBytes s = (i : ℕ) → getD s i 0 < 256
 
 pub record Sheet : Type 0 where
+  -- line 1 says the hour and its counts, or the refusal stands alone
+  pub counts-read : (s : List ℕ) → AreBytes s → verdict (hourRows s) ≡ accepted → let h = hourIn s in
+      SaysCounts (lineAt (statement s) 0) (hourNumber h) (members h) (h .count)
+  pub refused-read : (s : List ℕ) → AreBytes s → (verdict (hourRows s) ≡ accepted → ⊥) → SaysRefused (statement s) (verdict (hourRows s))
   -- read, each column gives the member's amount
   pub read-back : (s : List ℕ) → verdict (hourRows s) ≡ accepted → let h = hourIn s in Shows h (charge h) (final h) (statement s)
   -- it is what settling writes, into any buffers in which it accepts the hour

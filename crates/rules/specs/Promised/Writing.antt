@@ -9,6 +9,8 @@ use Rattle.rules.specs.HourFile.{hourly, hourIn}
 use Rattle.rules.specs.HourWords.{hourFrom, headWords, recordWords}
 use Rattle.rules.specs.Refusals.{accepted, refusedAt, verdict, fileRows, writeHourRows}
 use Rattle.rules.specs.Settling.{HourWritten, writeHour}
+use Rattle.rules.specs.RawHour.{rawRows, rawWritten}
+use Rattle.rules.specs.Promised.Lines.{SaysRefused}
 use Rattle.rules.specs.Promised.Demands.{AllWhole, FirstBrokenRow}
 use Rattle.rules.specs.Promised.Finals.{AreBytes}
 
@@ -46,3 +48,7 @@ pub record Writing : Type 0 where
   pub same-bytes : (s file : List ℕ) → AreBytes s → verdict (fileRows s) ≡ accepted → length s ≤ length file →
       writeHour (headWords s) (recordWords hourly s) file
       ≡ record { verdict = accepted; length = length s; file = s ++ drop (length s) file }
+
+-- of the program that writes: what it prints of a refused input says the number and the place
+abbrev pub RefusalPrinted : Type 0
+RefusalPrinted = (s : List ℕ) → (verdict (rawRows s) ≡ accepted → ⊥) → SaysRefused (rawWritten s) (verdict (rawRows s))

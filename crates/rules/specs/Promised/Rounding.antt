@@ -1,0 +1,29 @@
+-- The charge a second way: which whole number of cents is nearest to an exact amount, without a division. It determines the charge, so that
+-- nobody need believe how `Charge` computes it. Document 01, "Charge in cents".
+use Prim.Native.Nat.{ℕ, _*_, _≤_, _<_}
+use mathlib.Core.Path.{_≡_}
+use mathlib.Core.Logic.{_↔_}
+use lib.IntN.{ℤ, pos, natAbs, _-ℤ_, _*ℤ_}
+use Rattle.whole.specs.Signed.{withSignOf}
+use Rattle.rules.specs.Charge.{grainsPerCent, nearestCent, cents}
+
+module _ (parts : ℕ) (amount whole : ℤ) where
+  -- twice the distance from the exact amount, in parts
+  abbrev pub twiceOff : ℕ
+  twiceOff = natAbs (whole *ℤ pos parts -ℤ amount) * 2
+
+  -- which of two that are as near: the one away from zero
+  abbrev pub TieWon : Type 0
+  TieWon = natAbs amount < natAbs whole * parts
+
+  -- `whole` times so many parts is at most half a unit from the amount; at exactly half a unit, it is the one that wins the tie
+  pub record Nearest : Type 0 where
+    pub half-at-most : twiceOff ≤ parts
+    pub on-tie : twiceOff ≡ parts → TieWon
+
+pub record Rounding : Type 0 where
+  -- exactly one whole number is nearest, whatever the unit: the definition's
+  pub every-unit : (parts : ℕ) → 0 < parts → (amount whole : ℤ) →
+      (whole ≡ withSignOf amount (nearestCent parts (natAbs amount))) ↔ Nearest parts amount whole
+  -- a charge
+  pub charged : (amount whole : ℤ) → (whole ≡ cents amount) ↔ Nearest grainsPerCent amount whole
