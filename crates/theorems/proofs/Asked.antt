@@ -68,11 +68,11 @@ asks-nothing-examine κs a = tt
 
 -- ---- what the programs print
 
-pub asks-nothing-statement : (κs : Lfts 2) → AsksNothing (statement.Asked κs)
-asks-nothing-statement κs a = tt
+pub asks-nothing-put-statement : (κs : Lfts 2) → AsksNothing (statement.Asked κs)
+asks-nothing-put-statement κs a = tt
 
-pub asks-nothing-explanation : (κs : Lfts 2) → AsksNothing (explanation.Asked κs)
-asks-nothing-explanation κs a = tt
+pub asks-nothing-put-explanation : (κs : Lfts 2) → AsksNothing (explanation.Asked κs)
+asks-nothing-put-explanation κs a = tt
 
-pub asks-nothing-write-raw : (κs : Lfts 2) → AsksNothing (write-raw.Asked κs)
-asks-nothing-write-raw κs a = tt
+pub asks-nothing-put-written-hour : (κs : Lfts 2) → AsksNothing (write-raw.Asked κs)
+asks-nothing-put-written-hour κs a = tt
