@@ -30,8 +30,8 @@ use Rattle.rules.specs.Inner.Kept.{HourKept}
 use Rattle.rules.specs.Promised.Demands.{Accepts, AllWhole, Demand1, ByFormula, allZones, Demand2, FairOutcome, Demand3}
 use Rattle.rules.proofs.Tariff.{deviation-renders, ufe-renders, amount-is-IEC}
 use Rattle.rules.proofs.Rounding.{rounding}
-use Rattle.rules.proofs.Rows.{no-place, accepts-when-whole, hour-numbered, areas-whole, settle-accepts, settle-whole, settle-refuses}
-use Rattle.rules.proofs.Rows.{settle-changes-nothing, settle-fills, write-accepts, write-refuses, write-changes-nothing}
+use Rattle.rules.proofs.Rows.{no-place, accepts-when-whole, hour-numbered, areas-whole, settle-by-the-table, settle-whole}
+use Rattle.rules.proofs.Rows.{settle-changes-nothing, settle-fills, write-by-the-table, write-changes-nothing}
 use Rattle.rules.proofs.Text.{read-checks, read-accepts, read-refuses, written-read, read-written, text-fits-14, write-accepted-at}
 use Rattle.rules.proofs.Kept.{passed-kept}
 use Rattle.rules.proofs.Bounds.{charge-under}
@@ -134,11 +134,9 @@ settled-by-formula s b a =
 
 pub demand1 : Demand1
 demand1 = record {
-  settle-accepts = settle-accepts;
-  settle-refuses = settle-refuses;
+  settle-by-the-table = settle-by-the-table;
   settle-changes-nothing = settle-changes-nothing;
-  write-accepts = write-accepts;
-  write-refuses = write-refuses;
+  write-by-the-table = write-by-the-table;
   write-changes-nothing = write-changes-nothing;
   read-checks = read-checks;
   read-accepts = read-accepts;

@@ -3,7 +3,7 @@ use mathlib.Core.Path.{_≡_, refl, sym, _∙_, ap}
 use mathlib.Core.Logic.{_↔_}
 use mathlib.Core.Option.{none, some}
 use mathlib.Core.List.{List, [], _∷_}
-use Prim.Native.Nat.{ℕ, suc, _-_, _≤_, _<_}
+use Prim.Native.Nat.{ℕ, _-_, _≤_, _<_}
 use native.Mathlib.Omega.{arith}
 use lib.Dec.{leb}
 use lib.IntN.{pos}
@@ -19,9 +19,9 @@ use Rattle.rules.specs.Refusals.{row, accepted, refusedAt, verdict, noMe
 use Rattle.rules.specs.Refusals.{blockRows, wordRows, comparisonRows, sumRows, formRows, fileRows}
 use Rattle.rules.specs.Settling.{isAccepted, settle, filled, lineOf, emptyLine}
 use Rattle.rules.specs.Explanation.{heads, noHeads, decided, explain}
-use Rattle.rules.specs.Promised.Demands.{Accepts, AllWhole, FirstBrokenRow}
+use Rattle.rules.specs.Promised.Demands.{Accepts, AllWhole, ByTheTable}
 use Rattle.rules.specs.Promised.Deciding.{Explains, Explaining}
-use Rattle.rules.proofs.Rows.{Numbered, numbered-on, accepts-when-whole, zero-accepts, refuses-at-first, refused-first, passed-on, hour-numbered}
+use Rattle.rules.proofs.Rows.{Numbered, numbered-on, accepts-when-whole, zero-accepts, by-the-table, refused-first, passed-on, hour-numbered}
 use Rattle.rules.proofs.Rows.{hasRow, only-row, settle-whole, settle-fills}
 use Rattle.rules.proofs.Kept.{passed-kept}
 use Rattle.rules.proofs.Demands.{zone-there}
@@ -76,13 +76,8 @@ module _ (s : List ℕ) (m : ℕ) where
   unfolding explain
   explain-refused r = rw (ne-eqb (verdict (explainRows s m) .number) 0 r) refl
 
-  explain-accepts : (explain s m .verdict ≡ accepted) ↔ AllWhole (explainRows s m)
-  explain-accepts = let r = accepts-when-whole (explainRows s m) explain-numbered in
-      (λ e. r .0 (sym explain-verdict ∙ e), λ w. explain-verdict ∙ r .1 w)
-
-  explain-refuses : (n p : ℕ) → (explain s m .verdict ≡ refusedAt (suc n) p) ↔ FirstBrokenRow (explainRows s m) (suc n) p
-  explain-refuses n p = let r = refuses-at-first (explainRows s m) n p in
-      (λ e. r .0 (sym explain-verdict ∙ e), λ f. explain-verdict ∙ r .1 f)
+  explain-by-the-table : ByTheTable (explainRows s m) (explain s m .verdict)
+  explain-by-the-table = by-the-table explain-numbered explain-verdict
 
   nothing-said : (explain s m .verdict ≡ accepted → ⊥) → (explain s m .heads ≡ noHeads) × (explain s m .decided ≡ none)
   nothing-said r = let e = explain-refused (λ z. r (explain-verdict ∙ zero-accepts (explainRows s m) explain-numbered z)) in
@@ -136,8 +131,7 @@ module _ (s : List ℕ) (b : Buffers) (m : ℕ) (a : Accepts s b) where
 
 pub explaining : Explaining
 explaining = record {
-  accepts = explain-accepts;
-  refuses = explain-refuses;
+  by-the-table = explain-by-the-table;
   nothing-said = nothing-said;
   explained = explained;
   one-decides = one-decides;

@@ -22,7 +22,7 @@ use Rattle.rules.specs.Refusals.{Row, row, Verdict, accepted, refusedAt,
 use Rattle.rules.specs.Refusals.{Buffers, tooShort, blockRows, wordRows, comparisonRows, sumRows, formRows, fileRows, hourRows, settleRows}
 use Rattle.rules.specs.Refusals.{badArea, noDemand, writeAmountRows}
 use Rattle.rules.specs.Settling.{Settlement, isAccepted, filled, ufeFigures, noFigures, settle, write}
-use Rattle.rules.specs.Promised.Demands.{Accepts, AllWhole, FirstBrokenRow, OneSettlement}
+use Rattle.rules.specs.Promised.Demands.{Accepts, AllWhole, FirstBrokenRow, ByTheTable, OneSettlement}
 use Rattle.rules.specs.Ranges.{Form, hourlyForm}
 
 -- ---- any table
@@ -86,6 +86,13 @@ answered-by (row k (some q) ∷ rows) n p e = record {
 pub refuses-at-first : (rows : List Row) (n p : ℕ) → (verdict rows ≡ refusedAt (suc n) p) ↔ FirstBrokenRow rows (suc n) p
 refuses-at-first rows n p =
     (answered-by rows n p, λ f. ap verdict (f .in-order) ∙ first-broken-answers (f .before) (f .after) (suc n) p (f .whole-before))
+
+-- so what a table says is given exactly as it says
+pub by-the-table : {rows : List Row} {told : Verdict} → Numbered rows → told ≡ verdict rows → ByTheTable rows told
+by-the-table {rows} numbered e = record {
+  accepts = let r = accepts-when-whole rows numbered in (λ a. r .0 (sym e ∙ a), λ w. e ∙ r .1 w);
+  refuses = λ n p. let r = refuses-at-first rows n p in (λ a. r .0 (sym e ∙ a), λ f. e ∙ r .1 f);
+}
 
 -- what the first rows refuse, all refuse alike
 pub refused-first : (rows more : List Row) → (verdict rows ≡ accepted → ⊥) → verdict (rows ++ more) ≡ verdict rows
@@ -238,17 +245,12 @@ module _ (s : List ℕ) (b : Buffers) where
       either-way true x y p q = p
       either-way false x y p q = q
 
-  pub settle-accepts : Accepts s b ↔ AllWhole (settleRows s b)
-  settle-accepts = let r = accepts-when-whole (settleRows s b) (settle-numbered s b) in
-      (λ e. r .0 (sym settle-verdict ∙ e), λ w. settle-verdict ∙ r .1 w)
+  pub settle-by-the-table : ByTheTable (settleRows s b) (settle s b .verdict)
+  settle-by-the-table = by-the-table (settle-numbered s b) settle-verdict
 
   -- accepted: every row but 11 is whole, and no buffer is too short
   pub settle-whole : Accepts s b → AllWhole (hourRows s) × (tooShort (hourIn s) b ≡ none)
-  settle-whole a = table-whole s b (settle-accepts .0 a)
-
-  pub settle-refuses : (n p : ℕ) → (settle s b .verdict ≡ refusedAt (suc n) p) ↔ FirstBrokenRow (settleRows s b) (suc n) p
-  settle-refuses n p = let r = refuses-at-first (settleRows s b) n p in
-      (λ e. r .0 (sym settle-verdict ∙ e), λ f. settle-verdict ∙ r .1 f)
+  settle-whole a = table-whole s b (settle-by-the-table .accepts .0 a)
 
   -- refused: every buffer is what it was, and all UFE figures are 0
   pub settle-changes-nothing : (Accepts s b → ⊥) → (settle s b .buffers ≡ b) × (settle s b .ufe ≡ noFigures)
@@ -265,13 +267,9 @@ module _ (s : List ℕ) (b : Buffers) where
 -- ---- writing
 
 module _ (f : List ℕ) (z : ℤ) where
-  pub write-accepts : (write f z .verdict ≡ accepted) ↔ AllWhole (writeAmountRows (length f) z)
+  pub write-by-the-table : ByTheTable (writeAmountRows (length f) z) (write f z .verdict)
   unfolding write
-  write-accepts = accepts-when-whole (writeAmountRows (length f) z) (write-numbered (length f) z)
-
-  pub write-refuses : (n p : ℕ) → (write f z .verdict ≡ refusedAt (suc n) p) ↔ FirstBrokenRow (writeAmountRows (length f) z) (suc n) p
-  unfolding write
-  write-refuses n p = refuses-at-first (writeAmountRows (length f) z) n p
+  write-by-the-table = by-the-table (write-numbered (length f) z) refl
 
   pub write-changes-nothing : (write f z .verdict ≡ accepted → ⊥) → write f z .field ≡ f
   unfolding write

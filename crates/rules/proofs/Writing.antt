@@ -1,10 +1,9 @@
 -- What is asked of the writer of hour files. Document 02, A2.
 use mathlib.Core.Path.{_≡_, refl, sym, _∙_, ap, ap₂, subst}
-use mathlib.Core.Logic.{_↔_}
 use mathlib.Core.Bool.{not, _&&_, _||_}
 use mathlib.Core.Option.{none}
 use mathlib.Core.List.{List, [], _∷_, _++_}
-use Prim.Native.Nat.{ℕ, suc, _+_, _-_, _*_, _/_, _%_, _≤_, _<_}
+use Prim.Native.Nat.{ℕ, _+_, _-_, _*_, _/_, _%_, _≤_, _<_}
 use native.Mathlib.Omega.{arith}
 use lib.ListN.{length, drop}
 use lib.Seq.{take-at}
@@ -16,13 +15,13 @@ use Rattle.whole.proofs.Buffers.{length-values, getD-values, length-replacing, 
 use Rattle.rules.specs.Record.{Hour}
 use Rattle.rules.specs.HourFile.{hourly, blockWord, recordCount, recordWord, hourOf, hourIn}
 use Rattle.rules.specs.HourWords.{hourFrom, headWords, recordWords, blocksFor, fileByte, fileLength, fileOf}
-use Rattle.rules.specs.Refusals.{row, Verdict, accepted, refusedAt, verdict, badLists, noRoom}
+use Rattle.rules.specs.Refusals.{row, Verdict, accepted, verdict, badLists, noRoom}
 use Rattle.rules.specs.Refusals.{blockRows, wordRows, comparisonRows, formRows, fileRows, listFormRows, listRows, writeHourRows}
 use Rattle.rules.specs.Settling.{HourWritten, isAccepted, writeHour}
-use Rattle.rules.specs.Promised.Demands.{AllWhole, FirstBrokenRow}
+use Rattle.rules.specs.Promised.Demands.{AllWhole, ByTheTable}
 use Rattle.rules.specs.Promised.Finals.{AreBytes}
 use Rattle.rules.specs.Promised.Writing.{AreWords, lengthFor, fileIn, Writing}
-use Rattle.rules.proofs.Rows.{Numbered, accepts-when-whole, zero-accepts, refuses-at-first, whole-parts, file-numbered, form-whole}
+use Rattle.rules.proofs.Rows.{Numbered, accepts-when-whole, zero-accepts, by-the-table, whole-parts, file-numbered, form-whole}
 use Rattle.rules.proofs.Rows.{no-place}
 use Rattle.rules.proofs.Words.{record-count}
 use Rattle.rules.proofs.Kept.{file-kept}
@@ -76,19 +75,14 @@ module _ (head records : List ℕ) where
     unfolding writeHour
     verdict-is = split (isAccepted rows) (λ t. rw t refl) (λ t. rw t refl)
 
-    accepts : (w .verdict ≡ accepted) ↔ AllWhole (writeHourRows head records (length file))
-    accepts = let r = accepts-when-whole (writeHourRows head records (length file)) (writer-numbered head records (length file)) in
-        (λ e. r .0 (sym verdict-is ∙ e), λ a. verdict-is ∙ r .1 a)
-
-    refuses : (n p : ℕ) → (w .verdict ≡ refusedAt (suc n) p) ↔ FirstBrokenRow (writeHourRows head records (length file)) (suc n) p
-    refuses n p = let r = refuses-at-first (writeHourRows head records (length file)) n p in
-        (λ e. r .0 (sym verdict-is ∙ e), λ f. verdict-is ∙ r .1 f)
+    by-rows : ByTheTable (writeHourRows head records (length file)) (w .verdict)
+    by-rows = by-the-table (writer-numbered head records (length file)) verdict-is
 
     -- accepted: the lists and their words, the records, and the room
     rows-whole : w .verdict ≡ accepted → AllWhole (listFormRows head records) × AllWhole (comparisonRows h) × (noRoom h (length file) ≡ none)
     unfolding writeHourRows listRows
     rows-whole e =
-        let all = whole-parts (listRows head records) (row 11 (noRoom h (length file)) ∷ []) .0 (accepts .0 e) in
+        let all = whole-parts (listRows head records) (row 11 (noRoom h (length file)) ∷ []) .0 (by-rows .accepts .0 e) in
         let lists = whole-parts (listFormRows head records) (comparisonRows h) .0 (all .0) in
         (lists .0, lists .1, all .1 .0)
 
@@ -223,7 +217,7 @@ module _ (s : List ℕ) where
         ≡ record { verdict = accepted; length = length s; file = s ++ drop (length s) file }
     unfolding replacingFirst fileOf
     same-bytes file enough =
-        let passed = accepts (headWords s) (recordWords hourly s) file .1 (own-lists-pass (length file) enough) in
+        let passed = by-rows (headWords s) (recordWords hourly s) file .accepts .1 (own-lists-pass (length file) enough) in
         let length-is : fileLength hourly (hourIn s) ≡ length s = sym (own-hour s bytes (form-whole s whole) .length-is) in
         written (headWords s) (recordWords hourly s) file passed
         ∙ rw (own-lists, length-is) (ap (λ (l : List ℕ). record { verdict = accepted; length = length s; file = l ++ drop (length s) file })
@@ -231,8 +225,7 @@ module _ (s : List ℕ) where
 
 pub writing : Writing
 writing = record {
-  accepts = accepts;
-  refuses = refuses;
+  by-the-table = by-rows;
   changes-nothing = changes-nothing;
   read-back = read-back;
   length-told = length-told;

@@ -1,6 +1,6 @@
 -- What is asked of an explanation, as statements about the definitions: the heads are the tariff's and add up to what settling writes into
 -- the member's line, the head named is the one that decided, and the refusals come in their order. Document 02, A5.
-use Prim.Native.Nat.{ℕ, suc, _≤_, _<_}
+use Prim.Native.Nat.{ℕ, _≤_, _<_}
 use mathlib.Core.Path.{_≡_}
 use mathlib.Core.Logic.{_↔_}
 use mathlib.Core.Bool.{true}
@@ -16,7 +16,7 @@ use Rattle.rules.specs.Refusals.{accepted, refusedAt, verdict, hourRows,
 use Rattle.rules.specs.Settling.{settle, emptyLine}
 use Rattle.rules.specs.Explanation.{noHeads, headAt, sameSign, explain}
 use Rattle.rules.specs.Promised.Tariff.{genDev, loadDev, impDev, expDev, coordinatorSum, UFEC}
-use Rattle.rules.specs.Promised.Demands.{Accepts, AllWhole, FirstBrokenRow}
+use Rattle.rules.specs.Promised.Demands.{Accepts, ByTheTable}
 
 -- the five heads a second way: the terms of a member's IEC, in every zone
 module _ (h : Hour) (m : ℕ) where
@@ -50,8 +50,7 @@ pub record Explains (h : Hour) (m : ℕ) (amount charge : ℤ) (heads : List ℤ
   pub none-for-zero : (decided ≡ none) ↔ (charge ≡ pos 0)
 
 pub record Explaining : Type 0 where
-  pub accepts : (s : List ℕ) (m : ℕ) → (explain s m .verdict ≡ accepted) ↔ AllWhole (explainRows s m)
-  pub refuses : (s : List ℕ) (m n p : ℕ) → (explain s m .verdict ≡ refusedAt (suc n) p) ↔ FirstBrokenRow (explainRows s m) (suc n) p
+  pub by-the-table : (s : List ℕ) (m : ℕ) → ByTheTable (explainRows s m) (explain s m .verdict)
   pub nothing-said : (s : List ℕ) (m : ℕ) → (explain s m .verdict ≡ accepted → ⊥) →
       (explain s m .heads ≡ noHeads) × (explain s m .decided ≡ none)
   -- an hour that settling accepts, into any buffers, is explained to each of its members, by the line and the charge that settling wrote

@@ -18,7 +18,7 @@ use Rattle.rules.specs.Charge.{entering, shareOf, recordsOf, grainsPerCe
 use Rattle.rules.specs.Neutrality.{final}
 use Rattle.rules.specs.Text.{bytes, digitByte, amountText, amountField}
 use Rattle.rules.specs.HourFile.{hourIn}
-use Rattle.rules.specs.Refusals.{Row, row, accepted, refusedAt, verdictOf, verdict, hourRows, writeAmountRows, readAmountRows, Buffers, settleRows}
+use Rattle.rules.specs.Refusals.{Row, row, Verdict, accepted, refusedAt, verdictOf, verdict, hourRows, writeAmountRows, readAmountRows, Buffers, settleRows}
 use Rattle.rules.specs.Settling.{settle, noFigures, write, read, emptyLine}
 use Rattle.rules.specs.Statement.{memberLine}
 use Rattle.rules.specs.Promised.Tariff.{devAs, ufeOfTerritory, IEC}
@@ -42,6 +42,13 @@ pub record FirstBrokenRow (rows : List Row) (number place : ℕ) : Type 0 where
   pub in-order : rows ≡ before ++ row number (some place) ∷ after
   pub whole-before : AllWhole before
 
+-- a verdict given exactly as a table says
+pub record ByTheTable (rows : List Row) (told : Verdict) : Type 0 where
+  -- accepted exactly when every row is whole
+  pub accepts : (told ≡ accepted) ↔ AllWhole rows
+  -- refused with a number and a place exactly when that row is the first that is broken, at that place
+  pub refuses : (n p : ℕ) → (told ≡ refusedAt (suc n) p) ↔ FirstBrokenRow rows (suc n) p
+
 -- any blanks and the text of an amount in range
 pub record IsTextOf (z : ℤ) (s : List ℕ) : Type 0 where
   pub in-range : natAbs z ≤ 999999999999
@@ -49,13 +56,9 @@ pub record IsTextOf (z : ℤ) (s : List ℕ) : Type 0 where
   pub spelled : s ≡ replicate blanks 32 ++ amountText z
 
 pub record Demand1 : Type 0 where
-  pub settle-accepts : (s : List ℕ) (b : Buffers) → Accepts s b ↔ AllWhole (settleRows s b)
-  pub settle-refuses : (s : List ℕ) (b : Buffers) (n p : ℕ) →
-      (settle s b .verdict ≡ refusedAt (suc n) p) ↔ FirstBrokenRow (settleRows s b) (suc n) p
+  pub settle-by-the-table : (s : List ℕ) (b : Buffers) → ByTheTable (settleRows s b) (settle s b .verdict)
   pub settle-changes-nothing : (s : List ℕ) (b : Buffers) → (Accepts s b → ⊥) → (settle s b .buffers ≡ b) × (settle s b .ufe ≡ noFigures)
-  pub write-accepts : (f : List ℕ) (z : ℤ) → (write f z .verdict ≡ accepted) ↔ AllWhole (writeAmountRows (length f) z)
-  pub write-refuses : (f : List ℕ) (z : ℤ) (n p : ℕ) →
-      (write f z .verdict ≡ refusedAt (suc n) p) ↔ FirstBrokenRow (writeAmountRows (length f) z) (suc n) p
+  pub write-by-the-table : (f : List ℕ) (z : ℤ) → ByTheTable (writeAmountRows (length f) z) (write f z .verdict)
   pub write-changes-nothing : (f : List ℕ) (z : ℤ) → (write f z .verdict ≡ accepted → ⊥) → write f z .field ≡ f
   pub read-checks : (s : List ℕ) → read s .verdict ≡ verdict (readAmountRows s)
   pub read-accepts : (s : List ℕ) (z : ℤ) → (read s ≡ record { verdict = accepted; amount = z }) ↔ IsTextOf z s

@@ -1,17 +1,16 @@
 -- What is asked of the writer of hour files, as statements about the definitions: what it writes is read back as the same hour, and an
 -- accepted file's own head and records give its bytes again. Document 02, A2.
-use Prim.Native.Nat.{ℕ, suc, _+_, _*_, _/_, _<_, _≤_}
+use Prim.Native.Nat.{ℕ, _+_, _*_, _/_, _<_, _≤_}
 use mathlib.Core.Path.{_≡_}
-use mathlib.Core.Logic.{_↔_}
 use mathlib.Core.List.{List, _++_}
 use lib.ListN.{length, take, drop, getD}
 use Rattle.rules.specs.HourFile.{hourly, hourIn}
 use Rattle.rules.specs.HourWords.{hourFrom, headWords, recordWords}
-use Rattle.rules.specs.Refusals.{accepted, refusedAt, verdict, fileRows, writeHourRows}
+use Rattle.rules.specs.Refusals.{accepted, verdict, fileRows, writeHourRows}
 use Rattle.rules.specs.Settling.{HourWritten, writeHour}
 use Rattle.rules.specs.RawHour.{rawRows, rawWritten}
 use Rattle.rules.specs.Promised.Lines.{SaysRefused}
-use Rattle.rules.specs.Promised.Demands.{AllWhole, FirstBrokenRow}
+use Rattle.rules.specs.Promised.Demands.{ByTheTable}
 use Rattle.rules.specs.Promised.Finals.{AreBytes}
 
 -- words of 32 bits
@@ -28,10 +27,8 @@ fileIn w = take (w .length) (w .file)
 
 pub record Writing : Type 0 where
   -- refused exactly when the writer's rows say, with their number and place
-  pub accepts : (head records file : List ℕ) →
-      (writeHour head records file .verdict ≡ accepted) ↔ AllWhole (writeHourRows head records (length file))
-  pub refuses : (head records file : List ℕ) (n p : ℕ) →
-      (writeHour head records file .verdict ≡ refusedAt (suc n) p) ↔ FirstBrokenRow (writeHourRows head records (length file)) (suc n) p
+  pub by-the-table : (head records file : List ℕ) →
+      ByTheTable (writeHourRows head records (length file)) (writeHour head records file .verdict)
   -- and then nothing is written
   pub changes-nothing : (head records file : List ℕ) → (writeHour head records file .verdict ≡ accepted → ⊥) →
       (writeHour head records file .length ≡ 0) × (writeHour head records file .file ≡ file)
