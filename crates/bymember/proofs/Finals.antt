@@ -6,14 +6,15 @@ use Prim.Native.Nat.{ℕ, _+_, _≤_, _<_}
 use native.Mathlib.Nat.{le-refl, le-of-lt}
 use native.Mathlib.Omega.{arith}
 use lib.Dec.{eqb}
-use lib.IntN.{ℤ, natAbs, _+ℤ_, _-ℤ_}
+use lib.IntN.{ℤ, pos, natAbs, _+ℤ_, _-ℤ_}
 use lib.ListN.{length, getD}
 use mir.Syntax.{w64}
 use mir.Val.{SFits, toZ}
 use Rattle.whole.specs.Below.{sumBelow, totalBelow, replacingFirst}
-use Rattle.whole.specs.Signed.{withSignOf}
+use Rattle.whole.specs.Signed.{withSignOf, Under}
 use Rattle.whole.proofs.Sums.{all-count, sum-ext, sum-prefix, sum-at}
-use Rattle.whole.proofs.Totals.{total-add-one}
+use Rattle.whole.proofs.Totals.{total-ext, total-add-one, total-under}
+use Rattle.whole.proofs.Ranges.{u-le}
 use Rattle.whole.proofs.Buffers.{getD-replacing, length-replacing, replacing-ext}
 use Rattle.whole.proofs.Adding.{Added, sumsBy, all-added}
 use Rattle.whole.proofs.Machine.{Num, local, result, _:+_, _:-_, fits, stored, back}
@@ -25,25 +26,42 @@ use Rattle.rules.specs.Inner.Posting.{demandOf}
 use Rattle.rules.specs.Inner.Kept.{HourKept}
 use Rattle.rules.proofs.Shares.{gathered-shares, size-at-most}
 use Rattle.rules.proofs.Bounds.{charge-under}
-use Rattle.rules.proofs.Neutral.{member-demand-by-record, hour-demand-most, charges-running, neutrality-under, neutrality-share-under}
+use Rattle.rules.proofs.Neutral.{member-demand-by-record, hour-demand-most, neutrality-under, neutrality-share-under}
 use Rattle.share.specs.Shareable.{at, everyone, demanded, Shareable, sharesIn}
 use Rattle.share.proofs.Uses.{neutrality-shareable}
 use Rattle.rules.specs.HourFile.{hourIn}
-use Rattle.bymember.specs.Charged.{sizeOf, Sized}
+use Rattle.bymember.specs.Charged.{Charged, Bounded, sizeOf, Sized}
+
+-- ---- N: a few numbers are added up, and one more
+
+module _ (f : ℕ → ℤ) (m : ℕ) (few : m < 32) (small : (i : ℕ) → i ≤ m → Under (f i) 400000000000) (sum : ℕ) {x : ℤ}
+    (so-far : toZ w64 sum ≡ totalBelow f m) (next : x ≡ f m) where
+  running : Under (totalBelow f m) 12800000000000
+  running = u-le (total-under f 400000000000 m (λ i l. small i (le-of-lt l))) (omega (arith, few))
+
+  abbrev more : Num
+  more = local so-far running :+ result next (small m (le-refl m))
+
+  pub number-fits : SFits w64 (toZ w64 sum +ℤ back x)
+  number-fits = fits more tt
+
+  pub number-added : back (toZ w64 sum +ℤ back x) ≡ totalBelow f (m + 1)
+  number-added = stored more tt ∙ sym (total-add-one f m)
+
+-- the charges of an hour, of which the sum is N
+module _ {s : List ℕ} {charges : List ℤ} (c : Charged s charges) {n : ℕ} (all : n ≡ members (hourIn s)) where
+  pub charges-bounded : Bounded charges n 400000000000
+  charges-bounded = record {
+    few = omega (arith, all, c .kept .hour-kept .members-most);
+    room = omega (arith, all, c .room);
+    small = λ m l. rw (c .charges-are m (omega (arith, all))) (u-le (charge-under (c .kept .hour-kept) m) (omega arith));
+  }
+
+  pub charges-total : totalBelow (λ m. getD charges m (pos 0)) n ≡ neutrality (hourIn s)
+  unfolding neutrality
+  charges-total = ap (totalBelow (λ m. getD charges m (pos 0))) all ∙ total-ext _ (charge (hourIn s)) (members (hourIn s)) (c .charges-are)
 
 module _ {h : Hour} (kept : HourKept h) where
-  -- ---- N: the charges before member m are added up, and its charge is known
-
-  module _ (m : ℕ) (there : m < members h) (sum : ℕ) {x : ℤ} (so-far : toZ w64 sum ≡ totalBelow (charge h) m) (next : x ≡ charge h m) where
-    abbrev more : Num
-    more = local so-far (charges-running kept m (le-of-lt there)) :+ result next (charge-under kept m)
-
-    pub charge-fits : SFits w64 (toZ w64 sum +ℤ back x)
-    charge-fits = fits more tt
-
-    pub charge-added : back (toZ w64 sum +ℤ back x) ≡ totalBelow (charge h) (m + 1)
-    charge-added = stored more tt ∙ sym (total-add-one (charge h) m)
-
   -- ---- the members' demands, record by record
 
   abbrev pub demandsAfter : ℕ → ℕ → ℕ

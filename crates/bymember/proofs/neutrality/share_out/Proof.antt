@@ -9,12 +9,12 @@ use Rattle.rules.specs.Record.{Hour}
 use Rattle.rules.specs.Neutrality.{neutrality}
 use Rattle.share.specs.Shareable.{sharesIn}
 use Rattle.rules.specs.HourFile.{hourIn}
-use Rattle.bymember.proofs.Finals.{Asked, shareable, sized}
+use Rattle.bymember.proofs.Finals.{charges-bounded, charges-total, Asked, shareable, sized}
 use Rattle.bymember.proofs.neutrality.share_out.Statement.{statement}
 use Rattle.bymember.proofs.neutrality.share_out.Tie as tie
 
 sum-of-requires : tie.Need-sum-of-requires
-sum-of-requires c κs = let pre = c .before .before .pre in (pre .0, pre .2 .as-many)
+sum-of-requires c κs = let pre = c .before .before .pre in charges-bounded (pre .0) (pre .2 .as-many)
 
 put-demands-requires : tie.Need-put-demands-requires
 put-demands-requires c κs = let pre = c .before .before .before .before .pre in (pre .0 .kept, pre .1, pre .2)
@@ -40,7 +40,7 @@ module _ (c : tie.After-size-of) where
   put = demanded .put-demands .last .1 .1 .0
 
   all-is : back (summed .sum-of .result) ≡ neutrality h
-  all-is = read-back (sfits-of (summed .sum-of .ok)) ∙ summed .sum-of .ensures
+  all-is = read-back (sfits-of (summed .sum-of .ok)) ∙ summed .sum-of .ensures ∙ charges-total (start .pre .0) (start .pre .2 .as-many)
 
   size-is : c .size-of .result ≡ natAbs (neutrality h)
   size-is = c .size-of .ensures ∙ ap natAbs all-is
