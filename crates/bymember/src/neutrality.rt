@@ -3,7 +3,7 @@
 // before it writes to any buffer.
 ghost use mathlib.Core.Path.{_≡_};
 ghost use mathlib.Core.Bool.{not};
-ghost use Prim.Native.Nat.{_≤_, _<_};
+ghost use Prim.Native.Nat.{ℕ, _≤_, _<_};
 ghost use lib.Dec.{eqb};
 ghost use lib.IntN.{pos, natAbs};
 ghost use lib.ListN.{length, getD};
@@ -16,13 +16,13 @@ ghost use Rattle.rules.specs.Inner.Kept.{FileKept};
 ghost use Rattle.rules.specs.HourFile.{hourIn};
 ghost use Rattle.hour.specs.Hour.{pricesOf, Headed};
 ghost use Rattle.byarea.specs.Posted.{Tallied};
-ghost use Rattle.bymember.specs.Charged.{Charged, Deviated, Empty, Bounded, Sized};
+ghost use Rattle.bymember.specs.Charged.{Charged, Deviated, Empty, Bounded, lessShare};
 use hour::Head;
 use rules::Tally;
 
 // ---- finals
 
-// The sum of the first `n` charges, which is N where they are an hour's. None is larger than row 7 lets an amount be, in cents.
+// The sum of the first `n` charges: N, where they are an hour's. No charge of an hour is over 400,000,000,000 cents in size.
 fn sum_of(charges: &[i64], n: usize) -> i64
     requires { ⌜ Bounded (now charges) n 400000000000 ⌝ }
     ensures { λ r. ⌜ r ≡ totalBelow (λ m. getD (now (charges .entry)) m (pos 0)) n ⌝ }
@@ -52,11 +52,11 @@ fn put_demands(file: &[u8], records: usize, demands: &mut [u64])
 }
 
 // Each member's share, which takes the sign of N, off its charge.
-fn take_off(file: &[u8], charges: &[i64], all: i64, sizes: &[u64], finals: &mut [i64])
-    requires { ⌜ Charged (now file) (now charges) × Sized (now file) all (now sizes)
-        × (Record.members (hourIn (now file)) ≤ length (now finals)) ⌝ }
+fn take_off(charges: &[i64], all: i64, sizes: &[u64], finals: &mut [i64])
+    requires { ⌜ Bounded (now charges) (length (now sizes)) 400000000000 × (length (now sizes) ≤ length (now finals))
+        × ((m : ℕ) → m < length (now sizes) → getD (now sizes) m 0 ≤ 400000000000) ⌝ }
     ensures { λ _. ⌜ now (finals .exit)
-        ≡ replacingFirst (final (hourIn (now (file .entry)))) (Record.members (hourIn (now (file .entry)))) (now (finals .entry)) ⌝ }
+        ≡ replacingFirst (lessShare (now (charges .entry)) all (now (sizes .entry))) (length (now (sizes .entry))) (now (finals .entry)) ⌝ }
 {
     let mut m = 0;
     while m < sizes.len() {
@@ -75,7 +75,7 @@ fn share_out(file: &[u8], records: usize, charges: &[i64], room: &mut [u64], fin
     let all = sum_of(charges, room.len());
     put_demands(file, records, room);
     share::share_in_place(room, whole::size_of(all));
-    take_off(file, charges, all, room, finals);
+    take_off(charges, all, room, finals);
 }
 
 // One a member, into the first places; the places past them are unchanged.
@@ -116,7 +116,7 @@ fn put_amounts(
     }
 }
 
-// The sum of these amounts in cents, each rounded by itself, which is N where they are an hour's.
+// The sum of these amounts in cents, each rounded by itself: N, where they are an hour's.
 fn sum_of_cents(amounts: &[i64]) -> i64
     requires { ⌜ Bounded (now amounts) (length (now amounts)) mostGrains ⌝ }
     ensures { λ r. ⌜ r ≡ totalBelow (λ m. Charge.cents (getD (now (amounts .entry)) m (pos 0))) (length (now (amounts .entry))) ⌝ }
