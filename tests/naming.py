@@ -82,6 +82,21 @@ def edits():
     return {f"{edit.parent.parent.name}/{edit.stem}" for edit in CRATES.glob("*/must-fail/*.edit")}
 
 
+def texts_edited():
+    """(crate/edit, old text, how often it stands in its file, once the changes before it are made) for every change of every edit."""
+    for edit in sorted(CRATES.glob("*/must-fail/*.edit")):
+        crate, text, old = edit.parent.parent, "", ""
+        for line in edit.read_text().splitlines():
+            key, _, value = line.partition(": ")
+            if key == "file":
+                text = (crate / value).read_text()
+            elif key == "old":
+                old = value
+                yield f"{crate.name}/{edit.stem}", old, text.count(old)
+            elif key == "new":
+                text = text.replace(old, value)
+
+
 def edits_named(page):
     """Every `crate/edit` that a page names, as often as it does, whether there is one or not."""
     named = [name for line in page.splitlines() for name in names(line) if re.fullmatch(r"\w+/\w+", name)]

@@ -1,18 +1,18 @@
 // By area: the hour's tally, lent to each posting in file order, and what it gives: each area's UFE, refusal 6, and whether
 // anybody demands anything.
 ghost use mathlib.Core.Path.{_≡_};
-ghost use Prim.Native.Nat.{_<_};
+ghost use Prim.Native.Nat.{_≤_, _<_};
 ghost use lib.Dec.{eqb};
+ghost use Rattle.whole.specs.Below.{firstBelow};
 ghost use Rattle.rules.specs.Record as Record;
 ghost use Rattle.rules.specs.Ufe.{ufe};
-ghost use Rattle.rules.specs.Neutrality.{hourDemand};
 ghost use Rattle.rules.specs.Inner.Posting as Posting;
-ghost use Rattle.rules.specs.Refusals.{badArea, foundAt};
+ghost use Rattle.rules.specs.Refusals.{foundAt};
 ghost use Rattle.rules.specs.Settling.{ufeFigures};
 ghost use Rattle.formula.specs.Room.{TallyRoom};
 ghost use Rattle.rules.specs.HourFile.{hourIn};
 ghost use Rattle.hour.specs.Hour.{Headed};
-ghost use Rattle.byarea.specs.Posted.{Tallied};
+ghost use Rattle.byarea.specs.Posted.{Tallied, unshared, demandIn};
 use hour::Head;
 use rules::Found;
 use rules::Tally;
@@ -69,13 +69,11 @@ pub fn ufe_figures(file: &[u8], head: Head, t: Tally) -> [i64; 8]
     ufe
 }
 
-// Refusal 6: the first area where nobody demands anything and there is something to share. The file is not read: it says whose head, tally
-// and figures these are.
-pub fn area_without_demand(file: &[u8], head: Head, t: Tally, ufe: [i64; 8]) -> Found
-    requires { ⌜ Headed (now file) head × Tallied (now file) t × (ufe ≡ ufeFigures (hourIn (now file))) ⌝ }
-    ensures { λ r. ⌜ foundAt r ≡ badArea (hourIn (now (file .entry))) ⌝ }
+// Refusal 6: the first area where nobody demands anything and there is something to share.
+pub fn area_without_demand(areas: usize, t: Tally, ufe: [i64; 8]) -> Found
+    requires { ⌜ areas ≤ 8 ⌝ }
+    ensures { λ r. ⌜ foundAt r ≡ firstBelow (unshared t ufe) areas ⌝ }
 {
-    let areas = head.areas;
     let mut a = 0;
     while a < areas {
         if t.demand[a] == 0 {
@@ -88,13 +86,11 @@ pub fn area_without_demand(file: &[u8], head: Head, t: Tally, ufe: [i64; 8]) -> 
     Found::Nothing
 }
 
-// Whether nobody demands anything in the hour, so that there is nothing to share the neutrality amount by. The file is not read: it says
-// whose head and tally these are.
-pub fn nobody_demands(file: &[u8], head: Head, t: Tally) -> bool
-    requires { ⌜ Headed (now file) head × Tallied (now file) t ⌝ }
-    ensures { λ r. ⌜ r ≡ eqb (hourDemand (hourIn (now (file .entry)))) 0 ⌝ }
+// Whether nobody demands anything in these areas: in an hour without demand there is nothing to share the neutrality amount by.
+pub fn nobody_demands(areas: usize, t: Tally) -> bool
+    requires { ⌜ areas ≤ 8 ⌝ }
+    ensures { λ r. ⌜ r ≡ eqb (demandIn t areas) 0 ⌝ }
 {
-    let areas = head.areas;
     let mut a = 0;
     while a < areas {
         if t.demand[a] != 0 {

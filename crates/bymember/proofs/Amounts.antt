@@ -2,26 +2,29 @@
 use mathlib.Core.Path.{_≡_, sym, _∙_, ap}
 use mathlib.Core.List.{List}
 use Prim.Native.Nat.{ℕ, _+_, _≤_, _<_}
-use native.Mathlib.Nat.{le-of-lt}
+use native.Mathlib.Nat.{le-refl, le-of-lt}
 use native.Mathlib.Omega.{arith}
 use lib.IntN.{ℤ, pos, _+ℤ_}
 use lib.ListN.{length, getD, set}
 use mir.Syntax.{w64}
 use mir.Val.{SFits}
-use Rattle.whole.specs.Below.{replacingFirst}
+use Rattle.whole.specs.Below.{totalBelow, replacingFirst}
+use Rattle.whole.proofs.Totals.{total-ext}
+use Rattle.whole.proofs.Ranges.{u-le}
 use Rattle.whole.proofs.Buffers.{getD-replacing, length-replacing}
 use Rattle.whole.proofs.Adding.{Added, totalsBy, added-at, next-total, all-added}
 use Rattle.whole.proofs.Machine.{Num, result, _:+_, fits, stored, back}
 use Rattle.rules.specs.Record.{Hour, members, memberOf, areaOf, entryOf}
 use Rattle.rules.specs.Deviation.{deviation}
-use Rattle.rules.specs.Charge.{shareOf, grains, amount}
-use Rattle.rules.specs.Neutrality.{hourDemand}
+use Rattle.rules.specs.Charge.{shareOf, grains, amount, cents, charge}
+use Rattle.rules.specs.Neutrality.{hourDemand, neutrality}
+use Rattle.rules.specs.Refusals.{mostGrains}
 use Rattle.rules.specs.Inner.Kept.{HourKept, FileKept}
 use Rattle.rules.proofs.Fair.{none-to-share}
-use Rattle.rules.proofs.Bounds.{grains-under, amount-running}
+use Rattle.rules.proofs.Bounds.{grains-under, amount-running, amount-under}
 use Rattle.rules.proofs.Neutral.{no-area-demands}
 use Rattle.rules.specs.HourFile.{hourIn}
-use Rattle.bymember.specs.Charged.{Deviated, Empty, Amounts}
+use Rattle.bymember.specs.Charged.{Deviated, Empty, Amounts, Bounded}
 
 module _ {h : Hour} (kept : HourKept h) where
   pub no-share : hourDemand h ≡ 0 → (i : ℕ) → i < h .count → pos 0 ≡ shareOf h i
@@ -70,3 +73,17 @@ amounts-ready {s} {lent} kept empty put = record {
   as-many = ap length put ∙ length-replacing (amount (hourIn s)) (members (hourIn s)) lent (omega (arith, empty .as-many)) ∙ empty .as-many;
   amounts-are = λ m l. rw put (getD-replacing (amount (hourIn s)) (members (hourIn s)) lent m (pos 0) l);
 }
+
+-- their cents are the hour's charges, and the sum of these is N
+module _ {s : List ℕ} {amounts : List ℤ} (a : Amounts s amounts) where
+  pub amounts-bounded : Bounded amounts (length amounts) mostGrains
+  amounts-bounded = record {
+    few = omega (arith, a .as-many, a .kept .hour-kept .members-most);
+    room = le-refl (length amounts);
+    small = λ m l. rw (a .amounts-are m (omega (arith, a .as-many))) (u-le (amount-under (a .kept .hour-kept) m) (omega arith));
+  }
+
+  pub cents-total : totalBelow (λ m. cents (getD amounts m (pos 0))) (length amounts) ≡ neutrality (hourIn s)
+  unfolding neutrality charge
+  cents-total = ap (totalBelow (λ m. cents (getD amounts m (pos 0)))) (a .as-many)
+      ∙ total-ext _ (λ m. cents (amount (hourIn s) m)) (members (hourIn s)) (λ m l. ap cents (a .amounts-are m l))

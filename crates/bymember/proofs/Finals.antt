@@ -1,22 +1,23 @@
 -- The steps to the finals: charges added up to N, members' demands gathered, the engine asked with them, each share taken off its charge.
-use mathlib.Core.Path.{_≡_, refl, sym, _∙_, ap}
+use mathlib.Core.Path.{_≡_, refl, sym, _∙_, ap, ap₂}
 use mathlib.Core.Bool.{cond}
 use mathlib.Core.List.{List}
 use Prim.Native.Nat.{ℕ, _+_, _≤_, _<_}
 use native.Mathlib.Nat.{le-refl, le-of-lt}
 use native.Mathlib.Omega.{arith}
 use lib.Dec.{eqb}
-use lib.IntN.{ℤ, natAbs, _+ℤ_, _-ℤ_}
+use lib.IntN.{ℤ, pos, natAbs, _+ℤ_, _-ℤ_}
 use lib.ListN.{length, getD}
 use mir.Syntax.{w64}
 use mir.Val.{SFits, toZ}
 use Rattle.whole.specs.Below.{sumBelow, totalBelow, replacingFirst}
-use Rattle.whole.specs.Signed.{withSignOf}
+use Rattle.whole.specs.Signed.{withSignOf, Under}
 use Rattle.whole.proofs.Sums.{all-count, sum-ext, sum-prefix, sum-at}
-use Rattle.whole.proofs.Totals.{total-add-one}
+use Rattle.whole.proofs.Totals.{total-ext, total-add-one, total-under}
+use Rattle.whole.proofs.Ranges.{u-le}
 use Rattle.whole.proofs.Buffers.{getD-replacing, length-replacing, replacing-ext}
 use Rattle.whole.proofs.Adding.{Added, sumsBy, all-added}
-use Rattle.whole.proofs.Machine.{Num, local, result, _:+_, _:-_, fits, stored, back}
+use Rattle.whole.proofs.Machine.{Num, local, result, _:+_, fits, stored, back}
 use Rattle.rules.specs.Record.{Hour, members, memberOf}
 use Rattle.rules.specs.Share.{allDemand, shareSize, share}
 use Rattle.rules.specs.Charge.{charge}
@@ -25,25 +26,42 @@ use Rattle.rules.specs.Inner.Posting.{demandOf}
 use Rattle.rules.specs.Inner.Kept.{HourKept}
 use Rattle.rules.proofs.Shares.{gathered-shares, size-at-most}
 use Rattle.rules.proofs.Bounds.{charge-under}
-use Rattle.rules.proofs.Neutral.{member-demand-by-record, hour-demand-most, charges-running, neutrality-under, neutrality-share-under}
+use Rattle.rules.proofs.Neutral.{member-demand-by-record, hour-demand-most, neutrality-under}
 use Rattle.share.specs.Shareable.{at, everyone, demanded, Shareable, sharesIn}
 use Rattle.share.proofs.Uses.{neutrality-shareable}
 use Rattle.rules.specs.HourFile.{hourIn}
-use Rattle.bymember.specs.Charged.{sizeOf, Sized}
+use Rattle.bymember.specs.Charged.{Charged, Bounded, lessShare, sizeOf, Sized}
+
+-- ---- N: a few numbers are added up, and one more
+
+module _ (f : ℕ → ℤ) (m : ℕ) (few : m < 32) (small : (i : ℕ) → i ≤ m → Under (f i) 400000000000) (sum : ℕ) {x : ℤ}
+    (so-far : toZ w64 sum ≡ totalBelow f m) (next : x ≡ f m) where
+  running : Under (totalBelow f m) 12800000000000
+  running = u-le (total-under f 400000000000 m (λ i l. small i (le-of-lt l))) (omega (arith, few))
+
+  abbrev more : Num
+  more = local so-far running :+ result next (small m (le-refl m))
+
+  pub number-fits : SFits w64 (toZ w64 sum +ℤ back x)
+  number-fits = fits more tt
+
+  pub number-added : back (toZ w64 sum +ℤ back x) ≡ totalBelow f (m + 1)
+  number-added = stored more tt ∙ sym (total-add-one f m)
+
+-- the charges of an hour, of which the sum is N
+module _ {s : List ℕ} {charges : List ℤ} (c : Charged s charges) {n : ℕ} (all : n ≡ members (hourIn s)) where
+  pub charges-bounded : Bounded charges n 400000000000
+  charges-bounded = record {
+    few = omega (arith, all, c .kept .hour-kept .members-most);
+    room = omega (arith, all, c .room);
+    small = λ m l. rw (c .charges-are m (omega (arith, all))) (u-le (charge-under (c .kept .hour-kept) m) (omega arith));
+  }
+
+  pub charges-total : totalBelow (λ m. getD charges m (pos 0)) n ≡ neutrality (hourIn s)
+  unfolding neutrality
+  charges-total = ap (totalBelow (λ m. getD charges m (pos 0))) all ∙ total-ext _ (charge (hourIn s)) (members (hourIn s)) (c .charges-are)
 
 module _ {h : Hour} (kept : HourKept h) where
-  -- ---- N: the charges before member m are added up, and its charge is known
-
-  module _ (m : ℕ) (there : m < members h) (sum : ℕ) {x : ℤ} (so-far : toZ w64 sum ≡ totalBelow (charge h) m) (next : x ≡ charge h m) where
-    abbrev more : Num
-    more = local so-far (charges-running kept m (le-of-lt there)) :+ result next (charge-under kept m)
-
-    pub charge-fits : SFits w64 (toZ w64 sum +ℤ back x)
-    charge-fits = fits more tt
-
-    pub charge-added : back (toZ w64 sum +ℤ back x) ≡ totalBelow (charge h) (m + 1)
-    charge-added = stored more tt ∙ sym (total-add-one (charge h) m)
-
   -- ---- the members' demands, record by record
 
   abbrev pub demandsAfter : ℕ → ℕ → ℕ
@@ -115,28 +133,24 @@ pub sized : {s : List ℕ} {lent demands got : List ℕ} {all : ℤ} → Asked (
     got ≡ sharesIn demands (natAbs (neutrality (hourIn s))) demands → Sized s all got
 sized q all-is shared = record { all-is = all-is; as-many = got-as-many q shared; sizes-are = got-at q shared }
 
--- ---- a share is taken off
+-- ---- the shares are taken off
 
-module _ {h : Hour} (kept : HourKept h) (m : ℕ) (there : m < members h) where
-  pub size-small : sizeOf h m < 9223372036854775808
+module _ {s : List ℕ} {charges : List ℤ} (c : Charged s charges) {all : ℤ} {sizes : List ℕ} (z : Sized s all sizes) where
+  pub sizes-bounded : (m : ℕ) → m < length sizes → getD sizes m 0 ≤ 400000000000
   unfolding sizeOf
-  size-small = omega (
-    arith,
-    size-at-most everyMember (memberDemand h) (members h) (natAbs (neutrality h)) m there,
-    neutrality-under kept .under,
-  )
+  sizes-bounded m l =
+      let there : m < members (hourIn s) = omega (arith, z .as-many) in
+      omega (
+        arith,
+        z .sizes-are m there,
+        size-at-most everyMember (memberDemand (hourIn s)) (members (hourIn s)) (natAbs (neutrality (hourIn s))) m there,
+        neutrality-under (c .kept .hour-kept) .under,
+      )
 
-  module _ {x y : ℤ} (charged : x ≡ charge h m) (shared : y ≡ withSignOf (neutrality h) (sizeOf h m)) where
-    share-is : y ≡ neutralityShare h m
-    unfolding neutralityShare share sizeOf
-    share-is = shared
-
-    abbrev less : Num
-    less = result charged (charge-under kept m) :- result share-is (neutrality-share-under kept m there)
-
-    pub final-fits : SFits w64 (back x -ℤ back y)
-    final-fits = fits less tt
-
-    pub final-is : back (back x -ℤ back y) ≡ final h m
-    unfolding final
-    final-is = stored less tt
+  pub taken-off : (before : List ℤ) {after : List ℤ} → after ≡ replacingFirst (lessShare charges all sizes) (length sizes) before →
+      after ≡ replacingFirst (final (hourIn s)) (members (hourIn s)) before
+  unfolding final neutralityShare share sizeOf
+  taken-off before e = e
+      ∙ ap (λ k. replacingFirst (lessShare charges all sizes) k before) (z .as-many)
+      ∙ replacing-ext _ (final (hourIn s)) (members (hourIn s)) before (λ m l. ap₂ _-ℤ_ (c .charges-are m l)
+      (ap₂ withSignOf (z .all-is) (z .sizes-are m l)))

@@ -2,8 +2,9 @@
 use Prim.Native.Nat.{ℕ, _≤_, _<_}
 use mathlib.Core.Path.{_≡_}
 use mathlib.Core.List.{List}
-use lib.IntN.{ℤ, pos, natAbs}
+use lib.IntN.{ℤ, pos, natAbs, _-ℤ_}
 use lib.ListN.{length, getD}
+use Rattle.whole.specs.Signed.{Under, withSignOf}
 use Rattle.rules.specs.Record.{Hour, members, entryOf}
 use Rattle.rules.specs.Deviation.{deviation}
 use Rattle.rules.specs.Share.{shareSize}
@@ -33,6 +34,16 @@ pub record Amounts (s : List ℕ) (amounts : List ℤ) : Type 0 where
   pub kept : FileKept s
   pub as-many : length amounts ≡ members (hourIn s)
   pub amounts-are : (m : ℕ) → m < members (hourIn s) → getD amounts m (pos 0) ≡ amount (hourIn s) m
+
+-- at most 32 numbers, in the first places, that are at most so large
+pub record Bounded (numbers : List ℤ) (n most : ℕ) : Type 0 where
+  pub few : n ≤ 32
+  pub room : n ≤ length numbers
+  pub small : (m : ℕ) → m < n → Under (getD numbers m (pos 0)) most
+
+-- a charge less its share, which takes the sign of what is shared
+abbrev pub lessShare : (charges : List ℤ) (all : ℤ) (sizes : List ℕ) → ℕ → ℤ
+lessShare charges all sizes m = getD charges m (pos 0) -ℤ withSignOf all (getD sizes m 0)
 
 -- the size of a member's share of N
 unfoldable pub sizeOf : Hour → ℕ → ℕ

@@ -3,29 +3,29 @@
 // before it writes to any buffer.
 ghost use mathlib.Core.Path.{_≡_};
 ghost use mathlib.Core.Bool.{not};
-ghost use Prim.Native.Nat.{_≤_, _<_};
+ghost use Prim.Native.Nat.{ℕ, _≤_, _<_};
 ghost use lib.Dec.{eqb};
 ghost use lib.IntN.{pos, natAbs};
-ghost use lib.ListN.{length};
-ghost use Rattle.whole.specs.Below.{replacingFirst};
+ghost use lib.ListN.{length, getD};
+ghost use Rattle.whole.specs.Below.{totalBelow, replacingFirst};
 ghost use Rattle.rules.specs.Record as Record;
 ghost use Rattle.rules.specs.Charge as Charge;
 ghost use Rattle.rules.specs.Neutrality.{memberDemand, hourDemand, neutrality, final};
-ghost use Rattle.rules.specs.Refusals.{placeZeroIf, noDemand};
+ghost use Rattle.rules.specs.Refusals.{mostGrains, placeZeroIf, noDemand};
 ghost use Rattle.rules.specs.Inner.Kept.{FileKept};
 ghost use Rattle.rules.specs.HourFile.{hourIn};
 ghost use Rattle.hour.specs.Hour.{pricesOf, Headed};
 ghost use Rattle.byarea.specs.Posted.{Tallied};
-ghost use Rattle.bymember.specs.Charged.{Charged, Deviated, Empty, Amounts, Sized};
+ghost use Rattle.bymember.specs.Charged.{Charged, Deviated, Empty, Bounded, lessShare};
 use hour::Head;
 use rules::Tally;
 
 // ---- finals
 
-// N, of the `n` members' charges. The file is not read: it says whose charges these are.
-fn sum_of(file: &[u8], charges: &[i64], n: usize) -> i64
-    requires { ⌜ Charged (now file) (now charges) × (n ≡ Record.members (hourIn (now file))) ⌝ }
-    ensures { λ r. ⌜ r ≡ neutrality (hourIn (now (file .entry))) ⌝ }
+// The sum of the first `n` charges: N, where they are an hour's. No charge of an hour is over 400,000,000,000 cents in size.
+fn sum_of(charges: &[i64], n: usize) -> i64
+    requires { ⌜ Bounded (now charges) n 400000000000 ⌝ }
+    ensures { λ r. ⌜ r ≡ totalBelow (λ m. getD (now (charges .entry)) m (pos 0)) n ⌝ }
 {
     let mut sum: i64 = 0;
     let mut m = 0;
@@ -52,11 +52,11 @@ fn put_demands(file: &[u8], records: usize, demands: &mut [u64])
 }
 
 // Each member's share, which takes the sign of N, off its charge.
-fn take_off(file: &[u8], charges: &[i64], all: i64, sizes: &[u64], finals: &mut [i64])
-    requires { ⌜ Charged (now file) (now charges) × Sized (now file) all (now sizes)
-        × (Record.members (hourIn (now file)) ≤ length (now finals)) ⌝ }
+fn take_off(charges: &[i64], all: i64, sizes: &[u64], finals: &mut [i64])
+    requires { ⌜ Bounded (now charges) (length (now sizes)) 400000000000 × (length (now sizes) ≤ length (now finals))
+        × ((m : ℕ) → m < length (now sizes) → getD (now sizes) m 0 ≤ 400000000000) ⌝ }
     ensures { λ _. ⌜ now (finals .exit)
-        ≡ replacingFirst (final (hourIn (now (file .entry)))) (Record.members (hourIn (now (file .entry)))) (now (finals .entry)) ⌝ }
+        ≡ replacingFirst (lessShare (now (charges .entry)) all (now (sizes .entry))) (length (now (sizes .entry))) (now (finals .entry)) ⌝ }
 {
     let mut m = 0;
     while m < sizes.len() {
@@ -72,10 +72,10 @@ fn share_out(file: &[u8], records: usize, charges: &[i64], room: &mut [u64], fin
     ensures { λ _. ⌜ now (finals .exit)
         ≡ replacingFirst (final (hourIn (now (file .entry)))) (Record.members (hourIn (now (file .entry)))) (now (finals .entry)) ⌝ }
 {
-    let all = sum_of(file, charges, room.len());
+    let all = sum_of(charges, room.len());
     put_demands(file, records, room);
     share::share_in_place(room, whole::size_of(all));
-    take_off(file, charges, all, room, finals);
+    take_off(charges, all, room, finals);
 }
 
 // One a member, into the first places; the places past them are unchanged.
@@ -116,10 +116,10 @@ fn put_amounts(
     }
 }
 
-// N, of the members' exact amounts. The file is not read: it says whose amounts these are.
-fn sum_of_cents(file: &[u8], amounts: &[i64]) -> i64
-    requires { ⌜ Amounts (now file) (now amounts) ⌝ }
-    ensures { λ r. ⌜ r ≡ neutrality (hourIn (now (file .entry))) ⌝ }
+// The sum of these amounts in cents, each rounded by itself: N, where they are an hour's.
+fn sum_of_cents(amounts: &[i64]) -> i64
+    requires { ⌜ Bounded (now amounts) (length (now amounts)) mostGrains ⌝ }
+    ensures { λ r. ⌜ r ≡ totalBelow (λ m. Charge.cents (getD (now (amounts .entry)) m (pos 0))) (length (now (amounts .entry))) ⌝ }
 {
     let mut sum: i64 = 0;
     let mut m = 0;
@@ -139,7 +139,7 @@ fn left_to_share_in(file: &[u8], head: Head, deviations: &mut [i64], amounts: &m
     byrecord::deviations::put_deviations(file, head, deviations);
     let prices = head.prices;
     put_amounts(file, head.records, prices, deviations, amounts);
-    sum_of_cents(file, amounts) != 0
+    sum_of_cents(amounts) != 0
 }
 
 // Whether N isn't 0, in an hour in which nobody demands anything: then there is nothing to share it by. It is asked before the first store,
@@ -160,7 +160,7 @@ pub fn no_demand(file: &[u8], head: Head, t: Tally) -> bool
     requires { ⌜ Headed (now file) head × Tallied (now file) t ⌝ }
     ensures { λ r. ⌜ placeZeroIf r ≡ noDemand (hourIn (now (file .entry))) ⌝ }
 {
-    if byarea::nobody_demands(file, head, t) {
+    if byarea::nobody_demands(head.areas, t) {
         return left_to_share(file, head);
     }
     false

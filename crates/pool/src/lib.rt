@@ -66,7 +66,7 @@ fn answered(
 {
     let tally = byarea::tally_of(file, head);
     let figures = byarea::ufe_figures(file, head, tally);
-    if let Found::At(a) = byarea::area_without_demand(file, head, tally, figures) {
+    if let Found::At(a) = byarea::area_without_demand(head.areas, tally, figures) {
         return answer::refused(Answer::BadArea(a));
     }
     if bymember::neutrality::no_demand(file, head, tally) {

@@ -1,20 +1,27 @@
 -- What settling's promise says to the statement, where every buffer has room for every hour.
-use mathlib.Core.Path.{_≡_, sym, _∙_, ap}
+use mathlib.Core.Path.{_≡_, refl, sym, _∙_, ap}
 use mathlib.Core.List.{List}
-use Prim.Native.Nat.{ℕ}
+use Prim.Native.Nat.{ℕ, zero, suc, _≤_, _<_}
+use native.Mathlib.Nat.{le-refl}
+use native.Mathlib.Omega.{arith}
 use lib.IntN.{ℤ}
 use borrow.Author.Tests.{eqb-false}
+use Rattle.whole.proofs.Ranges.{u-le}
 use Rattle.rules.specs.declared.Answer.{Answer}
 use Rattle.rules.specs.declared.Answer.the-variants.{Accepted}
 use Rattle.rules.specs.declared.Settled.{Settled}
 use Rattle.rules.specs.Refusals.{verdictOf}
-use Rattle.rules.specs.Statement.{acceptedLines, refusedLine, statement}
+use Rattle.rules.specs.Record.{members}
+use Rattle.rules.specs.Statement.{memberLines, acceptedLines, refusedLine, statement}
+use Rattle.rules.proofs.Bounds.{charge-under}
+use Rattle.rules.proofs.Neutral.{final-under}
 use Rattle.rules.proofs.Stated.{statement-accepted, statement-refused}
 use Rattle.rules.specs.HourFile.{hourIn}
 use Rattle.answer.proofs.Refusing.{numbered}
+use Rattle.bymember.specs.Charged.{Bounded}
 use Rattle.pool.specs.Unlined.{Unlined, FitsUnlined}
 use Rattle.pool.proofs.Rooms.{Rooms, same-verdict, figured}
-use Rattle.report.specs.Stated.{Printable, Answered}
+use Rattle.report.specs.Stated.{linesOf, Printable, Answered}
 
 -- the statement by the answer
 module _ {s : List ℕ} {a : Answer} {charges finals : List ℤ} (f : Answered s a charges finals) where
@@ -24,6 +31,32 @@ module _ {s : List ℕ} {a : Answer} {charges finals : List ℤ} (f : Answered s
 
   pub accepted-statement : a ≡ Accepted → acceptedLines (hourIn s) ≡ statement s
   accepted-statement e = sym (statement-accepted s (sym (f .verdict-is) ∙ ap verdictOf e))
+
+-- the lines of an hour's members, with its charges and finals
+module _ {s : List ℕ} {charges finals : List ℤ} (p : Printable s charges finals) {n : ℕ} (all : n ≡ members (hourIn s)) where
+  pub charges-bounded : Bounded charges n 999999999999
+  charges-bounded = record {
+    few = omega (arith, all, p .charged .kept .hour-kept .members-most);
+    room = omega (arith, all, p .charged .room);
+    small = λ m l. rw (p .charged .charges-are m (omega (arith, all))) (u-le (charge-under (p .charged .kept .hour-kept) m) (omega arith));
+  }
+
+  pub finals-bounded : Bounded finals n 999999999999
+  finals-bounded = record {
+    few = charges-bounded .few;
+    room = omega (arith, all, p .room);
+    small = λ m l. let there : m < members (hourIn s) = omega (arith, all) in
+        rw (p .finals-are m there) (u-le (final-under (p .charged .kept .hour-kept) m there) (omega arith));
+  }
+
+  lines-so-far : (m : ℕ) → m ≤ n → linesOf charges finals m ≡ memberLines (hourIn s) m
+  unfolding linesOf memberLines
+  lines-so-far zero l = refl
+  lines-so-far (suc m) l =
+      rw (lines-so-far m (omega arith), p .charged .charges-are m (omega (arith, all)), p .finals-are m (omega (arith, all)))
+
+  pub lines-are : linesOf charges finals n ≡ memberLines (hourIn s) (members (hourIn s))
+  lines-are = lines-so-far n (le-refl n) ∙ ap (memberLines (hourIn s)) all
 
 -- charges and finals are those that settling left
 module _ {s : List ℕ} {b after : Unlined} {r : Settled} (rooms : Rooms b) (settled : FitsUnlined s b r after) where

@@ -3,33 +3,22 @@
 ghost use mathlib.Core.Path.{_≡_};
 ghost use Prim.Native.Nat.{_+_, _*_, _≤_};
 ghost use lib.ListN.{length};
-ghost use Rattle.rules.specs.Record.{members};
 ghost use Rattle.rules.specs.Statement as Statement;
 ghost use Rattle.rules.specs.HourFile.{hourIn};
-ghost use Rattle.hour.specs.Hour.{Headed};
+ghost use Rattle.bymember.specs.Charged.{Bounded};
 ghost use Rattle.printing.specs.Put.{Put};
-ghost use Rattle.report.specs.Stated.{Printable, Answered, stated};
-use hour::Head;
+ghost use Rattle.report.specs.Stated.{linesOf, Printable, Answered, stated};
 use rules::Answer;
 
 // The most bytes that the statement of any byte string has: 39 for line 1, and 33 for each of 32 members (`statement-fits` of `rules`).
 pub const LONGEST: usize = 1095;
 
-// A line a member, in order. The file is not read: it says whose head, charges and finals these are.
-fn put_members(
-    file: &[u8],
-    head: Head,
-    charges: &[i64],
-    finals: &[i64],
-    out: &mut [u8],
-    at: usize,
-) -> usize
-    requires { ⌜ Headed (now file) head × Printable (now file) (now charges) (now finals)
-        × (at + 33 * members (hourIn (now file)) ≤ length (now out)) ⌝ }
-    ensures { λ r. let h = hourIn (now (file .entry)) in
-        ⌜ Put (now (out .entry)) at (Statement.memberLines h (members h)) r (now (out .exit)) ⌝ }
+// A line a member, in order, with its charge and its final.
+fn put_members(members: usize, charges: &[i64], finals: &[i64], out: &mut [u8], at: usize) -> usize
+    requires { ⌜ Bounded (now charges) members 999999999999 × Bounded (now finals) members 999999999999
+        × (at + 33 * members ≤ length (now out)) ⌝ }
+    ensures { λ r. ⌜ Put (now (out .entry)) at (linesOf (now (charges .entry)) (now (finals .entry)) members) r (now (out .exit)) ⌝ }
 {
-    let members = head.members;
     let mut place = at;
     let mut m = 0;
     while m < members {
@@ -46,10 +35,10 @@ fn put_accepted(file: &[u8], charges: &[i64], finals: &[i64], out: &mut [u8]) ->
 {
     let hour = hour::head_word(file, 8) as u64;
     let head = hour::head_of(file);
-    let members = head.members as u64;
+    let members = head.members;
     let records = head.records as u64;
-    let after_first = printing::put_first_line(out, hour, members, records);
-    put_members(file, head, charges, finals, out, after_first)
+    let after_first = printing::put_first_line(out, hour, members as u64, records);
+    put_members(members, charges, finals, out, after_first)
 }
 
 // The statement of a file to which settling has given this answer and, where it is accepted, these charges and finals.

@@ -3,7 +3,7 @@
 use contract.Lifetimes.{Lfts}
 use denote.Ref.{now}
 use Rattle.theorems.specs.Determined.{OneResult, OnePart}
-use Rattle.theorems.proofs.Laws.{agree, agree-answer, agree-entry, agree-found, agree-test}
+use Rattle.theorems.proofs.Laws.{agree, agree-answer, agree-entry, agree-test}
 use Rattle.hour.proofs.head_word.Reads as head-word
 use Rattle.hour.proofs.records.Reads as records
 use Rattle.hour.proofs.body.Reads as body
@@ -20,8 +20,6 @@ use Rattle.hour.proofs.entry_in.Reads as entry-in
 use Rattle.hour.proofs.entry_of.Reads as entry-of
 use Rattle.byarea.proofs.tally_of.Reads as tally-of
 use Rattle.byarea.proofs.ufe_figures.Reads as ufe-figures
-use Rattle.byarea.proofs.area_without_demand.Reads as area-without-demand
-use Rattle.byarea.proofs.nobody_demands.Reads as nobody-demands
 use Rattle.bymember.proofs.grains.Reads as grains
 use Rattle.bymember.proofs.neutrality.no_demand.Reads as no-demand
 
@@ -72,12 +70,6 @@ one-tally-of κs a x y s t = agree
 
 pub one-ufe-figures : (κs : Lfts 1) → OneResult (ufe-figures.Learnt κs)
 one-ufe-figures κs a x y s t = agree
-
-pub one-area-without-demand : (κs : Lfts 1) → OneResult (area-without-demand.Learnt κs)
-one-area-without-demand κs a x y s t = agree-found
-
-pub one-nobody-demands : (κs : Lfts 1) → OneResult (nobody-demands.Learnt κs)
-one-nobody-demands κs a x y s t = agree
 
 pub one-grains : (κs : Lfts 1) → OneResult (grains.Learnt κs)
 one-grains κs a x y s t = agree

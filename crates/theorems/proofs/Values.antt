@@ -1,7 +1,7 @@
 -- Functions of values: numbers, kinds, answers, entries, tallies, lines.
 use contract.Lifetimes.{Lfts}
 use Rattle.theorems.specs.Determined.{OneResult}
-use Rattle.theorems.proofs.Laws.{agree}
+use Rattle.theorems.proofs.Laws.{agree, agree-found}
 use Rattle.whole.proofs.size_of.Reads as size-of
 use Rattle.whole.proofs.with_sign_of.Reads as with-sign-of
 use Rattle.answer.proofs.number_of.Reads as number-of
@@ -25,6 +25,8 @@ use Rattle.formula.proofs.posting.empty_line.Reads as empty-line
 use Rattle.formula.proofs.posting.line_with.Reads as line-with
 use Rattle.formula.proofs.posting.cents.Reads as cents
 use Rattle.formula.proofs.posting.charge_of.Reads as charge-of
+use Rattle.byarea.proofs.area_without_demand.Reads as area-without-demand
+use Rattle.byarea.proofs.nobody_demands.Reads as nobody-demands
 use Rattle.blocks.proofs.signed.Reads as signed
 use Rattle.rules.proofs.hourly.Reads as hourly
 use Rattle.rules.proofs.ten_minutes.Reads as ten-minutes
@@ -97,6 +99,12 @@ one-cents κs a x y s t = agree
 
 pub one-charge-of : (κs : Lfts 0) → OneResult (charge-of.Learnt κs)
 one-charge-of κs a x y s t = agree
+
+pub one-area-without-demand : (κs : Lfts 0) → OneResult (area-without-demand.Learnt κs)
+one-area-without-demand κs a x y s t = agree-found
+
+pub one-nobody-demands : (κs : Lfts 0) → OneResult (nobody-demands.Learnt κs)
+one-nobody-demands κs a x y s t = agree
 
 pub one-signed : (κs : Lfts 0) → OneResult (signed.Learnt κs)
 one-signed κs a x y s t = agree

@@ -5,6 +5,7 @@ use borrow.Author.Needs.{needs}
 use Rattle.rules.specs.Refusals.{placeZeroIf, badArea, noDemand, foundAt}
 use Rattle.rules.specs.HourFile.{hourIn}
 use Rattle.byarea.specs.Posted.{Tallied}
+use Rattle.byarea.proofs.Tallies.{few-areas, unshared-is-bad}
 use Rattle.pool.proofs.Answers.{area-refused, demand-refused, some-short, all-pass}
 use Rattle.pool.proofs.answered.Statement.{statement}
 use Rattle.pool.proofs.answered.Tie as tie
@@ -24,7 +25,14 @@ ufe-figures-requires : tie.Need-ufe-figures-requires
 ufe-figures-requires c κs = (start c .pre .1, tallied c)
 
 area-without-demand-requires : tie.Need-area-without-demand-requires
-area-without-demand-requires c κs = (start (c .before) .pre .1, tallied (c .before), c .ufe-figures .ensures)
+area-without-demand-requires c κs = few-areas (tallied (c .before)) (start (c .before) .pre .1)
+
+-- the first area found is the hour's
+searched-is : (c : tie.After-area-without-demand) → foundAt (c .area-without-demand .result) ≡
+    badArea (hourIn (start (c .before .before) .args .file .now))
+searched-is c =
+    let figured = c .before in
+    c .area-without-demand .ensures ∙ unshared-is-bad (tallied (figured .before)) (start (figured .before) .pre .1) (figured .ufe-figures .ensures)
 
 -- Found::At(a)
 enum-known-a : tie.Need-enum-known-a
@@ -39,7 +47,7 @@ returns : tie.Need-returns
 returns c =
     let searched = c .before .before .before .before in
     let s = start (searched .before .before) in
-    let broken = sym (searched .area-without-demand .ensures) ∙ ap foundAt (c .before .before .a .given .1) in
+    let broken = sym (searched-is searched) ∙ ap foundAt (c .before .before .a .given .1) in
     rw (c .refused .ensures)
     (record { says = λ b l. area-refused (s .args .file .now) b (s .pre .0) (s .pre .1 .kept) broken })
 
@@ -61,7 +69,7 @@ module _ (c : tie.After-enum-told) where
   begun = start (figured .before)
 
   areas-pass : badArea (hourIn (begun .args .file .now)) ≡ none
-  areas-pass = sym (searched .area-without-demand .ensures) ∙ ap foundAt (c .enum-told .given .1)
+  areas-pass = sym (searched-is searched) ∙ ap foundAt (c .enum-told .given .1)
 
 no-demand-requires : tie.Need-no-demand-requires
 no-demand-requires c κs = (begun c .pre .1, tallied (figured c .before))

@@ -6,7 +6,7 @@ use lib.IntN.{ℤ, natAbs}
 use borrow.Author.Needs.{needs, sfits-of}
 use Rattle.whole.proofs.Machine.{zero-test}
 use Rattle.hour.proofs.Figures.{head-records, head-prices}
-use Rattle.bymember.proofs.Amounts.{deviations-ready, amounts-ready}
+use Rattle.bymember.proofs.Amounts.{deviations-ready, amounts-ready, amounts-bounded, cents-total}
 use Rattle.bymember.proofs.neutrality.left_to_share_in.Statement.{statement}
 use Rattle.bymember.proofs.neutrality.left_to_share_in.Tie as tie
 
@@ -25,7 +25,7 @@ sum-of-cents-requires : tie.Need-sum-of-cents-requires
 sum-of-cents-requires c κs =
     let put = c .before .before in
     let pre = put .before .before .before .before .before .before .before .before .pre in
-    amounts-ready (pre .0 .kept) (pre .3) (put .put-amounts .ensures)
+    amounts-bounded (amounts-ready (pre .0 .kept) (pre .3) (put .put-amounts .ensures))
 
 -- deviations: &mut [i64]
 same-length : tie.Need-same-length
@@ -35,10 +35,14 @@ same-length c = search needs
 same-length-2 : tie.Need-same-length-2
 same-length-2 c = search needs
 
--- sum_of_cents(file, amounts) != 0
+-- sum_of_cents(amounts) != 0
 returns : tie.Need-returns
-returns c = let N = c .sum-of-cents in
-    ap not (zero-test (N .result) (sfits-of (N .ok)) ∙ ap (λ (z : ℤ). eqb (natAbs z) 0) (N .ensures))
+returns c =
+    let N = c .sum-of-cents in
+    let put = c .before .before .before in
+    let pre = put .before .before .before .before .before .before .before .before .pre in
+    let all-is = N .ensures ∙ cents-total (amounts-ready (pre .0 .kept) (pre .3) (put .put-amounts .ensures)) in
+    ap not (zero-test (N .result) (sfits-of (N .ok)) ∙ ap (λ (z : ℤ). eqb (natAbs z) 0) all-is)
 
 pub left-to-share-in-spec : {M : Type 1} → statement M
 left-to-share-in-spec =

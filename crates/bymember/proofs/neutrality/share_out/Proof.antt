@@ -2,6 +2,7 @@
 use mathlib.Core.Path.{_≡_, _∙_, ap}
 use mathlib.Core.List.{List}
 use Prim.Native.Nat.{ℕ}
+use native.Mathlib.Omega.{arith}
 use lib.IntN.{natAbs}
 use borrow.Author.Needs.{needs, sfits-of}
 use Rattle.whole.proofs.Machine.{back, read-back}
@@ -9,12 +10,13 @@ use Rattle.rules.specs.Record.{Hour}
 use Rattle.rules.specs.Neutrality.{neutrality}
 use Rattle.share.specs.Shareable.{sharesIn}
 use Rattle.rules.specs.HourFile.{hourIn}
-use Rattle.bymember.proofs.Finals.{Asked, shareable, sized}
+use Rattle.bymember.proofs.Finals.{charges-bounded, charges-total, Asked, shareable, sized, sizes-bounded, taken-off}
+use Rattle.bymember.specs.Charged.{Sized}
 use Rattle.bymember.proofs.neutrality.share_out.Statement.{statement}
 use Rattle.bymember.proofs.neutrality.share_out.Tie as tie
 
 sum-of-requires : tie.Need-sum-of-requires
-sum-of-requires c κs = let pre = c .before .before .pre in (pre .0, pre .2 .as-many)
+sum-of-requires c κs = let pre = c .before .before .pre in charges-bounded (pre .0) (pre .2 .as-many)
 
 put-demands-requires : tie.Need-put-demands-requires
 put-demands-requires c κs = let pre = c .before .before .before .before .pre in (pre .0 .kept, pre .1, pre .2)
@@ -40,7 +42,7 @@ module _ (c : tie.After-size-of) where
   put = demanded .put-demands .last .1 .1 .0
 
   all-is : back (summed .sum-of .result) ≡ neutrality h
-  all-is = read-back (sfits-of (summed .sum-of .ok)) ∙ summed .sum-of .ensures
+  all-is = read-back (sfits-of (summed .sum-of .ok)) ∙ summed .sum-of .ensures ∙ charges-total (start .pre .0) (start .pre .2 .as-many)
 
   size-is : c .size-of .result ≡ natAbs (neutrality h)
   size-is = c .size-of .ensures ∙ ap natAbs all-is
@@ -63,11 +65,16 @@ module _ (c : tie.After-share-in-place) where
   shared : c .share-in-place .last .0 ≡ sharesIn (put asking) (natAbs (neutrality (h asking))) (put asking)
   shared = c .share-in-place .ensures ∙ ap (λ u. sharesIn (put asking) u (put asking)) (size-is asking)
 
+  -- the sizes stand in the room, and N is known
+  taken : Sized (start asking .args .file .now) (back (summed asking .sum-of .result)) (c .share-in-place .last .0)
+  taken = sized (asked asking) (all-is asking) shared
+
 take-off-requires : tie.Need-take-off-requires
 take-off-requires c κs =
     let answered = c .before .before .before .before in
     let pre = start (answered .before) .pre in
-    (pre .0, sized (asked (answered .before)) (all-is (answered .before)) (shared answered), pre .3)
+    let sizes = taken answered in
+    (charges-bounded (pre .0) (sizes .as-many), omega (arith, sizes .as-many, pre .3), sizes-bounded (pre .0) sizes)
 
 -- room: &mut [u64]
 same-length : tie.Need-same-length
@@ -78,7 +85,10 @@ same-length-2 : tie.Need-same-length-2
 same-length-2 c = search needs
 
 returns : tie.Need-returns
-returns c = c .before .take-off .ensures
+returns c =
+    let answered = c .before .before .before .before .before .before in
+    let s = start (answered .before) in
+    taken-off (s .pre .0) (taken answered) (s .args .finals .now) (c .before .take-off .ensures)
 
 pub share-out-spec : {M : Type 1} → statement M
 share-out-spec =

@@ -1,48 +1,60 @@
--- `bymember::neutrality::sum_of_cents` meets its contract. The loop's invariant: the sum is that of the charges of the members passed.
+-- `bymember::neutrality::sum_of_cents` meets its contract. The loop's invariant: the sum is that of the cents of the amounts passed.
 use mathlib.Core.Path.{_≡_, sym, _∙_, ap}
-use Prim.Native.Nat.{_-_, _≤_, _<_}
+use mathlib.Core.List.{List}
+use Prim.Native.Nat.{ℕ, _-_, _≤_, _<_}
 use native.Mathlib.Omega.{arith}
-use lib.ListN.{length}
+use lib.IntN.{ℤ, pos}
+use lib.ListN.{length, getD}
 use mir.Syntax.{w64}
 use mir.Val.{toZ}
 use Rattle.whole.specs.Below.{totalBelow}
+use Rattle.whole.specs.Signed.{Under}
 use Rattle.whole.proofs.Totals.{total-none}
-use Rattle.whole.proofs.Machine.{Num, result, gives, stored}
-use Rattle.rules.specs.Record.{Hour, members}
-use Rattle.rules.specs.Charge.{cents, charge}
-use Rattle.rules.specs.Neutrality.{neutrality}
+use Rattle.whole.proofs.Division.{nearest-under}
+use Rattle.whole.proofs.Machine as Machine
+use Rattle.whole.proofs.Machine.{Num, gives, stored}
+use Rattle.rules.specs.Charge.{cents, nearestCent}
 use Rattle.rules.specs.Refusals.{mostGrains}
-use Rattle.rules.proofs.Bounds.{amount-under}
-use Rattle.rules.specs.HourFile.{hourIn}
-use Rattle.bymember.proofs.Finals.{charge-fits, charge-added}
+use Rattle.bymember.proofs.Finals.{number-fits, number-added}
 use Rattle.bymember.proofs.neutrality.sum_of_cents.Statement.{statement}
 use Rattle.bymember.proofs.neutrality.sum_of_cents.Tie as tie
 
+abbrev centsOf : List ℤ → ℕ → ℤ
+centsOf amounts k = cents (getD amounts k (pos 0))
+
 abbrev Inv-loop : tie.InvT-loop
-Inv-loop file amounts sum₀ m₀ sum m = (m ≤ length amounts) × (toZ w64 sum ≡ totalBelow (charge (hourIn file)) m)
+Inv-loop amounts sum₀ m₀ sum m = (m ≤ length amounts) × (toZ w64 sum ≡ totalBelow (centsOf amounts) m)
 
 abbrev μ-loop : tie.MeasureT-loop
-μ-loop file amounts sum₀ m₀ sum m = length amounts - m
+μ-loop amounts sum₀ m₀ sum m = length amounts - m
 
 loop-holds : tie.Need-loop-holds Inv-loop μ-loop
 loop-holds c = (omega arith, sym (total-none _))
 
--- a turn's member is there, and has its amount
+-- an amount that row 7 lets pass is at most so many cents
+cents-small : {z : ℤ} → Under z mostGrains → Under (cents z) 400000000000
+unfolding cents nearestCent
+cents-small {z} u = nearest-under z 5000000 mostGrains (omega arith) u
+
+-- a turn's place is there, and no amount so far is too large
 module _ (c : tie.In-loop Inv-loop μ-loop) where
   abbrev at : tie.At-loop Inv-loop μ-loop
   at = c .before
 
   abbrev start : tie.Start Inv-loop μ-loop
-  start = at .before .before
+  start = at .before
 
-  abbrev h : Hour
-  h = hourIn (start .args .file .now)
+  abbrev amounts : List ℤ
+  amounts = start .args .amounts .now
 
-  there : at .loop .m < members h
-  there = omega (arith, start .pre .as-many)
+  few : at .loop .m < 32
+  few = omega (arith, start .pre .few)
+
+  small : (k : ℕ) → k ≤ at .loop .m → Under (centsOf amounts k) 400000000000
+  small k l = cents-small (start .pre .small k (omega arith))
 
   abbrev exact : Num
-  exact = result (start .pre .amounts-are (at .loop .m) there) (amount-under (start .pre .kept .hour-kept) (at .loop .m))
+  exact = Machine.at (start .pre .small (at .loop .m) (omega arith))
 
 -- the offset of amounts[m]
 mul-cents : tie.Need-mul-cents Inv-loop μ-loop
@@ -55,20 +67,19 @@ shared-slice-copy-out-cents c = omega arith
 cents-requires : tie.Need-cents-requires Inv-loop μ-loop
 cents-requires c κs = gives mostGrains (exact (c .before)) tt tt
 
--- the member's charge is worked
+-- the amount's cents are worked
 module _ (c : tie.After-cents Inv-loop μ-loop) where
   abbrev turn : tie.In-loop Inv-loop μ-loop
   turn = c .before .before
 
-  charged : c .cents .result ≡ charge (h turn) (at turn .loop .m)
-  unfolding charge
-  charged = c .cents .ensures ∙ ap cents (stored (exact turn) tt)
+  rounded : c .cents .result ≡ centsOf (amounts turn) (at turn .loop .m)
+  rounded = c .cents .ensures ∙ ap cents (stored (exact turn) tt)
 
 -- sum += formula::posting::cents(amounts[m])
 add-sum : tie.Need-add-sum Inv-loop μ-loop
 add-sum c =
     let t = turn c in
-    charge-fits (start t .pre .kept .hour-kept) (at t .loop .m) (there t) (at t .loop .sum) (at t .loop .inv .1) (charged c)
+    number-fits (centsOf (amounts t)) (at t .loop .m) (few t) (small t) (at t .loop .sum) (at t .loop .inv .1) (rounded c)
 
 -- m += 1
 add-m : tie.Need-add-m Inv-loop μ-loop
@@ -79,19 +90,15 @@ loop-less c = omega arith
 
 loop-again : tie.Need-loop-again Inv-loop μ-loop
 loop-again c =
-    let t = turn c in (
-      omega arith,
-      charge-added (start t .pre .kept .hour-kept) (at t .loop .m) (there t) (at t .loop .sum) (at t .loop .inv .1) (charged c),
-    )
+    let t = turn c in
+    (omega arith, number-added (centsOf (amounts t)) (at t .loop .m) (few t) (small t) (at t .loop .sum) (at t .loop .inv .1) (rounded c))
 
 returns : tie.Need-returns Inv-loop μ-loop
-unfolding neutrality
 returns c =
     let ended = c .before in
-    let begun = ended .before .before in
-    let h = hourIn (begun .args .file .now) in
-    let all : ended .loop .m ≡ members h = omega (arith, begun .pre .as-many) in
-    ended .loop .inv .1 ∙ ap (totalBelow (charge h)) all
+    let lent = ended .before .args .amounts .now in
+    let all : ended .loop .m ≡ length lent = omega arith in
+    ended .loop .inv .1 ∙ ap (totalBelow (centsOf lent)) all
 
 pub sum-of-cents-spec : {M : Type 1} → statement M
 sum-of-cents-spec =

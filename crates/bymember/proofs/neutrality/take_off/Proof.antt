@@ -1,53 +1,43 @@
--- `bymember::neutrality::take_off` meets its contract. The loop's invariant: the places passed hold the finals.
-use mathlib.Core.Path.{_≡_, _∙_, ap₂}
-use Prim.Native.Nat.{_-_, _<_}
+-- `bymember::neutrality::take_off` meets its contract. The loop's invariant: the places passed hold charges less shares.
+use mathlib.Core.Path.{_∙_, ap}
+use Prim.Native.Nat.{ℕ, _-_, _<_}
 use native.Mathlib.Omega.{arith}
-use lib.IntN.{pos}
+use lib.IntN.{ℤ}
 use lib.ListN.{length, getD}
-use Rattle.whole.specs.Signed.{withSignOf}
-use Rattle.whole.proofs.Machine.{read-back}
+use mir.Syntax.{w64}
+use mir.Val.{toZ}
+use Rattle.whole.specs.Below.{replacingFirst}
+use Rattle.whole.proofs.Ranges.{u-le, u-with-sign}
+use Rattle.whole.proofs.Machine as Machine
+use Rattle.whole.proofs.Machine.{Num, result, _:-_, fits, stored, back, read-back}
 use Rattle.whole.proofs.Filling.{Filled, none-filled, filled-length, place-there, next-filled, first-filled}
-use Rattle.rules.specs.Record.{Hour, members}
-use Rattle.rules.specs.Charge.{charge}
-use Rattle.rules.specs.Neutrality.{neutrality, final}
-use Rattle.rules.specs.Inner.Kept.{HourKept}
-use Rattle.rules.specs.HourFile.{hourIn}
-use Rattle.bymember.specs.Charged.{sizeOf}
-use Rattle.bymember.proofs.Finals.{size-small, final-fits, final-is}
+use Rattle.bymember.specs.Charged.{lessShare}
 use Rattle.bymember.proofs.neutrality.take_off.Statement.{statement}
 use Rattle.bymember.proofs.neutrality.take_off.Tie as tie
 
+-- `all` is a number's bits here
 abbrev Inv-loop : tie.InvT-loop
-Inv-loop file charges all sizes finals₀ m₀ finals m = Filled (final (hourIn file)) (members (hourIn file)) m finals₀ finals
+Inv-loop charges all sizes finals₀ m₀ finals m = Filled (lessShare charges (toZ w64 all) sizes) (length sizes) m finals₀ finals
 
 abbrev μ-loop : tie.MeasureT-loop
-μ-loop file charges all sizes finals₀ m₀ finals m = length sizes - m
+μ-loop charges all sizes finals₀ m₀ finals m = length sizes - m
 
 loop-holds : tie.Need-loop-holds Inv-loop μ-loop
-loop-holds c = none-filled (c .before .before .pre .2)
+loop-holds c = none-filled (c .before .pre .1)
 
--- a turn's member is there, and has its charge and the size of its share
+-- a turn's place is there
 module _ (c : tie.In-loop Inv-loop μ-loop) where
   abbrev at : tie.At-loop Inv-loop μ-loop
   at = c .before
 
   abbrev start : tie.Start Inv-loop μ-loop
-  start = at .before .before .before
+  start = at .before .before
 
-  abbrev h : Hour
-  h = hourIn (start .args .file .now)
+  abbrev size : ℕ
+  size = getD (start .args .sizes .now) (at .loop .m) 0
 
-  kept : HourKept h
-  kept = start .pre .0 .kept .hour-kept
-
-  there : at .loop .m < members h
-  there = omega (arith, start .pre .1 .as-many)
-
-  charged : getD (start .args .charges .now) (at .loop .m) (pos 0) ≡ charge h (at .loop .m)
-  charged = start .pre .0 .charges-are (at .loop .m) there
-
-  sized : getD (start .args .sizes .now) (at .loop .m) 0 ≡ sizeOf h (at .loop .m)
-  sized = start .pre .1 .sizes-are (at .loop .m) there
+  there : at .loop .m < length (start .args .sizes .now)
+  there = omega arith
 
 -- the offset of charges[m]
 mul-finals : tie.Need-mul-finals Inv-loop μ-loop
@@ -66,25 +56,25 @@ shared-slice-read-with-sign-of : tie.Need-shared-slice-read-with-sign-of Inv-loo
 shared-slice-read-with-sign-of c = omega arith
 
 with-sign-of-requires : tie.Need-with-sign-of-requires Inv-loop μ-loop
-with-sign-of-requires c κs = let t = c .before .before in rw (sized t) (size-small (kept t) (at t .loop .m) (there t))
+with-sign-of-requires c κs = let t = c .before .before in omega (arith, start t .pre .2 (at t .loop .m) (there t))
 
--- the member's share is known
+-- the share is known
 module _ (c : tie.After-with-sign-of Inv-loop μ-loop) where
   abbrev turn : tie.In-loop Inv-loop μ-loop
   turn = c .before .before .before
 
-  shared : c .with-sign-of .result ≡ withSignOf (neutrality (h turn)) (sizeOf (h turn) (at turn .loop .m))
-  shared =
-      c .with-sign-of .ensures
-      ∙ ap₂ withSignOf (read-back (start turn .fits .all) ∙ start turn .pre .1 .all-is) (sized turn)
+  abbrev less : Num
+  less = Machine.at (start turn .pre .0 .small (at turn .loop .m) (there turn))
+      :- result (c .with-sign-of .ensures)
+      (u-le {n = 400000000000} (u-with-sign (back (start turn .args .all)) (size turn)) (start turn .pre .2 (at turn .loop .m) (there turn)))
 
 -- charges[m] - whole::with_sign_of(all, sizes[m])
 sub-finals : tie.Need-sub-finals Inv-loop μ-loop
-sub-finals c = let t = turn c in final-fits (kept t) (at t .loop .m) (there t) (charged t) (shared c)
+sub-finals c = fits (less c) tt
 
 -- the offset of finals[m]
-mul-t16 : tie.Need-mul-t16 Inv-loop μ-loop
-mul-t16 c = let t = turn c in omega (arith, place-there (at t .loop .inv) (there t))
+mul-t15 : tie.Need-mul-t15 Inv-loop μ-loop
+mul-t15 c = let t = turn c in omega (arith, place-there (at t .loop .inv) (there t))
 
 -- finals[m] = charges[m] - whole::with_sign_of(all, sizes[m])
 slice-set-from-finals : tie.Need-slice-set-from-finals Inv-loop μ-loop
@@ -98,16 +88,19 @@ loop-less : tie.Need-loop-less Inv-loop μ-loop
 loop-less c = omega arith
 
 loop-again : tie.Need-loop-again Inv-loop μ-loop
-loop-again c =
-    let t = turn c in
-    next-filled (at t .loop .inv) (there t) (final-is (kept t) (at t .loop .m) (there t) (charged t) (shared c))
+loop-again c = let t = turn c in next-filled (at t .loop .inv) (there t) (stored (less c) tt)
 
 -- finals: &mut [i64]
 same-length : tie.Need-same-length Inv-loop μ-loop
 same-length c = filled-length (c .before .loop .inv)
 
 returns : tie.Need-returns Inv-loop μ-loop
-returns c = first-filled (c .before .loop .inv) (omega (arith, c .before .before .before .before .pre .1 .as-many))
+returns c =
+    let s = c .before .before .before in
+    let charges = s .args .charges .now in
+    let sizes = s .args .sizes .now in
+    first-filled (c .before .loop .inv) (omega arith)
+    ∙ ap (λ (z : ℤ). replacingFirst (lessShare charges z sizes) (length sizes) (s .args .finals .now)) (read-back (s .fits .all))
 
 pub take-off-spec : {M : Type 1} → statement M
 take-off-spec =
@@ -122,7 +115,7 @@ take-off-spec =
     shared-slice-read-with-sign-of
     with-sign-of-requires
     sub-finals
-    mul-t16
+    mul-t15
     slice-set-from-finals
     add-m
     loop-less

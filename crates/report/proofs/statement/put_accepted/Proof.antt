@@ -8,7 +8,8 @@ use Rattle.rules.specs.HourFile.{hourIn}
 use Rattle.hour.specs.Hour.{Headed}
 use Rattle.hour.proofs.Figures.{head-members, head-records}
 use Rattle.printing.specs.Put.{Put}
-use Rattle.printing.proofs.Putting.{put-on}
+use Rattle.printing.proofs.Putting.{put-on, put-as}
+use Rattle.report.proofs.Settled.{charges-bounded, finals-bounded, lines-are}
 use Rattle.report.proofs.statement.put_accepted.Statement.{statement}
 use Rattle.report.proofs.statement.put_accepted.Tie as tie
 
@@ -44,10 +45,11 @@ put-members-requires c κs =
     let s = known .before in
     let h = hourIn (s .args .file .now) in
     let kept = s .pre .0 .charged .kept .hour-kept in
-    let line = first-line-most h kept (hour-number-most (s .args .file .now) (λ i. known .shared-slice-known .given i .fits)) in (
-      headed (p .before .before),
-      s .pre .0,
-      omega (arith, line-1 p .next-is, p .put-first-line .kept .0, line, kept .members-most, s .pre .1),
+    let line = first-line-most h kept (hour-number-most (s .args .file .now) (λ i. known .shared-slice-known .given i .fits)) in
+    let all = head-members (headed (p .before .before)) in (
+      charges-bounded (s .pre .0) all,
+      finals-bounded (s .pre .0) all,
+      omega (arith, line-1 p .next-is, p .put-first-line .kept .0, line, all, kept .members-most, s .pre .1),
     )
 
 -- out: &mut [u8]
@@ -56,7 +58,11 @@ same-length c = search needs
 
 returns : tie.Need-returns
 unfolding acceptedLines
-returns c = let m = c .before .before in put-on (line-1 (m .before .before .before .before)) (m .put-members .ensures)
+returns c =
+    let m = c .before .before in
+    let p = m .before .before .before .before in
+    let s = p .before .before .before .before .before .before in
+    put-on (line-1 p) (put-as (lines-are (s .pre .0) (head-members (headed (p .before .before)))) (m .put-members .ensures))
 
 pub put-accepted-spec : {M : Type 1} → statement M
 put-accepted-spec =

@@ -1,70 +1,64 @@
 -- `report::statement::put_members` meets its contract: the lines of the members passed stand one after the other.
-use Prim.Native.Nat.{ℕ, _+_, _-_, _≤_, _<_}
-use mathlib.Core.Path.{_≡_}
+use Prim.Native.Nat.{ℕ, zero, suc, _+_, _-_, _*_, _≤_, _<_}
+use mathlib.Core.Path.{_≡_, refl, _∙_}
 use mathlib.Core.List.{List, _++_}
 use native.Mathlib.Numerals.{add-one}
 use native.Mathlib.Omega.{arith}
 use mir.Syntax.{w64}
 use mir.Val.{toZ, ofZ}
 use lib.IntN.{ℤ, pos}
-use lib.ListN.{getD}
+use lib.ListN.{length, length-append, getD}
 use Rattle.whole.proofs.Machine.{read-back}
 use Rattle.whole.proofs.Ranges.{u-fits}
-use Rattle.rules.specs.Record as Record
-use Rattle.rules.specs.Record.{Hour}
-use Rattle.rules.specs.Charge.{charge}
-use Rattle.rules.specs.Neutrality.{final}
-use Rattle.rules.specs.Statement.{memberLine, memberLines}
-use Rattle.rules.proofs.Bounds.{charge-under}
-use Rattle.rules.proofs.Neutral.{final-under}
-use Rattle.rules.specs.HourFile.{hourIn}
-use Rattle.hour.proofs.Figures.{head-members}
-use Rattle.rules.proofs.Stated.{member-lines-length}
+use Rattle.rules.specs.Statement.{memberLine}
+use Rattle.rules.proofs.Stated.{member-line-length}
+use Rattle.bymember.specs.Charged.{Bounded}
 use Rattle.printing.specs.Put.{Put}
 use Rattle.printing.proofs.Putting.{put-nothing, put-length, put-on, put-as}
-use Rattle.report.specs.Stated.{Printable}
+use Rattle.report.specs.Stated.{linesOf}
 use Rattle.report.proofs.statement.put_members.Statement.{statement}
 use Rattle.report.proofs.statement.put_members.Tie as tie
 
--- the charge and the final that stand at a member's place, as they are read back
-module _ {s : List ℕ} {charges finals : List ℤ} (c : Printable s charges finals) (m : ℕ) (l : m < Record.members (hourIn s)) where
-  charge-held : toZ w64 (ofZ w64 (getD charges m (pos 0))) ≡ charge (hourIn s) m
-  charge-held = rw (c .charged .charges-are m l) (read-back (u-fits (charge-under (c .charged .kept .hour-kept) m) tt))
+-- a number that stands at a member's place, as it is read back
+held : {numbers : List ℤ} {n : ℕ} → Bounded numbers n 999999999999 → (m : ℕ) → m < n →
+    toZ w64 (ofZ w64 (getD numbers m (pos 0))) ≡ getD numbers m (pos 0)
+held b m l = read-back (u-fits (b .small m l) tt)
 
-  final-held : toZ w64 (ofZ w64 (getD finals m (pos 0))) ≡ final (hourIn s) m
-  final-held = rw (c .finals-are m l) (read-back (u-fits (final-under (c .charged .kept .hour-kept) m l) tt))
+module _ (charges finals : List ℤ) where
+  next-line : (m : ℕ) → linesOf charges finals m ++ memberLine m (getD charges m (pos 0)) (getD finals m (pos 0)) ≡
+      linesOf charges finals (m + 1)
+  unfolding linesOf
+  next-line m = rw (add-one m)
 
-next-line : (h : Hour) (m : ℕ) → memberLines h m ++ memberLine m (charge h m) (final h m) ≡ memberLines h (m + 1)
-unfolding memberLines
-next-line h m = rw (add-one m)
+  put-none : (o : List ℕ) (at : ℕ) → Put o at (linesOf charges finals 0) at o
+  unfolding linesOf
+  put-none o at = put-nothing o at
 
-put-none : (h : Hour) (o : List ℕ) (at : ℕ) → Put o at (memberLines h 0) at o
-unfolding memberLines
-put-none h o at = put-nothing o at
+  lines-length : (m : ℕ) → length (linesOf charges finals m) ≡ 33 * m
+  unfolding linesOf
+  lines-length zero = refl
+  lines-length (suc m) =
+      let charge = getD charges m (pos 0) in
+      let final = getD finals m (pos 0) in
+      length-append (linesOf charges finals m) (memberLine m charge final)
+      ∙ omega (arith, lines-length m, member-line-length m charge final)
 
 abbrev Inv-loop : tie.InvT-loop
-Inv-loop file charges finals out₀ at members place₀ m₀ out place m =
-    (m ≤ members) × (members ≡ Record.members (hourIn file)) × Put out₀ at (memberLines (hourIn file) m) place out
+Inv-loop members charges finals out₀ at place₀ m₀ out place m = (m ≤ members) × Put out₀ at (linesOf charges finals m) place out
 
 abbrev μ-loop : tie.MeasureT-loop
-μ-loop file charges finals out₀ at members place₀ m₀ out place m = members - m
+μ-loop members charges finals out₀ at place₀ m₀ out place m = members - m
 
 loop-holds : tie.Need-loop-holds Inv-loop μ-loop
-loop-holds c =
-    let s = c .before .before in
-    (omega arith, head-members (s .pre .0), put-none (hourIn (s .args .file .now)) (s .args .out .now) (s .args .at))
+loop-holds c = let s = c .before in (omega arith, put-none (s .args .charges .now) (s .args .finals .now) (s .args .out .now) (s .args .at))
 
 -- the offset of charges[m]
 mul-put-member : tie.Need-mul-put-member Inv-loop μ-loop
-mul-put-member c =
-    let s = c .before .before .before .before .before in
-    omega (arith, s .pre .0 .kept .hour-kept .members-most, c .before .before .loop .inv .1)
+mul-put-member c = let s = c .before .before .before .before in omega (arith, s .pre .0 .few)
 
 -- charges[m]
 shared-slice-copy-out-put-member : tie.Need-shared-slice-copy-out-put-member Inv-loop μ-loop
-shared-slice-copy-out-put-member c =
-    let s = c .before .before .before .before .before in
-    omega (arith, s .pre .1 .charged .room, c .before .before .loop .inv .1)
+shared-slice-copy-out-put-member c = let s = c .before .before .before .before in omega (arith, s .pre .0 .room)
 
 -- the offset of finals[m]
 mul-put-member-2 : tie.Need-mul-put-member-2 Inv-loop μ-loop
@@ -72,21 +66,16 @@ mul-put-member-2 c = mul-put-member (c .before)
 
 -- finals[m]
 shared-slice-copy-out-put-member-2 : tie.Need-shared-slice-copy-out-put-member-2 Inv-loop μ-loop
-shared-slice-copy-out-put-member-2 c =
-    let s = c .before .before .before .before .before .before in
-    omega (arith, s .pre .1 .room, c .before .before .before .loop .inv .1)
+shared-slice-copy-out-put-member-2 c = let s = c .before .before .before .before .before in omega (arith, s .pre .1 .room)
 
 put-member-requires : tie.Need-put-member-requires Inv-loop μ-loop
 put-member-requires c κs =
     let l = c .before .before .before .before .loop in
-    let s = c .before .before .before .before .before .before .before in
-    let h = hourIn (s .args .file .now) in
-    let kept = s .pre .0 .kept .hour-kept in
-    let there : l .m < Record.members h = omega (arith, l .inv .1) in (
-      omega (arith, l .inv .2 .next-is, put-length (l .inv .2), member-lines-length h (l .m), s .pre .2),
-      omega (arith, kept .members-most),
-      rw (charge-held (s .pre .1) (l .m) there) (omega (arith, charge-under kept (l .m) .under)),
-      rw (final-held (s .pre .1) (l .m) there) (omega (arith, final-under kept (l .m) there .under)),
+    let s = c .before .before .before .before .before .before in (
+      omega (arith, l .inv .1 .next-is, put-length (l .inv .1), lines-length (s .args .charges .now) (s .args .finals .now) (l .m), s .pre .2),
+      omega (arith, s .pre .0 .few),
+      rw (held (s .pre .0) (l .m) (omega arith)) (s .pre .0 .small (l .m) (omega arith) .under),
+      rw (held (s .pre .1) (l .m) (omega arith)) (s .pre .1 .small (l .m) (omega arith) .under),
     )
 
 -- m += 1
@@ -99,22 +88,19 @@ loop-less c = omega arith
 loop-again : tie.Need-loop-again Inv-loop μ-loop
 loop-again c =
     let l = c .before .before .before .before .before .before .before .loop in
-    let s = c .before .before .before .before .before .before .before .before .before .before in
-    let h = hourIn (s .args .file .now) in
-    let there : l .m < Record.members h = omega (arith, l .inv .1) in
-    let line = rw (charge-held (s .pre .1) (l .m) there, final-held (s .pre .1) (l .m) there) at (c .before .before .put-member .ensures) in
-    (omega arith, l .inv .1, put-as (next-line h (l .m)) (put-on (l .inv .2) line))
+    let s = c .before .before .before .before .before .before .before .before .before in
+    let line = rw (held (s .pre .0) (l .m) (omega arith), held (s .pre .1) (l .m) (omega arith)) at (c .before .before .put-member .ensures) in
+    (omega arith, put-as (next-line (s .args .charges .now) (s .args .finals .now) (l .m)) (put-on (l .inv .1) line))
 
 -- out: &mut [u8]
 same-length : tie.Need-same-length Inv-loop μ-loop
-same-length c = put-length (c .before .loop .inv .2)
+same-length c = put-length (c .before .loop .inv .1)
 
 returns : tie.Need-returns Inv-loop μ-loop
 returns c =
     let l = c .before .loop in
-    let all : l .m ≡ Record.members (hourIn (c .before .before .before .before .args .file .now)) =
-    omega (arith, l .inv .0, l .inv .1) in
-    rw all at (l .inv .2)
+    let all : l .m ≡ c .before .before .before .args .members = omega (arith, l .inv .0) in
+    rw all at (l .inv .1)
 
 pub put-members-spec : {M : Type 1} → statement M
 put-members-spec =
