@@ -1,6 +1,7 @@
 """That docs/PROMISES.md and the crate `theorems` are whole: every public function stands in both but for those that the page excepts, its
 law determines every buffer that it is lent, every `requires` is explained, every definition that the page names is there, and the page
-names each must-fail edit once, and none that is gone; and that each edit can still be made. Run from the project's root: python3 -m unittest tests/test_promises.py"""
+names each must-fail edit once, and none that is gone; and that each edit can still be made. Run from the project's root:
+python3 -m unittest tests/test_promises.py"""
 
 import re
 import sys
@@ -8,7 +9,8 @@ import unittest
 from pathlib import Path
 
 sys.path.insert(0, str(Path(__file__).resolve().parent))
-from naming import CRATES, ROOT, definition, edits, edits_named, function, law, names, parameters, rows, sections, texts_edited  # noqa: E402
+from naming import CRATES, ROOT, definition, edits, edits_named, function, law, names, parameters, rows, sections  # noqa: E402
+from naming import texts_edited  # noqa: E402
 
 PROMISES = (ROOT / "docs" / "PROMISES.md").read_text()
 EXCEPTIONS, REQUIRES = sections(PROMISES)["Exceptions"].split("### Functions with a requires")
