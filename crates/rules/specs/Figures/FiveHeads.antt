@@ -34,6 +34,9 @@ explanations =
     ∷ decidedBy (pos 1) (grainsOf (pos 3) (pos 7) (negℤ (pos 9)) (pos 7) (pos 0)) is some 1
     ∷ decidedBy (negℤ (pos 1)) (grainsOf (pos 9) (negℤ (pos 4)) (pos 0) (negℤ (pos 5)) (negℤ (pos 5))) is some 3
     ∷ decidedBy (pos 0) (grainsOf (pos 4999999) (pos 0) (pos 0) (pos 0) (pos 0)) is none
+    -- a share of one grain; heads of 0, which have no sign
+    ∷ decidedBy (pos 1) (grainsOf (pos 0) (pos 0) (pos 0) (pos 0) (pos 1)) is some 4
+    ∷ decidedBy (negℤ (pos 1)) (grainsOf (pos 0) (pos 0) (pos 0) (pos 0) (pos 0)) is none
     -- three bytes; an hour with a price of 1,000,001, to a member that isn't there; an hour that is accepted, to such a member
     ∷ explanation (replicate 3 0) is bytes "refused 1 at 0\n"
     ∷ explain (first 0 (7 ∷ 2 ∷ 1 ∷ 1 ∷ 1000001 ∷ [])) 2 is unexplained 4 12

@@ -1,14 +1,19 @@
--- Limits as figures: for each kind a record at its limits, and each of its words one past them; the same of the head.
+-- Limits as figures: for each kind a record at its limits, and each of its words one past them; the same of the head and of blocks;
+-- and single words.
 -- Document 01, "Units and ranges", "The hour file"; document 02, A3.
 use Prim.Native.Nat.{ℕ, _+_, _-_}
-use mathlib.Core.Bool.{false}
+use mathlib.Core.Bool.{true, false}
 use mathlib.Core.Option.{Option, none, some}
 use mathlib.Core.List.{List, [], _∷_, _++_}
-use lib.ListN.{set, replicate}
+use lib.IntN.{pos, negℤ}
+use lib.ListN.{getD, set, replicate}
 use Rattle.whole.specs.Below.{valuesBelow}
-use Rattle.rules.specs.HourFile.{hourly}
+use Rattle.rules.specs.declared.Kind.{Kind}
+use Rattle.rules.specs.declared.Kind.the-variants.{Generator, RealTimeLoad, ProfileLoad, Import, Export, Unknown}
+use Rattle.rules.specs.Record.{signed, kindNumber, kindOf, isRealTime, isProfile}
+use Rattle.rules.specs.HourFile.{hourly, word, lengthBad}
 use Rattle.rules.specs.HourWords.{hourFrom}
-use Rattle.rules.specs.Ranges.{keeps, headRule, hourlyForm}
+use Rattle.rules.specs.Ranges.{keeps, firstBroken, blockRule, headRule, hourlyForm}
 use Rattle.rules.specs.Refusals.{badHead, badWord}
 use Rattle.rules.specs.Figures.Cases.{Case, _is_, AllRight}
 
@@ -131,6 +136,8 @@ headLimits =
     -- the words behind them, 48 to 127: none may be 1
     ∷ headBreaks fullHead ((48, 1) ∷ (127, 1) ∷ [])
     ∷ valuesBelow (λ k. keeps (headRule 4 8 (48 + k)) 1) 80 is replicate 80 false
+    -- word 48 whatever the count of areas says
+    ∷ keeps (headRule 4 9 48) 1 is false
     ∷ headFault leastHead is none
     -- the prices past their count, a zone that isn't there, the fourth word, and from the areas past their count on every word
     ∷ headBreaks leastHead ((13, 1) ∷ (14, 1) ∷ (15, 1) ∷ (16, 1) ∷ (19, 1) ∷ (20, 1) ∷ (47, 1) ∷ [])
@@ -142,6 +149,74 @@ headLimits =
     ∷ headBreaks threeAreas ((13, 1) ∷ (14, 1) ∷ (15, 1) ∷ (20, 1) ∷ (24, 1) ∷ (27, 1) ∷ (28, 1) ∷ (29, 1) ∷ [])
     ∷ []
 
+-- ---- words by themselves
+
+-- the kind of a word, and the number of a kind
+abbrev pub kindAndNumber : ℕ → Kind × ℕ
+kindAndNumber w = (kindOf w, kindNumber (kindOf w))
+
+unfoldable pub wordFigures : List Case
+wordFigures =
+    -- little-endian; a byte past the end is 0
+    word [] 0 is 0
+    ∷ word (1 ∷ 2 ∷ 3 ∷ 4 ∷ 5 ∷ []) 0 is 67305985
+    ∷ word (1 ∷ 2 ∷ 3 ∷ 4 ∷ 5 ∷ []) 1 is 5
+    -- two's complement
+    ∷ signed 2147483647 is pos 2147483647
+    ∷ signed 2147483648 is negℤ (pos 2147483648)
+    ∷ signed 4294967295 is negℤ (pos 1)
+    -- kinds 2 and 3 are both loads: no sum tells them apart
+    ∷ valuesBelow kindAndNumber 7 is (
+    (Unknown, 0) ∷ (Generator, 1) ∷ (RealTimeLoad, 2) ∷ (ProfileLoad, 3) ∷ (Import, 4) ∷ (Export, 5) ∷ (Unknown, 0) ∷ [])
+    ∷ valuesBelow (λ w. isRealTime (kindOf w)) 4 is (false ∷ false ∷ true ∷ false ∷ [])
+    ∷ valuesBelow (λ w. isProfile (kindOf w)) 4 is (false ∷ false ∷ false ∷ true ∷ [])
+    -- the shortest file, the longest, and lengths that no file has
+    ∷ lengthBad hourly (replicate 512 0) is false
+    ∷ lengthBad hourly (replicate 13312 0) is false
+    ∷ lengthBad hourly (replicate 13824 0) is true
+    ∷ lengthBad hourly (replicate 1023 0) is true
+    ∷ []
+
+-- ---- blocks: block b of n, by all its words
+
+unfoldable pub blockFault : (n b : ℕ) → List ℕ → Option ℕ
+blockFault n b words = firstBroken (blockRule hourly n (getD words 2 0) b) (λ w. getD words w 0) 128
+
+abbrev pub blockBreaks : (n b : ℕ) → List ℕ → List Change → Case
+blockBreaks n b words changes = faults (blockFault n b) 0 words changes is ownPlaces changes
+
+-- word 7 and the body are anything, as far as row 3 looks
+abbrev pub firstOfThree : List ℕ
+firstOfThree = 1 ∷ 0 ∷ 2 ∷ 0 ∷ 0 ∷ 0 ∷ 0 ∷ replicate 121 7
+
+-- ten records
+abbrev pub secondOfThree : List ℕ
+secondOfThree = 2 ∷ 1 ∷ 10 ∷ 0 ∷ 0 ∷ 0 ∷ 0 ∷ replicate 121 7
+
+-- one record
+abbrev pub lastOfThree : List ℕ
+lastOfThree = 2 ∷ 2 ∷ 1 ∷ 0 ∷ 0 ∷ 0 ∷ 0 ∷ replicate 13 7 ++ replicate 108 0
+
+-- words 3 to 6
+abbrev pub zerosInFront : List Change
+zerosInFront = (3, 1) ∷ (4, 1) ∷ (5, 1) ∷ (6, 1) ∷ []
+
+unfoldable pub blockLimits : List Case
+blockLimits =
+    blockFault 3 0 firstOfThree is none
+    ∷ blockBreaks 3 0 firstOfThree ((0, 0) ∷ (0, 2) ∷ (1, 1) ∷ (2, 1) ∷ (2, 3) ∷ zerosInFront)
+    ∷ blockFault 3 1 secondOfThree is none
+    ∷ blockBreaks 3 1 secondOfThree ((0, 1) ∷ (0, 3) ∷ (1, 0) ∷ (1, 2) ∷ (2, 9) ∷ (2, 11) ∷ zerosInFront)
+    ∷ blockFault 3 2 lastOfThree is none
+    ∷ blockBreaks 3 2 lastOfThree ((0, 1) ∷ (0, 3) ∷ (1, 1) ∷ (1, 3) ∷ (2, 0) ∷ (2, 11) ∷ (20, 1) ∷ (127, 1) ∷ zerosInFront)
+    -- ten in the last block too
+    ∷ blockFault 3 2 (set lastOfThree 2 10) is none
+    -- past one record, words 20 to 127: none may be 1
+    ∷ valuesBelow (λ k. keeps (blockRule hourly 3 1 2 (20 + k)) 1) 108 is replicate 108 false
+    ∷ []
+
 pub record LimitsRight : Type 0 where
   pub of-records : AllRight recordLimits
   pub of-the-head : AllRight headLimits
+  pub of-blocks : AllRight blockLimits
+  pub of-words : AllRight wordFigures
