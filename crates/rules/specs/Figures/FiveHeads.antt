@@ -27,6 +27,9 @@ unfoldable pub explanations : List Case
 explanations =
     explanation (wordBytes (1 ∷ []) ++ everyKind) is bytes
     "generation -720000000\nload 4140000000\nimport 4750000000\nexport -300000000\nshare 1962204000\ndecided import\n"
+    -- a member with a load of either kind
+    ∷ explanation (wordBytes (2 ∷ []) ++ everyKind) is bytes
+    "generation 0\nload 930000000\nimport 0\nexport 0\nshare 27777796000\ndecided share\n"
     -- a load that takes a kWh unscheduled: its share takes off again what it adds
     ∷ explanation (wordBytes (0 ∷ []) ++ unscheduled) is bytes
     "generation 0\nload 50000000\nimport 0\nexport 0\nshare -50000000\ndecided none\n"
@@ -34,9 +37,10 @@ explanations =
     ∷ decidedBy (pos 1) (grainsOf (pos 3) (pos 7) (negℤ (pos 9)) (pos 7) (pos 0)) is some 1
     ∷ decidedBy (negℤ (pos 1)) (grainsOf (pos 9) (negℤ (pos 4)) (pos 0) (negℤ (pos 5)) (negℤ (pos 5))) is some 3
     ∷ decidedBy (pos 0) (grainsOf (pos 4999999) (pos 0) (pos 0) (pos 0) (pos 0)) is none
-    -- a share of one grain; heads of 0, which have no sign
+    -- a share of one grain; heads of 0, which have no sign; a sixth number, which is no head
     ∷ decidedBy (pos 1) (grainsOf (pos 0) (pos 0) (pos 0) (pos 0) (pos 1)) is some 4
     ∷ decidedBy (negℤ (pos 1)) (grainsOf (pos 0) (pos 0) (pos 0) (pos 0) (pos 0)) is none
+    ∷ decidedBy (pos 1) (replicate 5 (pos 0) ++ pos 1 ∷ []) is none
     -- three bytes; an hour with a price of 1,000,001, to a member that isn't there; an hour that is accepted, to such a member
     ∷ explanation (replicate 3 0) is bytes "refused 1 at 0\n"
     ∷ explain (first 0 (7 ∷ 2 ∷ 1 ∷ 1 ∷ 1000001 ∷ [])) 2 is unexplained 4 12

@@ -35,4 +35,4 @@ unfolding Below.sumBelow Below.totalBelow Below.firstBelow orElse minℤ maxℤ 
     Refusals.explainRows Statement.refusedLine Explanation.pricedSum Explanation.heads Explanation.sameSign Explanation.decidedBy
     Explanation.decided Explanation.explain Explanation.signedDecimal Explanation.headLine Explanation.decidedLine
     Explanation.explanationLines Explanation.worded Explanation.explanation sealed everyKind unscheduled explanations Neutrality.neutralityShare
-explained-right = (refl, (refl, (refl, (refl, (refl, (refl, (refl, (refl, (refl, (refl, tt))))))))))
+explained-right = (refl, (refl, (refl, (refl, (refl, (refl, (refl, (refl, (refl, (refl, (refl, (refl, tt))))))))))))
