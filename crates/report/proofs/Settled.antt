@@ -21,7 +21,7 @@ use Rattle.answer.proofs.Refusing.{numbered}
 use Rattle.bymember.specs.Charged.{Bounded}
 use Rattle.pool.specs.Unlined.{Unlined, FitsUnlined}
 use Rattle.pool.proofs.Rooms.{Rooms, same-verdict, figured}
-use Rattle.report.specs.Stated.{linesOf, Printable, Answered}
+use Rattle.report.specs.Stated.{memberLinesOf, Printable, Answered}
 
 -- the statement by the answer
 module _ {s : List ℕ} {a : Answer} {charges finals : List ℤ} (f : Answered s a charges finals) where
@@ -49,13 +49,13 @@ module _ {s : List ℕ} {charges finals : List ℤ} (p : Printable s charges fin
         rw (p .finals-are m there) (u-le (final-under (p .charged .kept .hour-kept) m there) (omega arith));
   }
 
-  lines-so-far : (m : ℕ) → m ≤ n → linesOf charges finals m ≡ memberLines (hourIn s) m
-  unfolding linesOf memberLines
+  lines-so-far : (m : ℕ) → m ≤ n → memberLinesOf charges finals m ≡ memberLines (hourIn s) m
+  unfolding memberLinesOf memberLines
   lines-so-far zero l = refl
   lines-so-far (suc m) l =
       rw (lines-so-far m (omega arith), p .charged .charges-are m (omega (arith, all)), p .finals-are m (omega (arith, all)))
 
-  pub lines-are : linesOf charges finals n ≡ memberLines (hourIn s) (members (hourIn s))
+  pub lines-are : memberLinesOf charges finals n ≡ memberLines (hourIn s) (members (hourIn s))
   lines-are = lines-so-far n (le-refl n) ∙ ap (memberLines (hourIn s)) all
 
 -- charges and finals are those that settling left

@@ -22,9 +22,9 @@ abbrev pub HasStated : (s out : List ℕ) (count : ℕ) (after : List ℕ) → T
 HasStated s out count after = HasShown 1095 (statement s) out count after
 
 -- a line for each of the first members, with these charges and finals
-unfoldable pub linesOf : (charges finals : List ℤ) → ℕ → List ℕ
-linesOf charges finals zero = []
-linesOf charges finals (suc m) = linesOf charges finals m ++ memberLine m (getD charges m (pos 0)) (getD finals m (pos 0))
+unfoldable pub memberLinesOf : (charges finals : List ℤ) → ℕ → List ℕ
+memberLinesOf charges finals zero = []
+memberLinesOf charges finals (suc m) = memberLinesOf charges finals m ++ memberLine m (getD charges m (pos 0)) (getD finals m (pos 0))
 
 -- the file keeps its ranges, and its hour's charges and finals stand in the first places
 pub record Printable (s : List ℕ) (charges finals : List ℤ) : Type 0 where

@@ -7,7 +7,7 @@ ghost use Rattle.rules.specs.Statement as Statement;
 ghost use Rattle.rules.specs.HourFile.{hourIn};
 ghost use Rattle.bymember.specs.Charged.{Bounded};
 ghost use Rattle.printing.specs.Put.{Put};
-ghost use Rattle.report.specs.Stated.{linesOf, Printable, Answered, stated};
+ghost use Rattle.report.specs.Stated.{memberLinesOf, Printable, Answered, stated};
 use rules::Answer;
 
 // The most bytes that the statement of any byte string has: 39 for line 1, and 33 for each of 32 members (`statement-fits` of `rules`).
@@ -17,7 +17,7 @@ pub const LONGEST: usize = 1095;
 fn put_members(members: usize, charges: &[i64], finals: &[i64], out: &mut [u8], at: usize) -> usize
     requires { ⌜ Bounded (now charges) members 999999999999 × Bounded (now finals) members 999999999999
         × (at + 33 * members ≤ length (now out)) ⌝ }
-    ensures { λ r. ⌜ Put (now (out .entry)) at (linesOf (now (charges .entry)) (now (finals .entry)) members) r (now (out .exit)) ⌝ }
+    ensures { λ r. ⌜ Put (now (out .entry)) at (memberLinesOf (now (charges .entry)) (now (finals .entry)) members) r (now (out .exit)) ⌝ }
 {
     let mut place = at;
     let mut m = 0;

@@ -15,7 +15,7 @@ use Rattle.rules.proofs.Stated.{member-line-length}
 use Rattle.bymember.specs.Charged.{Bounded}
 use Rattle.printing.specs.Put.{Put}
 use Rattle.printing.proofs.Putting.{put-nothing, put-length, put-on, put-as}
-use Rattle.report.specs.Stated.{linesOf}
+use Rattle.report.specs.Stated.{memberLinesOf}
 use Rattle.report.proofs.statement.put_members.Statement.{statement}
 use Rattle.report.proofs.statement.put_members.Tie as tie
 
@@ -25,26 +25,26 @@ held : {numbers : List ℤ} {n : ℕ} → Bounded numbers n 999999999999 → (m 
 held b m l = read-back (u-fits (b .small m l) tt)
 
 module _ (charges finals : List ℤ) where
-  next-line : (m : ℕ) → linesOf charges finals m ++ memberLine m (getD charges m (pos 0)) (getD finals m (pos 0)) ≡
-      linesOf charges finals (m + 1)
-  unfolding linesOf
+  next-line : (m : ℕ) → memberLinesOf charges finals m ++ memberLine m (getD charges m (pos 0)) (getD finals m (pos 0)) ≡
+      memberLinesOf charges finals (m + 1)
+  unfolding memberLinesOf
   next-line m = rw (add-one m)
 
-  put-none : (o : List ℕ) (at : ℕ) → Put o at (linesOf charges finals 0) at o
-  unfolding linesOf
+  put-none : (o : List ℕ) (at : ℕ) → Put o at (memberLinesOf charges finals 0) at o
+  unfolding memberLinesOf
   put-none o at = put-nothing o at
 
-  lines-length : (m : ℕ) → length (linesOf charges finals m) ≡ 33 * m
-  unfolding linesOf
+  lines-length : (m : ℕ) → length (memberLinesOf charges finals m) ≡ 33 * m
+  unfolding memberLinesOf
   lines-length zero = refl
   lines-length (suc m) =
       let charge = getD charges m (pos 0) in
       let final = getD finals m (pos 0) in
-      length-append (linesOf charges finals m) (memberLine m charge final)
+      length-append (memberLinesOf charges finals m) (memberLine m charge final)
       ∙ omega (arith, lines-length m, member-line-length m charge final)
 
 abbrev Inv-loop : tie.InvT-loop
-Inv-loop members charges finals out₀ at place₀ m₀ out place m = (m ≤ members) × Put out₀ at (linesOf charges finals m) place out
+Inv-loop members charges finals out₀ at place₀ m₀ out place m = (m ≤ members) × Put out₀ at (memberLinesOf charges finals m) place out
 
 abbrev μ-loop : tie.MeasureT-loop
 μ-loop members charges finals out₀ at place₀ m₀ out place m = members - m
