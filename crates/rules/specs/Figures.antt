@@ -2,8 +2,8 @@
 pub mod Cases
 pub mod Files
 pub mod Starred
-pub mod Limits
 pub mod Printed
+pub mod Limits
 pub mod Refused
 pub mod Written
 pub mod Unwritten

@@ -10,12 +10,13 @@ use lib.ListN.{getD, set, replicate}
 use Rattle.whole.specs.Below.{valuesBelow}
 use Rattle.rules.specs.declared.Kind.{Kind}
 use Rattle.rules.specs.declared.Kind.the-variants.{Generator, RealTimeLoad, ProfileLoad, Import, Export, Unknown}
-use Rattle.rules.specs.Record.{signed, kindNumber, kindOf, isRealTime, isProfile}
-use Rattle.rules.specs.HourFile.{hourly, word, lengthBad}
-use Rattle.rules.specs.HourWords.{hourFrom}
+use Rattle.rules.specs.Record.{Hour, signed, kindNumber, kindOf, isRealTime, isProfile}
+use Rattle.rules.specs.HourFile.{hourly, word, lengthBad, hourIn}
+use Rattle.rules.specs.HourWords.{hourFrom, byteOf}
 use Rattle.rules.specs.Ranges.{keeps, firstBroken, blockRule, headRule, hourlyForm}
 use Rattle.rules.specs.Refusals.{badHead, badWord}
 use Rattle.rules.specs.Figures.Cases.{Case, _is_, AllRight}
+use Rattle.rules.specs.Figures.Printed.{printedFile}
 
 -- the number of a word, and what it is to be instead
 abbrev pub Change : Type 0
@@ -155,12 +156,24 @@ headLimits =
 abbrev pub kindAndNumber : ℕ → Kind × ℕ
 kindAndNumber w = (kindOf w, kindNumber (kindOf w))
 
+-- words 7, 8, 127 and 128 of the head; of two records the second's first and last word, one behind it, and the first of a third
+abbrev pub headEnds : Hour → List ℕ
+headEnds h = h .head 7 ∷ h .head 8 ∷ h .head 127 ∷ h .head 128 ∷ []
+
+abbrev pub recordEnds : Hour → List ℕ
+recordEnds h = h .rec 1 0 ∷ h .rec 1 11 ∷ h .rec 0 12 ∷ h .rec 2 0 ∷ []
+
+-- lists longer than a head and two records
+abbrev pub sevens : Hour
+sevens = hourFrom hourly (replicate 130 7) (replicate 35 7)
+
 unfoldable pub wordFigures : List Case
 wordFigures =
     -- little-endian; a byte past the end is 0
     word [] 0 is 0
     ∷ word (1 ∷ 2 ∷ 3 ∷ 4 ∷ 5 ∷ []) 0 is 67305985
     ∷ word (1 ∷ 2 ∷ 3 ∷ 4 ∷ 5 ∷ []) 1 is 5
+    ∷ valuesBelow (byteOf 67305985) 5 is (1 ∷ 2 ∷ 3 ∷ 4 ∷ 0 ∷ [])
     -- two's complement
     ∷ signed 2147483647 is pos 2147483647
     ∷ signed 2147483648 is negℤ (pos 2147483648)
@@ -170,6 +183,11 @@ wordFigures =
     (Unknown, 0) ∷ (Generator, 1) ∷ (RealTimeLoad, 2) ∷ (ProfileLoad, 3) ∷ (Import, 4) ∷ (Export, 5) ∷ (Unknown, 0) ∷ [])
     ∷ valuesBelow (λ w. isRealTime (kindOf w)) 4 is (false ∷ false ∷ true ∷ false ∷ [])
     ∷ valuesBelow (λ w. isProfile (kindOf w)) 4 is (false ∷ false ∷ false ∷ true ∷ [])
+    -- what an hour says: words 8 to 127 of the head, twelve words of each record, and 0 at every other place
+    ∷ headEnds sevens is (0 ∷ 7 ∷ 7 ∷ 0 ∷ [])
+    ∷ recordEnds sevens is (7 ∷ 7 ∷ 0 ∷ 0 ∷ [])
+    ∷ headEnds (hourIn printedFile) is (0 ∷ 7 ∷ 0 ∷ 0 ∷ [])
+    ∷ recordEnds (hourIn printedFile) is (2 ∷ 0 ∷ 0 ∷ 0 ∷ [])
     -- the shortest file, the longest, and lengths that no file has
     ∷ lengthBad hourly (replicate 512 0) is false
     ∷ lengthBad hourly (replicate 13312 0) is false
