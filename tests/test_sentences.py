@@ -158,13 +158,16 @@ class Whole(PageTest):
         self.assertTrue(naming.edits())
         self.assertEqual(sorted(naming.edits_named(PAGE)), sorted(naming.edits()))
 
-    def test_definitions_to_read_twice(self):
-        twice = naming.rows(SECTIONS["Definitions to read twice"])
-        self.assertTrue(twice)
-        for row in twice:
-            with self.subTest(row["sentence"]):
+    def test_slips_in_the_definitions(self):
+        """Each row names definitions, and what holds a slip of them: statements and laws, or why it means the same."""
+        slips = naming.rows(SECTIONS["Slips in the definitions"])
+        self.assertTrue(slips)
+        for row in slips:
+            with self.subTest(row["definition"], slip=row["slip"]):
                 self.assert_named(row["definition"], "definition")
-                self.assert_named(row["the code that then fails"], "function")
+                held = naming.names(row["what holds it"])
+                self.assertTrue(held or row["what holds it"].startswith("means the same"))
+                self.assert_named(row["what holds it"], "definition", "law")
 
 
 class Statements(PageTest):
