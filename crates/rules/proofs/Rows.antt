@@ -20,7 +20,7 @@ use Rattle.rules.specs.Record.{Hour}
 use Rattle.rules.specs.HourFile.{hourOf, hourIn}
 use Rattle.rules.specs.Refusals.{Row, row, Verdict, accepted, refusedAt, verdictOf, verdict, placeZeroIf}
 use Rattle.rules.specs.Refusals.{Buffers, tooShort, blockRows, wordRows, comparisonRows, sumRows, formRows, fileRows, hourRows, settleRows}
-use Rattle.rules.specs.Refusals.{badArea, noDemand, writeAmountRows}
+use Rattle.rules.specs.Refusals.{badArea, badAmount, noDemand, writeAmountRows}
 use Rattle.rules.specs.Settling.{Settlement, isAccepted, filled, ufeFigures, noFigures, settle, write}
 use Rattle.rules.specs.Promised.Demands.{Accepts, AllWhole, FirstBrokenRow, ByTheTable, OneSettlement}
 use Rattle.rules.specs.Ranges.{Form, hourlyForm}
@@ -201,7 +201,7 @@ module _ (s : List ℕ) where
 
   pub demand-whole : AllWhole (hourRows s) → noDemand h ≡ none
   unfolding sumRows
-  demand-whole w = sums-whole w .1 .1 .0
+  demand-whole w = let all : AllWhole (row 6 (badArea h) ∷ row 7 (badAmount h) ∷ row 12 (noDemand h) ∷ []) = sums-whole w in all .1 .1 .0
 
   module _ (b : Buffers) where
     abbrev lengthRow : List Row
