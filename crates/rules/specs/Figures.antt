@@ -2,6 +2,7 @@
 pub mod Cases
 pub mod Files
 pub mod Starred
+pub mod Numbered
 pub mod Printed
 pub mod Limits
 pub mod Refused
