@@ -3,8 +3,8 @@ use Prim.Native.Nat.{ℕ, _+_, _*_, _%_, _≤_}
 use native.Mathlib.Nat.{mod-lt, mul-le-mul-left, mul-le-mul-right}
 use native.Mathlib.Omega.{arith}
 use Rattle.rules.specs.declared.Layout.{Layout}
-use Rattle.rules.specs.HourFile.{hourly}
-use Rattle.rules.specs.Inner.Layouts.{tenMinutes, FitsBody}
+use Rattle.rules.specs.HourFile.{hourly, tenMinutes}
+use Rattle.rules.specs.Inner.Layouts.{FitsBody}
 
 pub hourly-fits : FitsBody hourly
 hourly-fits = record { some-records = omega arith; some-words = omega arith; no-longer = omega arith }

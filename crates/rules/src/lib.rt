@@ -2,7 +2,6 @@
 // proofs/; nothing is computed here.
 ghost use mathlib.Core.Path.{_≡_};
 ghost use Rattle.rules.specs.HourFile as HourFile;
-ghost use Rattle.rules.specs.Inner.Layouts as Layouts;
 
 // What a record is about (document 01, "The hour file", record words). A number that names none of the five is Unknown; row 5 refuses it.
 pub enum Kind {
@@ -113,7 +112,7 @@ pub fn hourly() -> Layout
 
 // The file of ten-minute settlement.
 pub fn ten_minutes() -> Layout
-    ensures { λ r. ⌜ r ≡ Layouts.tenMinutes ⌝ }
+    ensures { λ r. ⌜ r ≡ HourFile.tenMinutes ⌝ }
 {
     Layout {
         first: 3,

@@ -1,4 +1,4 @@
--- What the block code asks of a layout, so that it serves every kind of file; and the file of ten-minute settlement, for which it is proved too.
+-- What the block code asks of a layout, so that it serves every kind of file.
 use Prim.Native.Nat.{ℕ, _*_, _≤_}
 use Rattle.rules.specs.declared.Layout.{Layout}
 
@@ -7,7 +7,3 @@ pub record FitsBody (l : Layout) : Type 0 where
   pub some-records : 1 ≤ l .records
   pub some-words : 1 ≤ l .words
   pub no-longer : l .words * l .records ≤ 120
-
--- document 02, A7
-abbrev pub tenMinutes : Layout
-tenMinutes = record { first = 3; other = 4; blocks = 17; records = 4; words = 30 }
