@@ -37,3 +37,5 @@ pub mod Raw
 pub mod Explaining
 pub mod Engines
 pub mod Worded
+pub mod Intervals
+pub mod TenMinutes

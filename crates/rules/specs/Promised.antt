@@ -6,3 +6,5 @@ pub mod Writing
 pub mod Imports
 pub mod Engines
 pub mod Explanation
+pub mod Intervals
+pub mod TenMinutes
