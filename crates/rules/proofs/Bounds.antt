@@ -56,7 +56,7 @@ units-apart = all2 _ (λ n u. simp zr (omega arith))
 loss-rate-under : (H : ℤ) → Upto H 20000 → Under (unitsPerKWh -ℤ H) 10000
 loss-rate-under = all1 _ (λ H. simp zr (omega arith))
 
-units-under : {z : ℤ} {k : ℕ} → Under z k → Under (unitsPerKWh *ℤ z) (10000 * k)
+pub units-under : {z : ℤ} {k : ℕ} → Under z k → Under (unitsPerKWh *ℤ z) (10000 * k)
 units-under h = u-lit unitsPerKWh u* h
 
 module _ {r : Entry} (kept : EntryKept r) where

@@ -1,30 +1,29 @@
 -- An interval of a record by document 01's formulas and the second reading of 000, D 2.1.1, give the same deviations, nets and amounts.
 -- Document 02, A7.
-use mathlib.Core.Path.{_≡_, refl, sym, _∙_, ap, ap₂}
+use mathlib.Core.Path.{_≡_, refl, sym, _∙_, ap}
 use mathlib.Core.Bool.{Bool, true, false, cond, _&&_, and-false}
 use Prim.Native.Nat.{ℕ, zero, suc, _+_, _*_, zero-le}
 use native.Mathlib.Omega.{arith}
 use lib.Dec.{eqb}
-use lib.IntN.{ℤ, pos, negsuc, negℤ, +ℤ-idl, +ℤ-idr, *ℤ-zero, _+ℤ_, _-ℤ_, _*ℤ_}
+use lib.IntN.{ℤ, pos, negsuc, negℤ, +ℤ-idl, +ℤ-idr, _+ℤ_, _-ℤ_, _*ℤ_}
 use lib.Signed.{ltZ}
 use borrow.Author.Tests.{eqb-true, eqb-false, eq-eqb, ne-eqb, lt-ltb, le-ltb}
-use Rattle.whole.specs.Below.{totalBelow}
 use Rattle.whole.specs.Signed.{minℤ, maxℤ}
 use Rattle.whole.proofs.Tests.{split}
-use Rattle.whole.proofs.Linear.{zr, all1, all2, all3, all4, all5}
+use Rattle.whole.proofs.Linear.{zr, all1, all3}
 use Rattle.whole.proofs.Totals.{total-ext, total-add, total-neg}
 use Rattle.rules.specs.declared.Kind.{Kind}
 use Rattle.rules.specs.declared.Kind.the-variants.{Generator, RealTimeLoad, ProfileLoad, Import, Export, Unknown}
-use Rattle.rules.specs.Record.{Hour, zones, zoneOf, memberOf, areaOf, signed, kindOf, isGenerator, isLoad, isImport, isExport}
+use Rattle.rules.specs.Record.{Hour, zones, zoneOf, memberOf, areaOf, signed, isGenerator, isLoad, isImport, isExport}
 use Rattle.rules.specs.Deviation.{unitsPerKWh, generatorUnavailable, generatorDeviation, loadUnavailable, loadDeviation}
 use Rattle.rules.specs.Deviation.{importDeviation, exportDeviation, deviationAs, deviation}
 use Rattle.rules.specs.Charge.{enteringAs, entering}
 use Rattle.rules.specs.TenMinutes.{aSixth, inFull, isRamped, kindIn, thisHour, hourBefore, nextHour, rampPart, scheduledIn, actualIn}
 use Rattle.rules.specs.TenMinutes.{intervalEntry, intervalOf, incremental, decremental, intervalPrice, netDeviation, intervalCost}
 use Rattle.rules.specs.TenMinutes.{tenMinutesAmount}
-use Rattle.rules.specs.Promised.Intervals.{beepSchedule, metered, adj, a/s, beepGenDev, beepLoadDev, beepProfileDev, beepImpDev}
+use Rattle.rules.specs.Promised.Intervals.{beepSchedule, beepGenDev, beepLoadDev, beepProfileDev, beepImpDev}
 use Rattle.rules.proofs.Tariff.{export-units}
-use Rattle.rules.specs.Promised.Intervals.{beepExpDev, beepDevAs, beepAnyLoadDev, beepSum, NetDev, BIP, DevC, allDevC}
+use Rattle.rules.specs.Promised.Intervals.{beepExpDev, beepDevAs, beepSum, NetDev, BIP, DevC, allDevC}
 
 -- ---- what an interval has of each number
 

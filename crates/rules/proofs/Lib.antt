@@ -38,4 +38,6 @@ pub mod Explaining
 pub mod Engines
 pub mod Worded
 pub mod Intervals
+pub mod IntervalsKept
+pub mod IntervalBounds
 pub mod TenMinutes

@@ -1,13 +1,12 @@
 -- What is asked of ten-minute settlement. Document 02, A7.
-use mathlib.Core.Path.{_≡_, refl, sym, _∙_, ap, ap₂}
+use mathlib.Core.Path.{_≡_, refl, _∙_, ap}
 use mathlib.Core.Logic.{_↔_}
-use mathlib.Core.Bool.{true, false, cond}
+use mathlib.Core.Bool.{true}
 use mathlib.Core.List.{List, [], _∷_}
-use Prim.Native.Nat.{ℕ, zero, suc, _≤_, _<_}
-use native.Mathlib.Nat.{le-refl}
+use Prim.Native.Nat.{ℕ, zero, suc, _≤_}
 use native.Mathlib.Omega.{arith}
-use lib.IntN.{ℤ, pos, negℤ, +ℤ-idl, +ℤ-idr, _+ℤ_, _-ℤ_, _*ℤ_}
-use lib.ListN.{length, drop, getD}
+use lib.IntN.{ℤ, pos, negℤ, natAbs, +ℤ-idl, _+ℤ_, _-ℤ_, _*ℤ_}
+use lib.ListN.{length}
 use lib.Dec.{ltb}
 use borrow.Author.Tests.{ltb-false, eqb-true}
 use Rattle.whole.specs.Below.{totalBelow, replacingFirst}
@@ -29,6 +28,8 @@ use Rattle.rules.specs.Promised.Demands.{AllWhole, FirstBrokenRow}
 use Rattle.rules.specs.Promised.TenMinutes.{AcceptsTenMinutes, ChargedByInterval, Consecutive, overAll, twoEnds, TenMinutes}
 use Rattle.rules.proofs.Rows.{Numbered, numbered-on, accepts-when-whole, zero-accepts, refuses-at-first, whole-parts, no-place}
 use Rattle.rules.proofs.Rows.{form-numbered}
+use Rattle.rules.proofs.IntervalsKept.{ten-minutes-file-kept}
+use Rattle.rules.proofs.IntervalBounds.{amount-under}
 use Rattle.rules.proofs.Intervals.{interval-renders, amount-renders}
 
 -- ---- the table
@@ -88,6 +89,12 @@ module _ (s : List ℕ) (c : List ℤ) where
     past-charges = drop-replacing (tenMinutesCharge h) (members h) c;
     same-length = length-replacing (tenMinutesCharge h) (members h) c (room a);
   })
+
+amounts-fit : (s : List ℕ) → verdict (formRows tenMinutesForm s) ≡ accepted → (m : ℕ) →
+    natAbs (tenMinutesAmount (tenMinutesIn s) m) ≤ 3686400000000000000
+amounts-fit s e m =
+    let whole = accepts-when-whole (formRows tenMinutesForm s) (form-numbered tenMinutesForm s) .0 e in
+    amount-under (ten-minutes-file-kept s whole .hour-kept) m .under
 
 -- ---- ramp parts
 
@@ -178,6 +185,7 @@ ten-minutes = record {
   refuses = refuses;
   changes-nothing = changes-nothing;
   settled = settled;
+  amounts-fit = amounts-fit;
   every-interval = interval-renders;
   ramps-cancel = ramps-cancel;
   nothing-lost = nothing-lost;

@@ -8,10 +8,11 @@ use mathlib.Core.List.{List}
 use lib.IntN.{ℤ, pos, natAbs, _+ℤ_, _-ℤ_, _*ℤ_}
 use lib.ListN.{length, drop, getD}
 use Rattle.whole.specs.Below.{totalBelow}
-use Rattle.rules.specs.Record.{Hour, members, kindOf}
+use Rattle.rules.specs.Record.{Hour, members}
 use Rattle.rules.specs.Deviation.{deviation}
 use Rattle.rules.specs.Charge.{centsOf}
-use Rattle.rules.specs.Refusals.{accepted, refusedAt}
+use Rattle.rules.specs.Ranges.{tenMinutesForm}
+use Rattle.rules.specs.Refusals.{accepted, refusedAt, verdict, formRows}
 use Rattle.rules.specs.TenMinutes.{isRamped, kindIn, thisHour, hourBefore, nextHour, inFull, rampPart, scheduledIn, intervalEntry}
 use Rattle.rules.specs.TenMinutes.{tenMinutesAmount, tenMinutesIn, tenMinutesRows, settleTenMinutes}
 use Rattle.rules.specs.Promised.Intervals.{beepDevAs, allDevC}
@@ -53,6 +54,9 @@ pub record TenMinutes : Type 0 where
       (settleTenMinutes s c .verdict ≡ refusedAt (suc n) p) ↔ FirstBrokenRow (tenMinutesRows s c) (suc n) p
   pub changes-nothing : (s : List ℕ) (c : List ℤ) → (AcceptsTenMinutes s c → ⊥) → settleTenMinutes s c .charges ≡ c
   pub settled : (s : List ℕ) (c : List ℤ) → AcceptsTenMinutes s c → ChargedByInterval (tenMinutesIn s) c (settleTenMinutes s c .charges)
+  -- an unrounded sum fits 64 bits, of every file that passes rows 1 to 5
+  pub amounts-fit : (s : List ℕ) → verdict (formRows tenMinutesForm s) ≡ accepted → (m : ℕ) →
+      natAbs (tenMinutesAmount (tenMinutesIn s) m) ≤ 3686400000000000000
   -- one fact for all six intervals: a record's deviation by document 01 is that of 000 for its kind
   pub every-interval : (w : ℕ → ℕ) (k : ℕ) → deviation (intervalEntry w k) ≡ beepDevAs w (suc k) (kindIn w)
   -- the ramp parts cancel except at the two ends, so that all intervals together have what the hours were scheduled for, and the ends
