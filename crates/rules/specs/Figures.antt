@@ -6,3 +6,4 @@ pub mod Refused
 pub mod Unwritten
 pub mod EveryKind
 pub mod Explanation
+pub mod TenMinutes

@@ -5,3 +5,4 @@ pub mod Printed
 pub mod Refused
 pub mod EveryKind
 pub mod Explanation
+pub mod TenMinutes
