@@ -139,6 +139,7 @@ module _ (h : Hour) (head-whole : badHead tenMinutesForm h ≡ none) (records-wh
         le-ltb w 12 (omega arith),
         le-ltb w 16 (omega arith),
         le-ltb w 48 (omega arith),
+        lt-ltb w 96 (omega arith),
         zone-is,
         lt-ltb z (zones h) l,
       ) at (head-holds w (omega arith))

@@ -38,6 +38,7 @@ pub mod Explaining
 pub mod Engines
 pub mod Worded
 pub mod Intervals
+pub mod IntervalTables
 pub mod IntervalsKept
 pub mod IntervalBounds
 pub mod TenMinutes

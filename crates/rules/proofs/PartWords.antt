@@ -52,8 +52,8 @@ module _ (s : List ℕ) where
   block-part-sum b = ap (λ (n : ℕ). n % 0x1_0000_0000) (sum-ext _ _ 128 (block-part-word b))
 
   -- the first block has the head
-  pub head-part-word : (w : ℕ) → 8 ≤ w → w < 128 → word (take 512 (drop (512 * 0) s)) w ≡ hourIn s .head w
-  head-part-word w l m = block-part-word 0 w m ∙ sym (head-word hourly s w l m)
+  pub head-part-word : (layout : Layout) (w : ℕ) → 8 ≤ w → w < 128 → word (take 512 (drop (512 * 0) s)) w ≡ hourOf layout s .head w
+  head-part-word layout w l m = block-part-word 0 w m ∙ sym (head-word layout s w l m)
 
 -- ---- a record: a part of its block's body
 

@@ -11,6 +11,8 @@ use lib.Dec.{ltb, leb, eqb}
 use Rattle.whole.specs.Below.{firstBelow}
 use Rattle.rules.specs.declared.Kind.{Kind}
 use Rattle.rules.specs.declared.Kind.the-variants.{Generator, RealTimeLoad, ProfileLoad, Import, Export, Unknown}
+use Rattle.rules.specs.declared.Mode.{Mode}
+use Rattle.rules.specs.declared.Mode.the-variants.{Hourly, TenMinutes}
 use Rattle.rules.specs.declared.Rule.{Rule}
 use Rattle.rules.specs.declared.Rule.the-variants.{Any, Between, LessThan, AtMostInSize}
 use Rattle.rules.specs.Record.{signed, kindOf}
@@ -107,7 +109,8 @@ tenMinutesHeadRule zones areas w =
     (cond (ltb w 12) (getD countRules (w - 9) mustBeZero)
     (cond (ltb w 16) mustBeZero
     (cond (ltb w 48) (cond (ltb ((w - 16) / 4) areas && eqb ((w - 16) % 4) 0) (LessThan zones) mustBeZero)
-    (cond (ltb ((w - 48) / 12) zones) (AtMostInSize 100000) mustBeZero))))
+    (cond (ltb w 96) (cond (ltb ((w - 48) / 12) zones) (AtMostInSize 100000) mustBeZero)
+    mustBeZero))))
 
 abbrev pub six : Rule → List Rule
 six rule = rule ∷ rule ∷ rule ∷ rule ∷ rule ∷ rule ∷ []
@@ -144,3 +147,7 @@ hourlyForm = record { layout = hourly; headRule = headRule; recordRule = recordR
 -- document 02, A7
 abbrev pub tenMinutesForm : Form
 tenMinutesForm = record { layout = tenMinutes; headRule = tenMinutesHeadRule; recordRule = tenMinutesRecordRule }
+
+abbrev pub formOf : Mode → Form
+formOf Hourly = hourlyForm
+formOf TenMinutes = tenMinutesForm
