@@ -1,7 +1,16 @@
 -- Where the search of the records stops, as the definitions say it: a record and a word, or none; and, where it stops nowhere, the record
--- that row 14 names, or none.
+-- that row 14 names, or none. Row 14 is the hour file's: of a ten-minute file it names none.
 use Prim.Native.Nat.{ℕ}
+use mathlib.Core.Bool.{Bool, false}
 use mathlib.Core.Option.{Option, none, some}
+use mathlib.Core.List.{List, [], _∷_, _++_}
+use Rattle.whole.specs.Below.{firstBelow}
+use Rattle.rules.specs.declared.Mode.{Mode}
+use Rattle.rules.specs.declared.Mode.the-variants.{Hourly, TenMinutes}
+use Rattle.rules.specs.Record.{Hour}
+use Rattle.rules.specs.HourFile.{hourOf}
+use Rattle.rules.specs.Ranges.{formOf}
+use Rattle.rules.specs.Refusals.{Row, row, scheduledAbove, formRows}
 use Rattle.examine.specs.declared.Fault.{Fault}
 use Rattle.examine.specs.declared.Fault.the-variants.{Word, Above, Nowhere}
 
@@ -14,3 +23,18 @@ abbrev pub aboveAt : Fault → Option ℕ
 aboveAt (Word i w) = none
 aboveAt (Above i) = some i
 aboveAt Nowhere = none
+
+-- the hour that a file of this kind holds
+abbrev pub hourAs : Mode → List ℕ → Hour
+hourAs mode s = hourOf (formOf mode .layout) s
+
+abbrev pub aboveBy : Mode → (kind scheduled maximum : ℕ) → Bool
+aboveBy Hourly kind scheduled maximum = scheduledAbove kind scheduled maximum
+aboveBy TenMinutes kind scheduled maximum = false
+
+abbrev pub aboveIn : Mode → Hour → Option ℕ
+aboveIn mode h = firstBelow (λ i. aboveBy mode (h .rec i 0) (h .rec i 3) (h .rec i 8)) (h .count)
+
+-- rows 1 to 5, and 14
+unfoldable pub examineRows : Mode → List ℕ → List Row
+examineRows mode s = formRows (formOf mode) s ++ row 14 (aboveIn mode (hourAs mode s)) ∷ []

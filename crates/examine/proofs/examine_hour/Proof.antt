@@ -3,23 +3,25 @@
 use mathlib.Core.Path.{_≡_, sym, _∙_, ap}
 use mathlib.Core.Option.{none}
 use native.Mathlib.Omega.{arith}
-use Rattle.rules.specs.HourFile.{hourly, hourIn}
-use Rattle.rules.specs.Refusals.{badHead, verdict, wordRows, recordRows, foundAt}
+use Rattle.rules.specs.Refusals.{badHead, verdict, wordRows, foundAt}
 use Rattle.rules.proofs.Words.{length-is-whole}
 use Rattle.rules.proofs.Faults.{fault-record, fault-nowhere}
-use Rattle.examine.specs.Fault.{faultAt, aboveAt}
+use Rattle.examine.specs.Fault.{faultAt, aboveAt, hourAs}
 use Rattle.examine.proofs.examine_hour.Statement.{statement}
 use Rattle.examine.proofs.examine_hour.Tie as tie
-use Rattle.rules.specs.Ranges.{hourlyForm}
+use Rattle.rules.specs.Ranges.{formOf}
 
 -- row 4 passed: the head is whole
 module _ (c : tie.After-enum-told) where
-  head-good : badHead hourlyForm (hourIn (c .before .before .before .before .args .file .now)) ≡ none
+  abbrev start : tie.Start
+  start = c .before .before .before .before
+
+  head-good : badHead (formOf (start .args .mode)) (hourAs (start .args .mode) (start .args .file .now)) ≡ none
   head-good = sym (c .before .before .bad-head .ensures) ∙ ap foundAt (c .enum-told .given .1)
 
 bad-head-requires : tie.Need-bad-head-requires
 bad-head-requires c κs =
-    let whole = length-is-whole hourly _ (c .before .pre .length-good) in
+    let whole = length-is-whole (formOf (c .before .args .mode) .layout) _ (c .before .pre .length-good) in
     omega (arith, whole .all-blocks, whole .at-least-one)
 
 -- Found::At(w) = bad_head(file)
@@ -28,7 +30,7 @@ enum-known-w c = c .match .keys1
 
 -- return Answer::BadHead(w)
 returns : tie.Need-returns
-unfolding verdict wordRows recordRows
+unfolding verdict wordRows
 returns c = simp (sym (c .before .before .before .bad-head .ensures) ∙ ap foundAt (c .before .w .given .1))
 
 -- Found::Nothing = bad_head(file)
@@ -52,33 +54,33 @@ enum-told-2 c = c .match2 .keys3
 
 -- Answer::BadRecord(i)
 returns-2 : tie.Need-returns-2
-unfolding verdict wordRows recordRows
+unfolding verdict wordRows
 returns-2 c =
     let searched = c .before .before .before in
     let found = sym (searched .first-fault .ensures .0) ∙ ap faultAt (c .before .i .given .1) in
-    simp (head-good (searched .before), fault-record hourlyForm _ _ _ found)
+    simp (head-good (searched .before), fault-record _ _ _ _ found)
 
 -- Answer::AboveMaximum(i)
 returns-3 : tie.Need-returns-3
-unfolding verdict wordRows recordRows
+unfolding verdict wordRows
 returns-3 c =
     let searched = c .before .before .before in
     let no-fault = ap faultAt (c .before .i2 .given .1) in
     simp (
       head-good (searched .before),
-      fault-nowhere hourlyForm _ (sym (searched .first-fault .ensures .0) ∙ no-fault),
+      fault-nowhere _ _ (sym (searched .first-fault .ensures .0) ∙ no-fault),
       sym (searched .first-fault .ensures .1 no-fault) ∙ ap aboveAt (c .before .i2 .given .1),
     )
 
 -- Answer::Accepted
 returns-4 : tie.Need-returns-4
-unfolding verdict wordRows recordRows
+unfolding verdict wordRows
 returns-4 c =
     let searched = c .before .before in
     let no-fault = ap faultAt (c .enum-told2 .given .1) in
     simp (
       head-good (searched .before),
-      fault-nowhere hourlyForm _ (sym (searched .first-fault .ensures .0) ∙ no-fault),
+      fault-nowhere _ _ (sym (searched .first-fault .ensures .0) ∙ no-fault),
       sym (searched .first-fault .ensures .1 no-fault) ∙ ap aboveAt (c .enum-told2 .given .1),
     )
 
