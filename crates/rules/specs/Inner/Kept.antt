@@ -53,6 +53,18 @@ pub record FileKept (s : List ℕ) : Type 0 where
   pub length-good : lengthBad hourly s ≡ false
   pub hour-kept : HourKept (hourIn s)
 
+-- an entry in whose numbers every step of the formulas fits: an hour's entries are such, and those of an interval, which are 24 times as
+-- large
+pub record EntryRoom (r : Entry) : Type 0 where
+  pub S-in : Upto (r .S) 2400000
+  pub A-in : Upto (r .A) 2400000
+  pub J-in : Under (r .J) 2400000
+  pub N-in : Upto (r .N) 2400000
+  pub O-in : Upto (r .O) 2400000
+  pub M-in : Upto (r .M) 2400000
+  pub F-in : Upto (r .F) 20000
+  pub H-in : Upto (r .H) 20000
+
 -- ---- a ten-minute file: document 02, A7. Its entries are in 24ths
 
 pub record IntervalKept (r : Entry) : Type 0 where
