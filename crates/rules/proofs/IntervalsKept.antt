@@ -26,7 +26,7 @@ use Rattle.rules.specs.Refusals.{badLength, badBlock, badHead, badWord, 
 use Rattle.rules.specs.TenMinutes.{aSixth, isRamped, kindIn, thisHour, hourBefore, nextHour, rampPart, scheduledIn, actualIn}
 use Rattle.rules.specs.TenMinutes.{intervalEntry, intervalOf, incremental, decremental, tenMinutesIn}
 use Rattle.rules.specs.Promised.Demands.{AllWhole}
-use Rattle.rules.specs.Inner.Kept.{IntervalKept, TenMinutesRecordKept, TenMinutesKept, TenMinutesFileKept}
+use Rattle.rules.specs.Inner.Kept.{IntervalWords, IntervalKept, TenMinutesRecordKept, TenMinutesKept, TenMinutesFileKept}
 use Rattle.rules.proofs.Rows.{no-place, whole-parts}
 use Rattle.rules.proofs.Words.{Holds, length-is-whole}
 use Rattle.rules.proofs.Kept.{unbroken, all-hold, signed-zero, held-most}
@@ -41,8 +41,7 @@ each (suc n) f = (each n (λ i l. f i (omega arith)), f n (le-refl (suc n)))
 abbrev Held : List Rule → (ℕ → ℕ) → Type 0
 Held rules v = EachBelow (λ j. Holds (getD rules j mustBeZero) (v (3 + j))) 23
 
--- whatever the kind, no number is above the most that any kind allows
-record WordsKept (v : ℕ → ℕ) : Type 0 where
+record WordsHeld (v : ℕ → ℕ) : Type 0 where
   this-most : v 3 ≤ 100000
   before-most : v 4 ≤ 100000
   next-most : v 5 ≤ 100000
@@ -52,14 +51,14 @@ record WordsKept (v : ℕ → ℕ) : Type 0 where
   adjustments-in : EachBelow (λ k. Under (signed (v (14 + k))) 100000) 6
   ancillary-most : EachBelow (λ k. v (20 + k) ≤ 100000) 6
 
-words-kept : (K : Kind) (v : ℕ → ℕ) → Held (tenMinutesRulesOf K) v → WordsKept v
+words-held : (K : Kind) (v : ℕ → ℕ) → Held (tenMinutesRulesOf K) v → WordsHeld v
 unfolding tenMinutesRulesOf
-words-kept Generator v f = omega arith
-words-kept RealTimeLoad v f = omega arith
-words-kept ProfileLoad v f = omega arith
-words-kept Import v f = omega arith
-words-kept Export v f = omega arith
-words-kept Unknown v f =
+words-held Generator v f = omega arith
+words-held RealTimeLoad v f = omega arith
+words-held ProfileLoad v f = omega arith
+words-held Import v f = omega arith
+words-held Export v f = omega arith
+words-held Unknown v f =
     let none-in : (n : ℕ) → v n ≤ 0 → Under (signed (v n)) 0 = λ n l. signed-zero (v n) l in
     let a = none-in 14 (omega arith) in
     let b = none-in 15 (omega arith) in
@@ -68,6 +67,18 @@ words-kept Unknown v f =
     let e = none-in 18 (omega arith) in
     let g = none-in 19 (omega arith) in
     omega arith
+
+words-kept : (K : Kind) (v : ℕ → ℕ) → Held (tenMinutesRulesOf K) v → IntervalWords v
+words-kept K v f = let w = words-held K v f in record {
+  this-most = w .this-most;
+  before-most = w .before-most;
+  next-most = w .next-most;
+  F-most = w .F-most;
+  H-most = w .H-most;
+  actuals-most = at-each (λ k. v (8 + k) ≤ 100000) 6 (w .actuals-most);
+  adjustments-in = at-each (λ k. Under (signed (v (14 + k))) 100000) 6 (w .adjustments-in);
+  ancillary-most = at-each (λ k. v (20 + k) ≤ 100000) 6 (w .ancillary-most);
+}
 
 -- ---- an interval
 
@@ -88,28 +99,28 @@ schedule-in true true last s p x a b c = first-in s p a b
 schedule-in true false true s p x a b c = last-in s x a c
 schedule-in true false false s p x a b c = sixth-in s a
 
-module _ (v : ℕ → ℕ) (kept : WordsKept v) (k : ℕ) (there : k < 6) where
+module _ (v : ℕ → ℕ) (kept : IntervalWords v) (k : ℕ) (there : k < 6) where
   actual-in : Upto (actualIn v k) 2400000
   unfolding actualIn
   actual-in = cond-ind (isImport (kindIn v)) _ _ (λ a. Upto a 2400000)
       (λ t. upto-pos (4 * v 3) 2400000 (let l = kept .this-most in omega arith))
       (λ t. cond-ind (isProfile (kindIn v)) _ _ (λ a. Upto a 2400000)
-      (λ t. upto-pos (4 * v 8) 2400000 (let l = at-each (λ k. v (8 + k) ≤ 100000) 6 (kept .actuals-most) 0 (omega arith) in omega arith))
-      (λ t. upto-pos (24 * v (8 + k)) 2400000 (let l = at-each (λ k. v (8 + k) ≤ 100000) 6 (kept .actuals-most) k there in omega arith)))
+      (λ t. upto-pos (4 * v 8) 2400000 (let l = kept .actuals-most 0 (omega arith) in omega arith))
+      (λ t. upto-pos (24 * v (8 + k)) 2400000 (let l = kept .actuals-most k there in omega arith)))
 
   scheduled-in : Upto (scheduledIn v k) 400000
   unfolding scheduledIn rampPart
   scheduled-in = schedule-in (isRamped (kindIn v)) (eqb k 0) (eqb k 5) (thisHour v) (hourBefore v) (nextHour v)
       (upto-pos (v 3) 100000 (kept .this-most)) (upto-pos (v 4) 100000 (kept .before-most)) (upto-pos (v 5) 100000 (kept .next-most))
 
-  interval-kept : IntervalKept (intervalEntry v k)
+  pub interval-kept : IntervalKept (intervalEntry v k)
   unfolding intervalEntry
   interval-kept = record {
     S-in = scheduled-in;
     A-in = actual-in;
-    J-in = u-lit (pos 24) u* at-each (λ k. Under (signed (v (14 + k))) 100000) 6 (kept .adjustments-in) k there;
+    J-in = u-lit (pos 24) u* kept .adjustments-in k there;
     N-in = upto-pos (24 * v (20 + k)) 2400000
-        (let l = at-each (λ k. v (20 + k) ≤ 100000) 6 (kept .ancillary-most) k there in omega arith);
+        (let l = kept .ancillary-most k there in omega arith);
     none-owed = refl;
     maximum-is = refl;
     F-in = upto-pos (v 6) 20000 (kept .F-most);
@@ -177,6 +188,7 @@ module _ (h : Hour) (head-whole : badHead tenMinutesForm h ≡ none) (records-wh
         kind-most = kind-held .1;
         member-there = word-holds i 1 l (omega arith);
         area-there = word-holds i 2 l (omega arith);
+        words-kept = words-kept (kindOf (h .rec i 0)) (h .rec i) held;
         interval-kept = interval-kept (h .rec i) (words-kept (kindOf (h .rec i 0)) (h .rec i) held);
       }
 

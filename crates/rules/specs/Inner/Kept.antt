@@ -1,11 +1,11 @@
 -- What a file that passes rows 1 to 5 keeps, as the bounds that the sums need. Document 01, "Units and ranges".
-use Prim.Native.Nat.{ℕ, _≤_, _<_}
+use Prim.Native.Nat.{ℕ, _+_, _≤_, _<_}
 use mathlib.Core.Path.{_≡_}
 use mathlib.Core.Bool.{true, false, _||_}
 use mathlib.Core.List.{List}
 use lib.IntN.{pos}
 use Rattle.whole.specs.Signed.{Under, Upto}
-use Rattle.rules.specs.Record.{Hour, Entry, members, zones, areas, zonePrice, zoneOf, tieIn, tieOut, memberOf, areaOf, entryOf}
+use Rattle.rules.specs.Record.{Hour, Entry, members, zones, areas, zonePrice, zoneOf, tieIn, tieOut, memberOf, areaOf, entryOf, signed}
 use Rattle.rules.specs.Record.{isGenerator, isImport}
 use Rattle.rules.specs.Ufe.{demand}
 use Rattle.rules.specs.HourFile.{hourly, tenMinutes, lengthBad, hourIn}
@@ -67,6 +67,17 @@ pub record EntryRoom (r : Entry) : Type 0 where
 
 -- ---- a ten-minute file: document 02, A7. Its entries are in 24ths
 
+-- a record's words: whatever the kind, no number is above the most that any kind allows
+pub record IntervalWords (v : ℕ → ℕ) : Type 0 where
+  pub this-most : v 3 ≤ 100000
+  pub before-most : v 4 ≤ 100000
+  pub next-most : v 5 ≤ 100000
+  pub F-most : v 6 ≤ 20000
+  pub H-most : v 7 ≤ 20000
+  pub actuals-most : (k : ℕ) → k < 6 → v (8 + k) ≤ 100000
+  pub adjustments-in : (k : ℕ) → k < 6 → Under (signed (v (14 + k))) 100000
+  pub ancillary-most : (k : ℕ) → k < 6 → v (20 + k) ≤ 100000
+
 pub record IntervalKept (r : Entry) : Type 0 where
   pub S-in : Upto (r .S) 400000
   pub A-in : Upto (r .A) 2400000
@@ -82,6 +93,7 @@ pub record TenMinutesRecordKept (h : Hour) (i : ℕ) : Type 0 where
   pub kind-most : h .rec i 0 ≤ 5
   pub member-there : memberOf h i < members h
   pub area-there : areaOf h i < areas h
+  pub words-kept : IntervalWords (h .rec i)
   pub interval-kept : (k : ℕ) → k < 6 → IntervalKept (intervalOf h i k)
 
 pub record TenMinutesKept (h : Hour) : Type 0 where
