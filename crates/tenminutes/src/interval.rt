@@ -1,0 +1,73 @@
+// An interval of a ten-minute record as an entry of document 01, in 24ths of its units: its numbers are read from the record's part of the
+// file, and the formulas are those of `formula`.
+ghost use mathlib.Core.Path.{_≡_};
+ghost use mathlib.Core.Bool.{cond};
+ghost use Prim.Native.Nat.{_<_};
+ghost use lib.IntN.{pos, negℤ, _+ℤ_, _-ℤ_};
+ghost use lib.Dec.{eqb};
+ghost use lib.ListN.{length};
+ghost use Rattle.whole.specs.Signed.{Upto};
+ghost use Rattle.rules.specs.Record as Record;
+ghost use Rattle.rules.specs.HourFile.{word};
+ghost use Rattle.rules.specs.Charge.{entering};
+ghost use Rattle.rules.specs.TenMinutes as Ten;
+ghost use Rattle.rules.specs.Inner.Kept.{IntervalWords, IntervalKept};
+ghost use Rattle.formula.specs.Meant.{meant};
+use formula::entry::Entry;
+use rules::Kind;
+
+// Generators and loads metered in real time.
+fn is_ramped(kind: Kind) -> bool
+    ensures { λ r. ⌜ r ≡ Ten.isRamped kind ⌝ }
+{
+    match kind {
+        Kind::Generator => true,
+        Kind::RealTimeLoad => true,
+        Kind::ProfileLoad => false,
+        Kind::Import => false,
+        Kind::Export => false,
+        Kind::Unknown => false,
+    }
+}
+
+// The schedule of interval `k` of what is ramped: a sixth of the hour's, and in the first and in the last interval a 24th of the step from
+// the hour before, or to the next.
+fn ramped(hour: i64, before: i64, next: i64, k: usize) -> i64
+    requires { ⌜ Upto hour 100000 × Upto before 100000 × Upto next 100000 ⌝ }
+    ensures { λ r. ⌜ r ≡ Ten.aSixth hour +ℤ cond (eqb k 0) (negℤ (hour -ℤ before)) (cond (eqb k 5) (next -ℤ hour) (pos 0)) ⌝ }
+{
+    if k == 0 {
+        return 4 * hour - (hour - before);
+    }
+    if k == 5 {
+        return 4 * hour + (next - hour);
+    }
+    4 * hour
+}
+
+// The schedule of interval `k` of any kind.
+fn scheduled(kind: Kind, hour: i64, before: i64, next: i64, k: usize) -> i64
+    requires { ⌜ Upto hour 100000 × Upto before 100000 × Upto next 100000 ⌝ }
+    ensures { λ r. ⌜ r ≡ Ten.aSixth hour +ℤ cond (Ten.isRamped kind)
+        (cond (eqb k 0) (negℤ (hour -ℤ before)) (cond (eqb k 5) (next -ℤ hour) (pos 0))) (pos 0) ⌝ }
+{
+    if is_ramped(kind) {
+        return ramped(hour, before, next, k);
+    }
+    4 * hour
+}
+
+// What interval `k` was metered at: an import a sixth of its schedule, a load by profile a sixth of its hourly reading.
+fn actual(kind: Kind, hour: i64, reading: i64, own: i64) -> i64
+    requires { ⌜ Upto hour 100000 × Upto reading 100000 × Upto own 100000 ⌝ }
+    ensures { λ r. ⌜ r ≡ cond (Record.isImport kind) (Ten.aSixth hour) (cond (Record.isProfile kind) (Ten.aSixth reading) (Ten.inFull own)) ⌝ }
+{
+    match kind {
+        Kind::Generator => 24 * own,
+        Kind::RealTimeLoad => 24 * own,
+        Kind::ProfileLoad => 4 * reading,
+        Kind::Import => 4 * hour,
+        Kind::Export => 24 * own,
+        Kind::Unknown => 24 * own,
+    }
+}
