@@ -2,11 +2,11 @@
 // file, and the formulas are those of `formula`.
 ghost use mathlib.Core.Path.{_≡_};
 ghost use mathlib.Core.Bool.{cond};
-ghost use Prim.Native.Nat.{_<_};
+ghost use Prim.Native.Nat.{_+_, _*_, _<_};
 ghost use lib.IntN.{pos, negℤ, _+ℤ_, _-ℤ_};
 ghost use lib.Dec.{eqb};
 ghost use lib.ListN.{length};
-ghost use Rattle.whole.specs.Signed.{Upto};
+ghost use Rattle.whole.specs.Signed.{Under, Upto};
 ghost use Rattle.rules.specs.Record as Record;
 ghost use Rattle.rules.specs.HourFile.{word};
 ghost use Rattle.rules.specs.Charge.{entering};
@@ -70,4 +70,47 @@ fn actual(kind: Kind, hour: i64, reading: i64, own: i64) -> i64
         Kind::Export => 24 * own,
         Kind::Unknown => 24 * own,
     }
+}
+
+// Word `k` of a record's part as a number.
+fn number(words: &[u8], k: usize) -> i64
+    requires { ⌜ 4 * k + 3 < length (now words) ⌝ }
+    ensures { λ r. ⌜ r ≡ pos (word (now (words .entry)) k) ⌝ }
+{
+    blocks::whole_word(words, k) as i64
+}
+
+// An adjustment: word `k` in two's complement, times 24.
+fn adjustment(words: &[u8], k: usize) -> i64
+    requires { ⌜ (4 * k + 3 < length (now words)) × Under (Record.signed (word (now words) k)) 100000 ⌝ }
+    ensures { λ r. ⌜ r ≡ Ten.inFull (Record.signed (word (now (words .entry)) k)) ⌝ }
+{
+    24 * blocks::signed(blocks::whole_word(words, k))
+}
+
+// An interval's schedule, from the words of a record's part.
+fn scheduled_in(kind: Kind, words: &[u8], k: usize) -> i64
+    requires { ⌜ (length (now words) ≡ 120) × IntervalWords (word (now words)) × (kind ≡ Ten.kindIn (word (now words))) ⌝ }
+    ensures { λ r. ⌜ r ≡ Ten.scheduledIn (word (now (words .entry))) k ⌝ }
+{
+    scheduled(
+        kind,
+        number(words, 3),
+        number(words, 4),
+        number(words, 5),
+        k,
+    )
+}
+
+// An interval's actual energy, from the words of a record's part.
+fn actual_in(kind: Kind, words: &[u8], k: usize) -> i64
+    requires { ⌜ (length (now words) ≡ 120) × IntervalWords (word (now words)) × (kind ≡ Ten.kindIn (word (now words))) × (k < 6) ⌝ }
+    ensures { λ r. ⌜ r ≡ Ten.actualIn (word (now (words .entry))) k ⌝ }
+{
+    actual(
+        kind,
+        number(words, 3),
+        number(words, 8),
+        number(words, 8 + k),
+    )
 }
