@@ -114,3 +114,34 @@ fn actual_in(kind: Kind, words: &[u8], k: usize) -> i64
         number(words, 8 + k),
     )
 }
+
+// An interval of a record as an entry. Nothing is owed, and the maximum is what was metered, so that nothing is unavailable.
+fn entry(words: &[u8], k: usize) -> Entry
+    requires { ⌜ (length (now words) ≡ 120) × IntervalWords (word (now words)) × (k < 6) ⌝ }
+    ensures { λ r. ⌜ meant r ≡ Ten.intervalEntry (word (now (words .entry))) k ⌝ }
+{
+    let kind = formula::entry::kind_of(blocks::whole_word(words, 0));
+    let metered = actual_in(kind, words, k);
+    Entry {
+        kind: kind,
+        s: scheduled_in(kind, words, k),
+        a: metered,
+        j: adjustment(words, 14 + k),
+        n: 24 * number(words, 20 + k),
+        o: 0,
+        m: metered,
+        f: number(words, 6),
+        h: number(words, 7),
+    }
+}
+
+// An interval's deviation, as it enters its member's net.
+pub fn deviation(words: &[u8], k: usize) -> i64
+    requires { ⌜ (length (now words) ≡ 120) × IntervalWords (word (now words)) × (k < 6) ⌝ }
+    ensures { λ r. ⌜ r ≡ entering (Ten.intervalEntry (word (now (words .entry))) k) ⌝ }
+{
+    let own = entry(words, k);
+    let kind = own.kind;
+    let units = formula::deviation::deviation(own);
+    formula::deviation::entering(kind, units)
+}
