@@ -261,6 +261,14 @@ pub fn record_keeps(members: u32, areas: u32, kind: u32, w: usize, v: u32) -> bo
 
 // ---- a ten-minute file
 
+const PRICE: Rule = Rule::AtMostInSize(100000);
+
+const ENERGY: Rule = Rule::Between(0, 100000);
+
+const MULTIPLIER: Rule = Rule::Between(1, 20000);
+
+const ADJUSTMENT: Rule = Rule::AtMostInSize(100000);
+
 // Word `w` of the head, in a file of so many zones and areas.
 fn ten_minutes_head_rule(zones: u32, areas: u32, w: usize) -> Rule
     ensures { λ r. ⌜ r ≡ Ranges.tenMinutesHeadRule zones areas w ⌝ }
@@ -279,7 +287,7 @@ fn ten_minutes_head_rule(zones: u32, areas: u32, w: usize) -> Rule
     }
     if w < 96 {
         if (w - 48) / 12 < zones as usize {
-            return Rule::AtMostInSize(100000);
+            return PRICE;
         }
     }
     ZERO
@@ -302,19 +310,19 @@ fn interval_rule(w: usize) -> Rule
     ensures { λ r. ⌜ r ≡ getD (Ranges.tenMinutesRulesOf Kinds.Generator) (w - 3) Ranges.mustBeZero ⌝ }
 {
     if w < 6 {
-        return Rule::Between(0, 100000);
+        return ENERGY;
     }
     if w < 8 {
-        return Rule::Between(1, 20000);
+        return MULTIPLIER;
     }
     if w < 14 {
-        return Rule::Between(0, 100000);
+        return ENERGY;
     }
     if w < 20 {
-        return Rule::AtMostInSize(100000);
+        return ADJUSTMENT;
     }
     if w < 26 {
-        return Rule::Between(0, 100000);
+        return ENERGY;
     }
     ZERO
 }
