@@ -1,3 +1,4 @@
 // Ten-minute settlement: a record's intervals, a member's nets by zone and interval, what they cost, and the charges.
 pub mod cost;
 pub mod interval;
+pub mod words;

@@ -1,0 +1,2 @@
+-- What the proofs of `tenminutes` share: where a file's words lie.
+pub mod Inside
