@@ -1,0 +1,2 @@
+-- What the contracts of `tenminutes` cite beside `rules`.
+pub mod Room
