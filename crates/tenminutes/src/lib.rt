@@ -4,6 +4,7 @@ ghost use Rattle.rules.specs.Refusals.{verdictOf};
 ghost use Rattle.rules.specs.TenMinutes.{settleTenMinutes};
 use rules::Answer;
 
+pub mod boundary;
 pub mod charges;
 pub mod cost;
 pub mod interval;
