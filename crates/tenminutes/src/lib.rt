@@ -5,11 +5,11 @@ ghost use Rattle.rules.specs.TenMinutes.{settleTenMinutes};
 use rules::Answer;
 
 pub mod boundary;
-pub mod charges;
-pub mod cost;
-pub mod interval;
-pub mod nets;
-pub mod words;
+mod charges;
+mod cost;
+mod interval;
+mod nets;
+mod words;
 
 // Settles a ten-minute file: any bytes, any length of the charges. Every check runs before the first store, so that a refusal changes
 // nothing.

@@ -8,4 +8,5 @@ pub mod Filled
 pub mod Demanded
 pub mod HourFiles
 pub mod Explaining
+pub mod TenMinutes
 pub mod Figures

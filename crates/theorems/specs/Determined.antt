@@ -1,8 +1,9 @@
 -- When a promise leaves no second result, and what it gives. A promise is a function's contract as its callers read it: a claim about the
 -- arguments, the result and what the arguments are at exit.
 use mathlib.Core.Path.{_≡_}
+use mathlib.Core.Logic.{_↔_}
 use mathlib.Core.List.{List, _++_}
-use Prim.Native.Nat.{ℕ, _≤_, _<_}
+use Prim.Native.Nat.{ℕ, suc, _≤_, _<_}
 use mathlib.Core.Option.{Option, none}
 use lib.IntN.{ℤ, pos}
 use lib.ListN.{length, take, drop, getD}
@@ -15,12 +16,14 @@ use Rattle.rules.specs.Refusals.{Verdict, accepted, refusedAt, verdict, Buffers
 use Rattle.rules.specs.Refusals.{blockRows, formRows, fileRows, hourRows, settleRows, explainRows, listFormRows, writerRows}
 use Rattle.rules.specs.Settling.{settle, noFigures, emptyLine, HourWritten}
 use Rattle.rules.specs.Explanation.{Explanation, noHeads}
-use Rattle.rules.specs.Promised.Demands.{Accepts, ByFormula, FairOutcome}
+use Rattle.rules.specs.TenMinutes.{TenMinutesSettlement, tenMinutesIn, tenMinutesRows}
+use Rattle.rules.specs.Promised.Demands.{Accepts, AllWhole, FirstBrokenRow, ByFormula, FairOutcome}
 use Rattle.rules.specs.Promised.Finals.{NeutralOutcome, HeldToDemand, AreBytes, SameSheet, Shows}
 use Rattle.rules.specs.Promised.Writing.{fileIn}
 use Rattle.rules.specs.Promised.Imports.{FirstMetered}
 use Rattle.rules.specs.Promised.Engines.{HeldToMaximum}
 use Rattle.rules.specs.Promised.Explanation.{Explains}
+use Rattle.rules.specs.Promised.TenMinutes.{ChargedByInterval}
 use Rattle.rules.specs.Ranges.{hourlyForm}
 
 module _ {A X S : Type 0} (promise : A → X → S → Type 0) where
@@ -98,6 +101,15 @@ pub record KeepsExplaining (file : List ℕ) (member : ℕ) (e : Explanation) : 
   -- A1 and A6, as of a settling
   pub held-to-demand : HeldToDemand file (e .verdict)
   pub held-to-maximum : HeldToMaximum (formRows hourlyForm file) (hourIn file) (e .verdict)
+
+-- what document 02 asks of ten-minute settlement (A7), by its file and its charges before, and by what was answered and left
+pub record KeepsTenMinutes (file : List ℕ) (before : List ℤ) (r : TenMinutesSettlement) : Type 0 where
+  -- the first broken row of the table answers, and a refusal changes nothing
+  pub accepts : (r .verdict ≡ accepted) ↔ AllWhole (tenMinutesRows file before)
+  pub refuses : (n p : ℕ) → (r .verdict ≡ refusedAt (suc n) p) ↔ FirstBrokenRow (tenMinutesRows file before) (suc n) p
+  pub unchanged : (r .verdict ≡ accepted → ⊥) → r .charges ≡ before
+  -- each member's charge is that of 000, D 2.1.1, rounded once, and nothing is written past the members
+  pub charged : r .verdict ≡ accepted → ChargedByInterval (tenMinutesIn file) before (r .charges)
 
 -- ---- what programs print, by what was handed in, the slice lent, the count answered and the slice afterwards
 
