@@ -1,8 +1,8 @@
 -- A member's nets, record by record, in the room of 24 places.
-use mathlib.Core.Path.{_≡_, refl, sym, _∙_, ap, ap₂}
+use mathlib.Core.Path.{_≡_, refl, sym, _∙_, ap}
 use mathlib.Core.Bool.{Bool, true, false, cond, _&&_}
 use mathlib.Core.List.{List}
-use Prim.Native.Nat.{ℕ, suc, _+_, _*_, _≤_, _<_, zero-le}
+use Prim.Native.Nat.{ℕ, _+_, _*_, _≤_, _<_, zero-le}
 use native.Mathlib.Nat.{le-refl}
 use native.Mathlib.Omega.{arith}
 use lib.IntN.{ℤ, pos, +ℤ-idr, _+ℤ_}
@@ -11,12 +11,11 @@ use lib.ListN.{length, getD, set, replicate, length-set, getD-replicate}
 use lib.Seq.{getD-set-same, getD-set-other}
 use borrow.Author.Tests.{lt-ltb, le-ltb, eq-eqb, ne-eqb, eqb-true, eqb-false, ltb-true, ltb-false}
 use Rattle.whole.specs.Below.{totalBelow}
-use Rattle.whole.specs.Signed.{Under}
 use Rattle.whole.proofs.Tests.{split, never}
 use Rattle.whole.proofs.Totals.{total-none, total-add-one}
-use Rattle.rules.specs.Record.{Hour, memberOf, areaOf, zoneOf, zones}
+use Rattle.rules.specs.Record.{Hour, memberOf, areaOf, zoneOf}
 use Rattle.rules.specs.Charge.{entering}
-use Rattle.rules.specs.TenMinutes.{intervalOf, netDeviation}
+use Rattle.rules.specs.TenMinutes.{intervalOf}
 use Rattle.rules.specs.Inner.Kept.{TenMinutesKept}
 use Rattle.rules.proofs.IntervalBounds.{net-running}
 use Rattle.tenminutes.specs.Room.{adds, NetsAfter, Spare, Added}

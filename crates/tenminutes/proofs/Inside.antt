@@ -1,14 +1,12 @@
 -- In a ten-minute file that keeps its ranges the head and every record lie whole, so that words are read without a test: past the end a
 -- kind would be 0, which is none. A record's part has the record's numbers.
-use mathlib.Core.Path.{_≡_, refl, sym, _∙_, ap}
+use mathlib.Core.Path.{_≡_, sym, _∙_, ap}
 use mathlib.Core.Bool.{false}
 use mathlib.Core.List.{List}
 use Prim.Native.Nat.{ℕ, _+_, _*_, _/_, _%_, _≤_, _<_}
 use native.Mathlib.Omega.{arith}
 use lib.ListN.{length}
-use Rattle.whole.specs.Signed.{Under}
-use Rattle.rules.specs.Record.{memberOf, areaOf, kindOf, signed}
-use Rattle.rules.specs.Charge.{entering}
+use Rattle.rules.specs.Record.{memberOf, areaOf}
 use Rattle.rules.specs.HourFile.{tenMinutes, word, lengthBad, blocks, blockWord, recordWord}
 use Rattle.rules.specs.TenMinutes.{rampPart, scheduledIn, actualIn, intervalEntry, intervalOf, tenMinutesIn}
 use Rattle.rules.specs.Inner.Kept.{IntervalWords, TenMinutesFileKept}

@@ -1,23 +1,20 @@
 -- What the checks of ten-minute settlement tell: a file that is refused by rows 1 to 5, or whose charges have no room, changes nothing; of
 -- any other every charge is written.
 use mathlib.Core.Path.{_≡_, refl, sym, _∙_, ap}
-use mathlib.Core.Bool.{true, false}
 use mathlib.Core.List.{List, [], _∷_}
-use Prim.Native.Nat.{ℕ, suc, _≤_, _<_}
+use Prim.Native.Nat.{ℕ, _≤_, _<_}
 use native.Mathlib.Omega.{arith}
 use lib.IntN.{ℤ}
-use lib.Dec.{ltb, eqb}
+use lib.Dec.{ltb}
 use lib.ListN.{length}
-use borrow.Author.Tests.{lt-ltb, le-ltb, ne-eqb}
+use borrow.Author.Tests.{lt-ltb, le-ltb}
 use Rattle.whole.specs.Below.{replacingFirst}
 use Rattle.rules.specs.declared.Answer.{Answer}
 use Rattle.rules.specs.declared.Answer.the-variants.{Accepted, TooShort}
 use Rattle.rules.specs.Record.{members}
 use Rattle.rules.specs.Ranges.{tenMinutesForm}
-use Rattle.rules.specs.Refusals.{Verdict, Row, row, accepted, refusedAt, verdictOf, verdict, placeZeroIf, formRows}
-use Rattle.rules.specs.Settling.{isAccepted}
+use Rattle.rules.specs.Refusals.{Row, row, accepted, verdictOf, verdict, placeZeroIf, formRows}
 use Rattle.rules.specs.TenMinutes.{tenMinutesIn, tenMinutesRows, tenMinutesCharge, settleTenMinutes}
-use Rattle.rules.specs.Promised.TenMinutes.{AcceptsTenMinutes}
 use Rattle.rules.specs.Inner.Kept.{TenMinutesFileKept}
 use Rattle.rules.proofs.Rows.{accepts-when-whole, form-numbered, refused-first, passed-on, one-answer}
 use Rattle.rules.proofs.IntervalsKept.{ten-minutes-file-kept}

@@ -11,7 +11,7 @@ ghost use Rattle.rules.specs.Record as Record;
 ghost use Rattle.rules.specs.HourFile.{word};
 ghost use Rattle.rules.specs.Charge.{entering};
 ghost use Rattle.rules.specs.TenMinutes as Ten;
-ghost use Rattle.rules.specs.Inner.Kept.{IntervalWords, IntervalKept};
+ghost use Rattle.rules.specs.Inner.Kept.{IntervalWords};
 ghost use Rattle.formula.specs.Meant.{meant};
 use formula::entry::Entry;
 use rules::Kind;

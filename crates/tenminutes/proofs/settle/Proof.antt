@@ -5,13 +5,10 @@ use Prim.Native.Nat.{ℕ}
 use native.Mathlib.Omega.{arith}
 use lib.IntN.{ℤ}
 use borrow.Author.Needs.{needs}
-use Rattle.rules.specs.declared.Answer.the-variants.{Accepted}
-use Rattle.rules.specs.Record.{members}
 use Rattle.rules.specs.Ranges.{tenMinutesForm}
 use Rattle.rules.specs.Refusals.{accepted, verdictOf, verdict, formRows}
-use Rattle.rules.specs.TenMinutes.{tenMinutesIn}
 use Rattle.answer.proofs.Refusing.{no-other}
-use Rattle.tenminutes.proofs.Settled.{Settles, file-refused, kept, too-short, all-charged}
+use Rattle.tenminutes.proofs.Settled.{file-refused, kept, too-short, all-charged}
 use Rattle.tenminutes.proofs.settle.Statement.{statement}
 use Rattle.tenminutes.proofs.settle.Tie as tie
 

@@ -1,8 +1,7 @@
 -- `tenminutes::charges::put_charges` meets its contract. The loop's invariant: the members passed have their charges.
-use mathlib.Core.Path.{_≡_, _∙_}
-use Prim.Native.Nat.{ℕ, _-_, _≤_, _<_}
+use mathlib.Core.Path.{_∙_}
+use Prim.Native.Nat.{_-_}
 use native.Mathlib.Omega.{arith}
-use lib.ListN.{length}
 use borrow.Author.Needs.{sfits-of}
 use Rattle.whole.proofs.Machine.{read-back}
 use Rattle.whole.proofs.Filling.{Filled, none-filled, filled-length, place-there, next-filled, first-filled}

@@ -1,6 +1,6 @@
 -- `tenminutes::charges::zone_cost` meets its contract. The loop's invariant: the sum is that of the intervals passed.
 use mathlib.Core.Path.{_≡_, sym, _∙_, ap}
-use Prim.Native.Nat.{ℕ, _-_, _≤_, _<_}
+use Prim.Native.Nat.{_-_, _≤_}
 use native.Mathlib.Omega.{arith}
 use mir.Syntax.{w64}
 use mir.Val.{toZ}

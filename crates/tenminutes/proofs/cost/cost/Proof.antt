@@ -1,9 +1,9 @@
 -- `tenminutes::cost::cost` meets its contract: a net that is not below zero is above it, or costs nothing at any price.
-use mathlib.Core.Path.{_≡_, refl, sym, _∙_, ap}
-use mathlib.Core.Bool.{true, false, cond}
+use mathlib.Core.Path.{_≡_, refl, _∙_}
+use mathlib.Core.Bool.{cond}
 use lib.IntN.{ℤ, pos, negsuc, _*ℤ_}
 use lib.Signed.{ltZ, _<ℤ_, _≤ℤ_}
-use Prim.Native.Nat.{ℕ, zero, suc, zero-le}
+use Prim.Native.Nat.{zero, suc, zero-le}
 use native.Mathlib.Omega.{arith}
 use borrow.Author.Tests.{lt-ltb, le-ltb}
 use Rattle.whole.proofs.Linear.{zr, all1, lt↓, le↓}

@@ -1,10 +1,9 @@
 -- `tenminutes::interval::actual_in` meets its contract: the numbers that it reads are in range.
-use mathlib.Core.Path.{_≡_, sym, _∙_, ap}
+use mathlib.Core.Path.{_≡_, _∙_}
 use Prim.Native.Nat.{ℕ, _+_}
 use native.Mathlib.Omega.{arith}
 use mathlib.Core.Bool.{cond}
-use lib.Dec.{eqb}
-use lib.IntN.{ℤ, pos, negℤ, _+ℤ_, _-ℤ_}
+use lib.IntN.{ℤ, pos}
 use borrow.Author.Needs.{sfits-of}
 use Rattle.whole.proofs.Machine.{back, read-back}
 use Rattle.whole.proofs.Ranges.{upto-pos}

@@ -1,7 +1,6 @@
 -- `tenminutes::interval::adjustment` meets its contract: the product fits.
-use mathlib.Core.Path.{_≡_, _∙_, ap}
-use native.Mathlib.Omega.{arith}
-use lib.IntN.{ℤ, pos}
+use mathlib.Core.Path.{_∙_, ap}
+use lib.IntN.{pos}
 use Rattle.whole.proofs.Machine.{Num, #, result, _:*_, fits, stored}
 use Rattle.rules.specs.Record.{signed}
 use Rattle.tenminutes.proofs.interval.adjustment.Statement.{statement}

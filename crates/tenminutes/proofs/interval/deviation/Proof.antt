@@ -1,8 +1,8 @@
 -- `tenminutes::interval::deviation` meets its contract: the formulas of document 01, of an interval's entry.
-use mathlib.Core.Path.{_≡_, refl, sym, _∙_, ap, ap₂}
+use mathlib.Core.Path.{_≡_, _∙_, ap, ap₂}
 use Prim.Native.Nat.{ℕ}
 use native.Mathlib.Omega.{arith}
-use lib.IntN.{ℤ, pos, negℤ}
+use lib.IntN.{ℤ, negℤ}
 use borrow.Author.Needs.{sfits-of}
 use Rattle.whole.specs.Signed.{Under}
 use Rattle.whole.proofs.Linear.{zr, all1}

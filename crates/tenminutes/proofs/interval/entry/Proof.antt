@@ -1,10 +1,10 @@
 -- `tenminutes::interval::entry` meets its contract, letter by letter.
-use mathlib.Core.Path.{_≡_, refl, _∙_, ap}
-use Prim.Native.Nat.{ℕ, _+_}
+use mathlib.Core.Path.{_≡_, _∙_, ap}
+use Prim.Native.Nat.{_+_}
 use native.Mathlib.Omega.{arith}
-use lib.IntN.{ℤ, pos}
+use lib.IntN.{pos}
 use borrow.Author.Needs.{sfits-of}
-use Rattle.whole.proofs.Machine.{Num, #, at0, result, _:*_, fits, stored, read-back}
+use Rattle.whole.proofs.Machine.{Num, #, result, _:*_, fits, stored, read-back}
 use Rattle.whole.proofs.Ranges.{upto-pos, u-upto}
 use Rattle.rules.specs.Record.{kindOf}
 use Rattle.rules.specs.HourFile.{word}

@@ -1,10 +1,8 @@
 -- `tenminutes::nets::add` meets its contract. The loop's invariant: to the places of the intervals passed their deviations are added.
-use mathlib.Core.Path.{_≡_, _∙_}
+use mathlib.Core.Path.{_≡_}
 use Prim.Native.Nat.{ℕ, _+_, _*_, _-_, _≤_, _<_}
 use native.Mathlib.Omega.{arith}
-use lib.IntN.{ℤ, pos}
-use lib.ListN.{length, getD}
-use Rattle.whole.specs.Signed.{Under}
+use lib.ListN.{length}
 use Rattle.whole.proofs.Machine.{Num, result, _:+_, fits, stored}
 use Rattle.rules.specs.Charge.{entering}
 use Rattle.rules.specs.HourFile.{word}

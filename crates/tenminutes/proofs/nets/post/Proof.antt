@@ -1,15 +1,12 @@
 -- `tenminutes::nets::post` meets its contract: a record of another member adds nothing, and one of its own to its zone's places.
 use mathlib.Core.Path.{_≡_, sym, _∙_, ap}
-use Prim.Native.Nat.{ℕ, _<_}
+use Prim.Native.Nat.{_<_}
 use native.Mathlib.Omega.{arith}
 use lib.ListN.{length}
 use borrow.Author.Needs.{needs}
 use Rattle.rules.specs.Record.{Hour, memberOf, areaOf, zoneOf, areas}
 use Rattle.rules.specs.Charge.{entering}
-use Rattle.rules.specs.HourFile.{tenMinutes}
 use Rattle.rules.specs.TenMinutes.{tenMinutesIn}
-use Rattle.rules.specs.Inner.Kept.{TenMinutesFileKept}
-use Rattle.blocks.specs.Part.{recordPart}
 use Rattle.tenminutes.proofs.Inside.{part-length, part-member, part-area, part-kept, part-interval}
 use Rattle.tenminutes.proofs.Adding.{spare, not-its, its-own}
 use Rattle.tenminutes.proofs.nets.post.Statement.{statement}

@@ -1,6 +1,6 @@
 -- `tenminutes::nets::put_nets` meets its contract. The loop's invariant: the records passed are added up.
 use mathlib.Core.Path.{_≡_, sym, _∙_, subst}
-use Prim.Native.Nat.{ℕ, _-_, _≤_, _<_}
+use Prim.Native.Nat.{_-_, _≤_}
 use native.Mathlib.Omega.{arith}
 use Rattle.rules.specs.TenMinutes.{tenMinutesIn}
 use Rattle.tenminutes.specs.Room.{NetsAfter}

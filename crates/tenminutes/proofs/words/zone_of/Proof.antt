@@ -1,5 +1,4 @@
 -- `tenminutes::words::zone_of` meets its contract: an area is one of eight, four words each.
-use mathlib.Core.Path.{_∙_}
 use Prim.Native.Nat.{_<_}
 use native.Mathlib.Omega.{arith}
 use Rattle.rules.specs.Record.{zoneOf}
