@@ -1,7 +1,7 @@
 /* The settlement library for programs in C and C++: link target/libsneupelaar.a, which tools/archive proves and makes.
  *
  * Every function takes every input: any bytes, any numbers, any lengths. What it answers and what every buffer holds afterwards is proved
- * in crates/sneupelaar and crates/explain for each of them. That rests on what a call lends:
+ * in crates/sneupelaar, crates/explain and crates/tenminutes for each of them. That rests on what a call lends:
  *   - A pointer and its length lend so many bytes or elements, which are readable, writable where the pointer isn't const, and aligned as
  *     C asks. With length 0 nothing is read or written, and the pointer may be null.
  *   - Buffers that one call lends don't overlap, and nothing else writes them while it runs.
@@ -115,6 +115,14 @@ typedef struct {
 sneupelaar_settled sneupelaar_settle(const uint8_t *file, size_t file_length, sneupelaar_line *lines, size_t lines_length,
                                      int64_t *charges, size_t charges_length, int64_t *finals, size_t finals_length,
                                      int64_t *shares, size_t shares_length, int64_t *deviations, size_t deviations_length);
+
+/* Settles a ten-minute file (docs/FORMAT.md): at most 8,704 bytes, four records a block. charges_length is in elements.
+ *
+ * Accepted: for each member m of the hour, charges[m] is its charge in cents. What was held there isn't read, and every element past the
+ * hour's members is unchanged.
+ *
+ * Refused (1 to 5, then 11, in this order): charges is unchanged. 11 is answered where charges are fewer than the hour's members. */
+sneupelaar_answer sneupelaar_settle_ten_minutes(const uint8_t *file, size_t file_length, int64_t *charges, size_t charges_length);
 
 /* Explains a member's charge. Nothing is written but the result.
  *

@@ -45,7 +45,7 @@ kit_run() {
 # The crates that export functions to C. The compiler takes a crate's archive as a whole, and makes what two of its functions call a function
 # apart; so explaining, which settles, and writing an hour, which searches as settling does, are not in one with settling. Whoever calls only
 # some of the functions links only their archive's code.
-kit_exporting=(sneupelaar explain writer)
+kit_exporting=(sneupelaar explain writer tenminutes)
 
 kit_archive() {
     local archive=$kit_root/target/libsneupelaar.a crate said made=()

@@ -3,3 +3,4 @@ pub mod Examined
 pub mod Listed
 mod Sources
 mod SoFar
+mod Compared

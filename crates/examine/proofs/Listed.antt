@@ -6,25 +6,25 @@ use native.Mathlib.Omega.{arith}
 use lib.ListN.{length, getD, take, drop, length-drop}
 use lib.Seq.{length-take-le}
 use borrow.Author.Tests.{lt-ltb, le-leb}
+use Rattle.rules.specs.declared.Layout.{Layout}
 use Rattle.rules.specs.Record.{Hour}
-use Rattle.rules.specs.HourFile.{hourly}
 use Rattle.rules.specs.HourWords.{hourFrom}
 
-module _ (head records : List ℕ) where
+module _ (l : Layout) (head records : List ℕ) where
   abbrev h : Hour
-  h = hourFrom hourly head records
+  h = hourFrom l head records
 
-  pub said-count : h .count ≡ length records / 12
+  pub said-count : h .count ≡ length records / l .words
   unfolding hourFrom
   said-count = refl
 
   pub said-head : (w : ℕ) → 8 ≤ w → w < 128 → h .head w ≡ getD head (w - 8) 0
   unfolding hourFrom
-  said-head w l m = rw (le-leb 8 w l, lt-ltb w 128 m)
+  said-head w a b = rw (le-leb 8 w a, lt-ltb w 128 b)
 
-  pub said-word : (i w : ℕ) → i < length records / 12 → w < 12 → h .rec i w ≡ getD records (12 * i + w) 0
+  pub said-word : (i w : ℕ) → i < length records / l .words → w < l .words → h .rec i w ≡ getD records (l .words * i + w) 0
   unfolding hourFrom
-  said-word i w l m = rw (lt-ltb i (length records / 12) l, lt-ltb w 12 m)
+  said-word i w a b = rw (lt-ltb i (length records / l .words) a, lt-ltb w (l .words) b)
 
 -- ---- a part of a list
 

@@ -1,12 +1,14 @@
--- Where an hour's words stand, in the blocks of a file or in a head and records as lists, and the hour that stands there. What a source
--- doesn't name says nothing.
+-- Where an hour's words stand, in the blocks of a file or in a head and records as lists, and the hour that stands there, in either mode.
+-- What a source doesn't name says nothing.
 use mathlib.Core.Path.{_≡_}
 use mathlib.Core.List.{List, []}
 use Prim.Native.Nat.{ℕ, _+_, _*_, _≤_, _<_}
 use lib.ListN.{length, getD, take, drop}
+use Rattle.rules.specs.declared.Mode.{Mode}
 use Rattle.rules.specs.Record.{Hour}
-use Rattle.rules.specs.HourFile.{hourly, word, body, hourIn}
+use Rattle.rules.specs.HourFile.{word, body, hourOf}
 use Rattle.rules.specs.HourWords.{hourFrom}
+use Rattle.rules.specs.Ranges.{formOf}
 use Rattle.blocks.specs.Part.{recordPart, RecordThere}
 use Rattle.examine.specs.declared.search.Source.{Source}
 use Rattle.examine.specs.declared.search.Source.the-variants.{File, Lists}
@@ -14,19 +16,19 @@ use Rattle.examine.specs.Whole.{BlocksWhole}
 
 -- ---- the hour
 
-abbrev pub hourBy : Source → (file head records : List ℕ) → Hour
-hourBy File file head records = hourIn file
-hourBy Lists file head records = hourFrom hourly head records
+abbrev pub hourBy : Mode → Source → (file head records : List ℕ) → Hour
+hourBy mode File file head records = hourOf (formOf mode .layout) file
+hourBy mode Lists file head records = hourFrom (formOf mode .layout) head records
 
 -- what a search asks: that a file's blocks are whole, or that a head has all its words
-abbrev pub HourThere : Source → (file head : List ℕ) → Type 0
-HourThere File file head = BlocksWhole file
-HourThere Lists file head = length head ≡ 120
+abbrev pub HourThere : Mode → Source → (file head : List ℕ) → Type 0
+HourThere mode File file head = BlocksWhole mode file
+HourThere mode Lists file head = length head ≡ 120
 
 -- this part is the file's first body; lists have none
-abbrev pub FirstBody : Source → (file part : List ℕ) → Type 0
-FirstBody File file part = part ≡ body hourly file 0
-FirstBody Lists file part = Unit {0}
+abbrev pub FirstBody : Mode → Source → (file part : List ℕ) → Type 0
+FirstBody mode File file part = part ≡ body (formOf mode .layout) file 0
+FirstBody mode Lists file part = Unit {0}
 
 -- ---- a part of it, as bytes or as words
 
@@ -47,20 +49,24 @@ HasWords n Lists bytes words = length words ≡ n
 
 -- ---- record i
 
--- in the file
-abbrev pub fileRecord : Source → List ℕ → ℕ → List ℕ
-fileRecord File file i = recordPart hourly file i
-fileRecord Lists file i = []
+-- words to a record
+abbrev pub wordsTo : Mode → ℕ
+wordsTo mode = formOf mode .layout .words
 
-abbrev pub FileRecordThere : Source → List ℕ → ℕ → Type 0
-FileRecordThere File file i = RecordThere hourly file i
-FileRecordThere Lists file i = Unit {0}
+-- in the file
+abbrev pub fileRecord : Mode → Source → List ℕ → ℕ → List ℕ
+fileRecord mode File file i = recordPart (formOf mode .layout) file i
+fileRecord mode Lists file i = []
+
+abbrev pub FileRecordThere : Mode → Source → List ℕ → ℕ → Type 0
+FileRecordThere mode File file i = RecordThere (formOf mode .layout) file i
+FileRecordThere mode Lists file i = Unit {0}
 
 -- in the list
-abbrev pub listRecord : Source → List ℕ → ℕ → List ℕ
-listRecord File records i = []
-listRecord Lists records i = take 12 (drop (12 * i) records)
+abbrev pub listRecord : Mode → Source → List ℕ → ℕ → List ℕ
+listRecord mode File records i = []
+listRecord mode Lists records i = take (wordsTo mode) (drop (wordsTo mode * i) records)
 
-abbrev pub ListRecordThere : Source → List ℕ → ℕ → Type 0
-ListRecordThere File records i = Unit {0}
-ListRecordThere Lists records i = 12 * i + 12 ≤ length records
+abbrev pub ListRecordThere : Mode → Source → List ℕ → ℕ → Type 0
+ListRecordThere mode File records i = Unit {0}
+ListRecordThere mode Lists records i = wordsTo mode * i + wordsTo mode ≤ length records

@@ -1,20 +1,24 @@
-// Refusals 1 to 5 and 14 of an hour file, in the order of the table. The first three, the length, the blocks' sums and their layout, are those
-// of `blocks` in the hourly layout. The others, the head, the records and the generators' schedules, are `search`'s, and the writer's too. Each
-// row is looked through in its order and left at the first fault, so that a refused file costs no more than an accepted one.
+// Refusals 1 to 5 of either kind of file, and 14 of an hour file, in the order of the table. The first three, the length, the blocks' sums and
+// their layout, are those of `blocks` in the file's layout. The others, the head, the records and the generators' schedules, are `search`'s,
+// and the writer's too. Each row is looked through in its order and left at the first fault, so that a refused file costs no more than an
+// accepted one.
 ghost use mathlib.Core.Path.{_≡_};
+ghost use Rattle.rules.specs.Ranges.{tenMinutesForm};
 ghost use Rattle.rules.specs.Refusals as Refusals;
+ghost use Rattle.examine.specs.Fault.{examineRows};
 use rules::Answer;
 use rules::Found;
+use rules::Mode;
 
 pub mod search;
 
 use search::Source;
 
-// Any byte string: accepted, or the first of refusals 1 to 5 and 14 that it breaks, with its place.
-pub fn examine(file: &[u8]) -> Answer
-    ensures { λ r. ⌜ Refusals.verdictOf r ≡ Refusals.verdict (Refusals.fileRows (now (file .entry))) ⌝ }
+// Any byte string, as a file of this kind: accepted, or the first of its rows that it breaks, with its place.
+fn examine_as(mode: Mode, file: &[u8]) -> Answer
+    ensures { λ r. ⌜ Refusals.verdictOf r ≡ Refusals.verdict (examineRows mode (now (file .entry))) ⌝ }
 {
-    let layout = rules::hourly();
+    let layout = rules::layout_of(mode);
     if blocks::length_bad(layout, file) {
         return Answer::BadLength;
     }
@@ -26,5 +30,19 @@ pub fn examine(file: &[u8]) -> Answer
     }
     let words = [0u32; 1];
     let no_list = &words[..0];
-    search::examine_hour(Source::File, file, no_list, no_list)
+    search::examine_hour(mode, Source::File, file, no_list, no_list)
+}
+
+// An hour file: the first of refusals 1 to 5 and 14.
+pub fn examine(file: &[u8]) -> Answer
+    ensures { λ r. ⌜ Refusals.verdictOf r ≡ Refusals.verdict (Refusals.fileRows (now (file .entry))) ⌝ }
+{
+    examine_as(Mode::Hourly, file)
+}
+
+// A ten-minute file: the first of refusals 1 to 5.
+pub fn examine_ten_minutes(file: &[u8]) -> Answer
+    ensures { λ r. ⌜ Refusals.verdictOf r ≡ Refusals.verdict (Refusals.formRows tenMinutesForm (now (file .entry))) ⌝ }
+{
+    examine_as(Mode::TenMinutes, file)
 }

@@ -1,31 +1,30 @@
-// Refusals 4, 5 and 14 of an hour, in their order: the head, the records, the generators' schedules. Reader and writer search by the same
-// functions: the source says whether the hour's words stand in a file or in lists. An enum can't hold a slice, so file and lists both come
-// beside the source; what it doesn't name is empty and isn't read. Each caller names its source, so that the compiler folds it in.
-// `wordrules` says what each word may be. Row 14 is looked for on the way through row 5, which comes first.
+// Refusals 4 and 5 of an hour in either mode, and 14 of an hourly one, in their order: the head, the records, the generators' schedules.
+// Reader and writer search by the same functions: the source says whether the hour's words stand in a file or in lists. An enum can't hold a
+// slice, so file and lists both come beside the source; what it doesn't name is empty and isn't read. Each caller names mode and source, so
+// that the compiler folds them in. `wordrules` says what each word may be. Row 14 is looked for on the way through row 5, which comes first.
 ghost use mathlib.Core.Path.{_≡_};
 ghost use mathlib.Core.Bool.{not, cond, _&&_};
 ghost use mathlib.Core.List.{List, _++_};
 ghost use mathlib.Core.Option.{none};
 ghost use Prim.Native.Nat.{ℕ, _-_, _≤_, _<_};
-ghost use lib.Dec.{ltb};
+ghost use lib.Dec.{ltb, leb, eqb};
+ghost use Rattle.whole.specs.Below.{firstBelow};
 ghost use Rattle.rules.specs.Ranges as Ranges;
-ghost use Rattle.rules.specs.Ranges.{hourlyForm};
+ghost use Rattle.rules.specs.Ranges.{formOf};
 ghost use Rattle.rules.specs.Refusals as Refusals;
 ghost use Rattle.rules.specs.Refusals.{foundAt};
-ghost use Rattle.examine.specs.Fault.{faultAt, aboveAt};
-ghost use Rattle.examine.specs.Sources.{hourBy, HourThere, FirstBody, wordBy, WordThere, HasWords};
+ghost use Rattle.examine.specs.Fault.{faultAt, aboveAt, aboveBy, aboveIn, comparisonBy};
+ghost use Rattle.examine.specs.Sources.{wordsTo, hourBy, HourThere, FirstBody, wordBy, WordThere, HasWords};
 ghost use Rattle.examine.specs.Sources.{fileRecord, FileRecordThere, listRecord, ListRecordThere};
 use rules::Answer;
 use rules::Found;
+use rules::Mode;
 
 // Where an hour's words stand: in the blocks of a file, or in a head and records as lists.
 pub enum Source {
     File,
     Lists,
 }
-
-// Words to a record.
-const WORDS: usize = 12;
 
 // Word `k` of a part of the hour, which is so many bytes of the file, or so many words of a list.
 fn word_of(source: Source, bytes: &[u8], words: &[u32], k: usize) -> u32
@@ -42,6 +41,7 @@ fn word_of(source: Source, bytes: &[u8], words: &[u32], k: usize) -> u32
 
 // Whether word `w` of the first block breaks layout or range, in an hour of so many zones and areas.
 fn head_word_bad(
+    mode: Mode,
     source: Source,
     body: &[u8],
     head: &[u32],
@@ -51,28 +51,19 @@ fn head_word_bad(
 ) -> bool
     requires { ⌜ HasWords 120 source (now body) (now head) × (8 ≤ w) × (w < 128) ⌝ }
     ensures { λ r. ⌜ r
-        ≡ not (Ranges.keeps (Ranges.headRule zones areas w) (wordBy source (now (body .entry)) (now (head .entry)) (w - 8))) ⌝ }
+        ≡ not (Ranges.keeps (formOf mode .headRule zones areas w) (wordBy source (now (body .entry)) (now (head .entry)) (w - 8))) ⌝ }
 {
-    let rule = wordrules::head_rule(zones, areas, w);
+    let rule = wordrules::head_rule_of(mode, zones, areas, w);
     !wordrules::keeps(rule, word_of(source, body, head, w - 8))
 }
 
-// The first word of the head that breaks layout or range, by its number in the first block: word 8 + k of the block is word k of its body.
-// From word 48 on all are zero.
-fn bad_head(source: Source, body: &[u8], head: &[u32]) -> Found
-    requires { ⌜ HasWords 120 source (now body) (now head) ⌝ }
-    ensures { λ r. ⌜ ((file records : List ℕ) → FirstBody source file (now (body .entry))
-        → foundAt r ≡ Refusals.badHead hourlyForm (hourBy source file (now (head .entry)) records)) ⌝ }
+// The first word of the head, from word `from` of the first block on, that isn't zero.
+fn head_not_zero(source: Source, body: &[u8], head: &[u32], from: usize) -> Found
+    requires { ⌜ HasWords 120 source (now body) (now head) × (8 ≤ from) ⌝ }
+    ensures { λ r. ⌜ foundAt r
+        ≡ firstBelow (λ w. leb from w && not (eqb (wordBy source (now (body .entry)) (now (head .entry)) (w - 8)) 0)) 128 ⌝ }
 {
-    let zones = word_of(source, body, head, 2);
-    let areas = word_of(source, body, head, 3);
-    let mut w = 9;
-    while w < 48 {
-        if head_word_bad(source, body, head, zones, areas, w) {
-            return Found::At(w);
-        }
-        w += 1;
-    }
+    let mut w = from;
     while w < 128 {
         if word_of(source, body, head, w - 8) != 0 {
             return Found::At(w);
@@ -80,6 +71,26 @@ fn bad_head(source: Source, body: &[u8], head: &[u32]) -> Found
         w += 1;
     }
     Found::Nothing
+}
+
+// The first word of the head that breaks layout or range, by its number in the first block: word 8 + k of the block is word k of its body.
+// From some word on all are zero.
+fn bad_head(mode: Mode, source: Source, body: &[u8], head: &[u32]) -> Found
+    requires { ⌜ HasWords 120 source (now body) (now head) ⌝ }
+    ensures { λ r. ⌜ ((file records : List ℕ) → FirstBody mode source file (now (body .entry))
+        → foundAt r ≡ Refusals.badHead (formOf mode) (hourBy mode source file (now (head .entry)) records)) ⌝ }
+{
+    let zones = word_of(source, body, head, 2);
+    let areas = word_of(source, body, head, 3);
+    let end = wordrules::head_end(mode);
+    let mut w = 9;
+    while w < end {
+        if head_word_bad(mode, source, body, head, zones, areas, w) {
+            return Found::At(w);
+        }
+        w += 1;
+    }
+    head_not_zero(source, body, head, end)
 }
 
 // ---- refusals 5 and 14: the records
@@ -92,41 +103,44 @@ enum Fault {
 }
 
 // How many records the hour has.
-fn count(source: Source, file: &[u8], records: &[u32]) -> usize
-    ensures { λ r. ⌜ ((head : List ℕ) → r ≡ hourBy source (now (file .entry)) head (now (records .entry)) .count) ⌝ }
+fn count(mode: Mode, source: Source, file: &[u8], records: &[u32]) -> usize
+    ensures { λ r. ⌜ ((head : List ℕ) → r ≡ hourBy mode source (now (file .entry)) head (now (records .entry)) .count) ⌝ }
 {
+    let layout = rules::layout_of(mode);
     match source {
-        Source::File => hour::records(file),
-        Source::Lists => records.len() / WORDS,
+        Source::File => blocks::records(layout, file),
+        Source::Lists => records.len() / layout.words,
     }
 }
 
 // The bytes of record `i`, a part of the file; none where the hour stands in lists.
-fn file_record(source: Source, file: &[u8], i: usize) -> &[u8]
-    requires { ⌜ FileRecordThere source (now file) i ⌝ }
-    ensures { λ r. ⌜ now r ≡ fileRecord source (now (file .entry)) i ⌝ }
+fn file_record(mode: Mode, source: Source, file: &[u8], i: usize) -> &[u8]
+    requires { ⌜ FileRecordThere mode source (now file) i ⌝ }
+    ensures { λ r. ⌜ now r ≡ fileRecord mode source (now (file .entry)) i ⌝ }
 {
     match source {
-        Source::File => hour::record(file, i),
+        Source::File => blocks::record(rules::layout_of(mode), file, i),
         Source::Lists => &file[..0],
     }
 }
 
 // The words of record `i`, a part of the list; none where the hour stands in a file.
-fn list_record(source: Source, records: &[u32], i: usize) -> &[u32]
-    requires { ⌜ ListRecordThere source (now records) i ⌝ }
-    ensures { λ r. ⌜ now r ≡ listRecord source (now (records .entry)) i ⌝ }
+fn list_record(mode: Mode, source: Source, records: &[u32], i: usize) -> &[u32]
+    requires { ⌜ ListRecordThere mode source (now records) i ⌝ }
+    ensures { λ r. ⌜ now r ≡ listRecord mode source (now (records .entry)) i ⌝ }
 {
     if let Source::File = source {
         return &records[..0];
     }
-    let from = WORDS * i;
-    let to = from + WORDS;
+    let size = rules::layout_of(mode).words;
+    let from = size * i;
+    let to = from + size;
     &records[from..to]
 }
 
 // Whether word `w` of a record of this kind breaks kind, number, range or zero, in an hour of so many members and areas.
 fn record_word_bad(
+    mode: Mode,
     source: Source,
     bytes: &[u8],
     words: &[u32],
@@ -135,20 +149,24 @@ fn record_word_bad(
     kind: u32,
     w: usize,
 ) -> bool
-    requires { ⌜ HasWords 12 source (now bytes) (now words) × (w < 12) ⌝ }
+    requires { ⌜ HasWords (wordsTo mode) source (now bytes) (now words) × (w < wordsTo mode) ⌝ }
     ensures { λ r. ⌜ r
-        ≡ not (Ranges.keeps (Ranges.recordRule members areas kind w) (wordBy source (now (bytes .entry)) (now (words .entry)) w)) ⌝ }
+        ≡ not (Ranges.keeps (formOf mode .recordRule members areas kind w) (wordBy source (now (bytes .entry)) (now (words .entry)) w)) ⌝ }
 {
-    !wordrules::record_keeps(members, areas, kind, w, word_of(source, bytes, words, w))
+    let word = word_of(source, bytes, words, w);
+    !wordrules::record_keeps_as(mode, members, areas, kind, w, word)
 }
 
-// Whether a record of this kind is a generator that is scheduled above its maximum. The kind is asked before schedule and maximum are read,
+// Whether a record of this kind is a generator that is scheduled above its maximum; of a ten-minute record nothing is asked. The kind is asked before schedule and maximum are read,
 // which no other kind has: read first, they cost every record six instructions.
-fn above_maximum(source: Source, bytes: &[u8], words: &[u32], kind: u32) -> bool
-    requires { ⌜ HasWords 12 source (now bytes) (now words) ⌝ }
-    ensures { λ r. ⌜ r ≡ Refusals.scheduledAbove kind
+fn above_maximum(mode: Mode, source: Source, bytes: &[u8], words: &[u32], kind: u32) -> bool
+    requires { ⌜ HasWords (wordsTo mode) source (now bytes) (now words) ⌝ }
+    ensures { λ r. ⌜ r ≡ aboveBy mode kind
         (wordBy source (now (bytes .entry)) (now (words .entry)) 3) (wordBy source (now (bytes .entry)) (now (words .entry)) 8) ⌝ }
 {
+    if let Mode::TenMinutes = mode {
+        return false;
+    }
     if kind != 1 {
         return false;
     }
@@ -175,28 +193,30 @@ fn first_found(found: usize, here: bool, at: usize) -> usize
 
 // The search leaves all the rows at the first record, and in it the first word, that breaks a rule. On its way it keeps the first generator
 // that is scheduled above its maximum, or `n` while there is none; it counts only where no record of the whole hour breaks a rule.
-fn first_fault(source: Source, file: &[u8], head: &[u32], records: &[u32]) -> Fault
-    requires { ⌜ HourThere source (now file) (now head) ⌝ }
+fn first_fault(mode: Mode, source: Source, file: &[u8], head: &[u32], records: &[u32]) -> Fault
+    requires { ⌜ HourThere mode source (now file) (now head) ⌝ }
     ensures fault { λ r. ⌜ faultAt r
-        ≡ Refusals.firstFault hourlyForm (hourBy source (now (file .entry)) (now (head .entry)) (now (records .entry))) ⌝ }
+        ≡ Refusals.firstFault (formOf mode) (hourBy mode source (now (file .entry)) (now (head .entry)) (now (records .entry))) ⌝ }
     ensures above { λ r. ⌜ (faultAt r ≡ none
-        → aboveAt r ≡ Refusals.aboveMaximum (hourBy source (now (file .entry)) (now (head .entry)) (now (records .entry)))) ⌝ }
+        → aboveAt r ≡ aboveIn mode (hourBy mode source (now (file .entry)) (now (head .entry)) (now (records .entry)))) ⌝ }
 {
-    let body = hour::body(file, 0);
+    let layout = rules::layout_of(mode);
+    let size = layout.words;
+    let body = blocks::body(layout, file, 0);
     let members = word_of(source, body, head, 1);
     let areas = word_of(source, body, head, 3);
-    let n = count(source, file, records);
+    let n = count(mode, source, file, records);
     let mut i = 0;
     let mut w = 0;
     let mut above = n;
     'rows: while i < n {
-        let bytes = file_record(source, file, i);
-        let words = list_record(source, records, i);
+        let bytes = file_record(mode, source, file, i);
+        let words = list_record(mode, source, records, i);
         let kind = word_of(source, bytes, words, 0);
-        above = first_found(above, above_maximum(source, bytes, words, kind), i);
+        above = first_found(above, above_maximum(mode, source, bytes, words, kind), i);
         w = 0;
-        while w < WORDS {
-            if record_word_bad(source, bytes, words, members, areas, kind, w) {
+        while w < size {
+            if record_word_bad(mode, source, bytes, words, members, areas, kind, w) {
                 break 'rows;
             }
             w += 1;
@@ -214,17 +234,24 @@ fn first_fault(source: Source, file: &[u8], head: &[u32], records: &[u32]) -> Fa
 
 // ---- the rows
 
-// Accepted, or the first of refusals 4, 5 and 14 that the hour breaks, with its place.
-pub fn examine_hour(source: Source, file: &[u8], head: &[u32], records: &[u32]) -> Answer
-    requires { ⌜ HourThere source (now file) (now head) ⌝ }
+// Accepted, or the first of refusals 4, 5 and, of an hourly one, 14 that the hour breaks, with its place.
+pub fn examine_hour(
+    mode: Mode,
+    source: Source,
+    file: &[u8],
+    head: &[u32],
+    records: &[u32],
+) -> Answer
+    requires { ⌜ HourThere mode source (now file) (now head) ⌝ }
     ensures { λ r. ⌜ Refusals.verdictOf r
-        ≡ Refusals.verdict (let h = hourBy source (now (file .entry)) (now (head .entry)) (now (records .entry)) in
-        Refusals.wordRows hourlyForm h ++ Refusals.comparisonRows h) ⌝ }
+        ≡ Refusals.verdict (let h = hourBy mode source (now (file .entry)) (now (head .entry)) (now (records .entry)) in
+        Refusals.wordRows (formOf mode) h ++ comparisonBy mode h) ⌝ }
 {
-    if let Found::At(w) = bad_head(source, hour::body(file, 0), head) {
+    let body = blocks::body(rules::layout_of(mode), file, 0);
+    if let Found::At(w) = bad_head(mode, source, body, head) {
         return Answer::BadHead(w);
     }
-    match first_fault(source, file, head, records) {
+    match first_fault(mode, source, file, head, records) {
         Fault::Word(i, _) => Answer::BadRecord(i),
         Fault::Above(i) => Answer::AboveMaximum(i),
         Fault::Nowhere => Answer::Accepted,

@@ -2,10 +2,10 @@
 use lib.IntN.{pos}
 use Rattle.whole.proofs.Machine.{Num, #, at, at0, _:-_, _:*_}
 use Rattle.rules.specs.Record.{Entry}
-use Rattle.rules.specs.Inner.Kept.{EntryKept}
+use Rattle.rules.specs.Inner.Kept.{EntryRoom}
 
-module _ {r : Entry} (k : EntryKept r) where
-  open EntryKept k using (S-in, A-in, J-in, N-in, O-in, M-in, F-in, H-in)
+module _ {r : Entry} (k : EntryRoom r) where
+  open EntryRoom k using (S-in, A-in, J-in, N-in, O-in, M-in, F-in, H-in)
 
   abbrev pub S : Num
   S = at0 S-in

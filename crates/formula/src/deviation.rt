@@ -4,7 +4,7 @@ ghost use Rattle.whole.specs.Signed.{Under, minℤ, maxℤ};
 ghost use Rattle.rules.specs.Deviation as Deviation;
 ghost use Rattle.rules.specs.Charge.{enteringAs};
 ghost use Rattle.rules.specs.Inner.Posting as Posting;
-ghost use Rattle.rules.specs.Inner.Kept.{EntryKept};
+ghost use Rattle.rules.specs.Inner.Kept.{EntryKept, EntryRoom};
 ghost use Rattle.formula.specs.Meant.{meant};
 use crate::entry::Entry;
 use rules::Kind;
@@ -22,35 +22,35 @@ fn most(x: i64, y: i64) -> i64
 }
 
 fn generator_deviation(r: Entry) -> i64
-    requires { ⌜ EntryKept (meant r) ⌝ }
+    requires { ⌜ EntryRoom (meant r) ⌝ }
     ensures { λ d. ⌜ d ≡ Deviation.generatorDeviation (meant r) ⌝ }
 {
     r.s * r.f - ((r.a - r.j) * r.h - 10000 * r.n) - 10000 * least(0, r.m - r.a - (r.o - r.n))
 }
 
 fn load_deviation(r: Entry) -> i64
-    requires { ⌜ EntryKept (meant r) ⌝ }
+    requires { ⌜ EntryRoom (meant r) ⌝ }
     ensures { λ d. ⌜ d ≡ Deviation.loadDeviation (meant r) ⌝ }
 {
     10000 * (r.s - ((r.a - r.j) + r.n) - most(0, (r.o - r.n) - r.a))
 }
 
 fn import_deviation(r: Entry) -> i64
-    requires { ⌜ EntryKept (meant r) ⌝ }
+    requires { ⌜ EntryRoom (meant r) ⌝ }
     ensures { λ d. ⌜ d ≡ Deviation.importDeviation (meant r) ⌝ }
 {
     r.s * r.f - (r.a - r.j) * r.h + 10000 * r.n
 }
 
 fn export_deviation(r: Entry) -> i64
-    requires { ⌜ EntryKept (meant r) ⌝ }
+    requires { ⌜ EntryRoom (meant r) ⌝ }
     ensures { λ d. ⌜ d ≡ Deviation.exportDeviation (meant r) ⌝ }
 {
     10000 * (r.s - r.a - r.j)
 }
 
 pub fn deviation(r: Entry) -> i64
-    requires { ⌜ EntryKept (meant r) ⌝ }
+    requires { ⌜ EntryRoom (meant r) ⌝ }
     ensures { λ d. ⌜ d ≡ Deviation.deviation (meant r) ⌝ }
 {
     let kind = r.kind;
@@ -66,7 +66,7 @@ pub fn deviation(r: Entry) -> i64
 
 // A deviation, already worked, as it enters an amount: added for generators and imports, taken off for loads and exports.
 pub fn entering(kind: Kind, deviation: i64) -> i64
-    requires { ⌜ Under deviation 6000000000 ⌝ }
+    requires { ⌜ Under deviation 144000000000 ⌝ }
     ensures { λ e. ⌜ e ≡ enteringAs kind deviation ⌝ }
 {
     match kind {

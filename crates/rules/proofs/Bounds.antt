@@ -13,7 +13,7 @@ use Rattle.whole.specs.Below.{sumBelow, totalBelow}
 use Rattle.whole.specs.Signed.{Under, Upto, minℤ, maxℤ}
 use Rattle.whole.proofs.Tests.{cond-ind}
 use Rattle.whole.proofs.Linear.{zr, all1, all2, all4, all5, all6}
-use Rattle.whole.proofs.Ranges.{_u+_, _u-_, _u*_, u-neg, u-lit, u-more, u-le, u-upto, u-apart, upto-mul, u-zero, u-cond, u-picked}
+use Rattle.whole.proofs.Ranges.{_u+_, _u-_, _u*_, u-neg, u-lit, u-more, u-le, u-upto, u-apart, upto-pos, upto-mul, u-zero, u-cond, u-picked}
 use Rattle.whole.proofs.Sums.{sum-mono, sum-prefix, sum-at, sum-add, sum-mul, sum-const, sum-by}
 use Rattle.whole.proofs.Totals.{total-under, total-within}
 use Rattle.whole.proofs.Search.{none-below}
@@ -27,7 +27,7 @@ use Rattle.rules.specs.Ufe.{inArea, ufe, demand}
 use Rattle.rules.specs.Charge.{enteringAs, entering, nearestCent, cents, shareOf, grains, amount, charge}
 use Rattle.rules.specs.Inner.Posting.{accountedAs, accounted}
 use Rattle.rules.specs.Refusals.{mostGrains, badAmount}
-use Rattle.rules.specs.Inner.Kept.{EntryKept, HourKept}
+use Rattle.rules.specs.Inner.Kept.{EntryKept, EntryRoom, IntervalKept, HourKept}
 use Rattle.rules.proofs.Tariff.{ufe-by-record}
 use Rattle.rules.proofs.Fair.{share-sizes-at-most}
 
@@ -56,8 +56,35 @@ units-apart = all2 _ (λ n u. simp zr (omega arith))
 loss-rate-under : (H : ℤ) → Upto H 20000 → Under (unitsPerKWh -ℤ H) 10000
 loss-rate-under = all1 _ (λ H. simp zr (omega arith))
 
-units-under : {z : ℤ} {k : ℕ} → Under z k → Under (unitsPerKWh *ℤ z) (10000 * k)
+pub units-under : {z : ℤ} {k : ℕ} → Under z k → Under (unitsPerKWh *ℤ z) (10000 * k)
 units-under h = u-lit unitsPerKWh u* h
+
+more : (k : ℕ) (z : ℤ) → k ≤ 2400000 → Upto z k → Upto z 2400000
+more k = all1 _ (λ z. simp zr (omega arith))
+
+pub entry-room : {r : Entry} → EntryKept r → EntryRoom r
+entry-room kept = record {
+  S-in = more 100000 _ (omega arith) (kept .S-in);
+  A-in = more 100000 _ (omega arith) (kept .A-in);
+  J-in = u-more 2400000 (kept .J-in) tt;
+  N-in = more 100000 _ (omega arith) (kept .N-in);
+  O-in = more 100000 _ (omega arith) (kept .O-in);
+  M-in = more 100000 _ (omega arith) (kept .M-in);
+  F-in = kept .F-in;
+  H-in = kept .H-in;
+}
+
+pub interval-room : {r : Entry} → IntervalKept r → EntryRoom r
+interval-room kept = record {
+  S-in = more 400000 _ (omega arith) (kept .S-in);
+  A-in = kept .A-in;
+  J-in = kept .J-in;
+  N-in = kept .N-in;
+  O-in = rw (kept .none-owed) (upto-pos 0 2400000 (omega arith));
+  M-in = rw (kept .maximum-is) (kept .A-in);
+  F-in = kept .F-in;
+  H-in = kept .H-in;
+}
 
 module _ {r : Entry} (kept : EntryKept r) where
   open EntryKept kept using (S-in, A-in, J-in, N-in, O-in, M-in, F-in, H-in)

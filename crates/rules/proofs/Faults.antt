@@ -12,11 +12,14 @@ use Rattle.whole.proofs.Tests.{split, never, never-some}
 use Rattle.whole.specs.Below.{firstBelow}
 use Rattle.whole.proofs.Search.{first-some, first-more, first-rest, first-ext, none-below}
 use Rattle.rules.specs.declared.Layout.{Layout}
+use Rattle.rules.specs.declared.Mode.{Mode}
+use Rattle.rules.specs.declared.Mode.the-variants.{Hourly, TenMinutes}
 use Rattle.rules.specs.declared.Rule.the-variants.{Any}
 use Rattle.rules.specs.Record.{Hour}
 use Rattle.rules.specs.HourFile.{word, blocks, blockWord, recordCount}
-use Rattle.rules.specs.Ranges.{keeps, firstBroken, pastRule, blockRule, headRule, Form}
+use Rattle.rules.specs.Ranges.{keeps, firstBroken, pastRule, blockRule, headRule, tenMinutesHeadRule, Form, formOf}
 use Rattle.rules.specs.Refusals.{isBroken, badBlock, badWord, badRecord, firstFault}
+use Rattle.rules.specs.Inner.Layouts.{headEnd}
 use Rattle.rules.proofs.RuleTables.{zero-kept, block-words}
 use Rattle.rules.proofs.PartWords.{block-part-word}
 use Rattle.rules.proofs.Kept.{unbroken, held-most}
@@ -92,6 +95,24 @@ module _ (zones areas : ℕ) where
   unfolding headRule
   head-zero w v l =
       rw (le-ltb w 9 (omega arith), le-ltb w 12 (omega arith), le-ltb w 16 (omega arith), le-ltb w 48 l) (ap not (zero-kept v))
+
+-- of either kind of file
+module _ (zones areas : ℕ) where
+  pub mode-any : (m : Mode) (w v : ℕ) → w < 9 → not (keeps (formOf m .headRule zones areas w) v) ≡ false
+  unfolding tenMinutesHeadRule keeps
+  mode-any Hourly w v l = head-any zones areas w v l
+  mode-any TenMinutes w v l = rw (lt-ltb w 9 l)
+
+  pub mode-zero : (m : Mode) (w v : ℕ) → headEnd m ≤ w → not (keeps (formOf m .headRule zones areas w) v) ≡ not (eqb v 0)
+  unfolding tenMinutesHeadRule
+  mode-zero Hourly w v l = head-zero zones areas w v l
+  mode-zero TenMinutes w v l = rw (
+    le-ltb w 9 (omega arith),
+    le-ltb w 12 (omega arith),
+    le-ltb w 16 (omega arith),
+    le-ltb w 48 (omega arith),
+    le-ltb w 96 l,
+  ) (ap not (zero-kept v))
 
 -- ---- the first fault: the first bad record, and in it the first bad word
 

@@ -52,7 +52,7 @@ record RowHeld (rules : List Rule) (v : ℕ → ℕ) : Type 0 where
   F-held : Holds (getD rules 6 mustBeZero) (v 9)
   H-held : Holds (getD rules 7 mustBeZero) (v 10)
 
-signed-zero : (w : ℕ) → w ≤ 0 → Under (signed w) 0
+pub signed-zero : (w : ℕ) → w ≤ 0 → Under (signed w) 0
 unfolding signed
 signed-zero w h = let z : w ≡ 0 = omega arith in rw z (record { under = zero-le })
 

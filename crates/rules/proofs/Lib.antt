@@ -40,3 +40,8 @@ pub mod Explaining
 pub mod Engines
 pub mod Worded
 pub mod SixLines
+pub mod Intervals
+pub mod IntervalTables
+pub mod IntervalsKept
+pub mod IntervalBounds
+pub mod TenMinutes

@@ -165,12 +165,12 @@ no-generator (suc (suc (suc (suc (suc zero))))) other = refl
 no-generator (suc (suc (suc (suc (suc (suc k)))))) other = refl
 
 -- of a row beside another: the other's rule where a 1 may stand, zero elsewhere
-abbrev picked : List Rule → List Rule → List Rule
+abbrev pub picked : List Rule → List Rule → List Rule
 picked [] gs = []
 picked (r ∷ rs) [] = cond (keeps r 1) mustBeZero mustBeZero ∷ picked rs []
 picked (r ∷ rs) (g ∷ gs) = cond (keeps r 1) g mustBeZero ∷ picked rs gs
 
-at-picked : (rs gs : List Rule) (j : ℕ) →
+pub at-picked : (rs gs : List Rule) (j : ℕ) →
     getD (picked rs gs) j mustBeZero ≡ cond (keeps (getD rs j mustBeZero) 1) (getD gs j mustBeZero) mustBeZero
 unfolding keeps
 at-picked [] gs j = refl

@@ -48,7 +48,7 @@ pub import-renders : (r : Entry) → r .A ≡ r .S → importDeviation r ≡ imp
 unfolding importDeviation impDev
 import-renders r deemed = rw deemed
 
-export-units : (s a j : ℤ) → unitsPerKWh *ℤ (s -ℤ a -ℤ j) ≡ unitsPerKWh *ℤ s -ℤ unitsPerKWh *ℤ a -ℤ unitsPerKWh *ℤ j
+pub export-units : (s a j : ℤ) → unitsPerKWh *ℤ (s -ℤ a -ℤ j) ≡ unitsPerKWh *ℤ s -ℤ unitsPerKWh *ℤ a -ℤ unitsPerKWh *ℤ j
 export-units = all3 _ (λ s a j. simp zr (omega arith))
 
 pub export-renders : (r : Entry) → exportDeviation r ≡ expDev r

@@ -33,8 +33,12 @@ grainsPerCent = 10000000
 unfoldable pub nearestCent : (parts size : ℕ) → ℕ
 nearestCent parts size = (size + parts / 2) / parts
 
+-- a number of such parts, in cents
+abbrev pub centsOf : (parts : ℕ) → ℤ → ℤ
+centsOf parts g = withSignOf g (nearestCent parts (natAbs g))
+
 unfoldable pub cents : ℤ → ℤ
-cents g = withSignOf g (nearestCent grainsPerCent (natAbs g))
+cents g = centsOf grainsPerCent g
 
 module _ (h : Hour) where
   -- "Shares go to load records only": an area's UFE over its loads

@@ -10,3 +10,4 @@ pub mod Written
 pub mod Unwritten
 pub mod EveryKind
 pub mod FiveHeads
+pub mod TenMinutes

@@ -12,6 +12,10 @@ use Rattle.rules.specs.Record.{Hour}
 abbrev pub hourly : Layout
 hourly = record { first = 1; other = 2; blocks = 26; records = 10; words = 12 }
 
+-- and the file of ten-minute settlement: document 02, A7
+abbrev pub tenMinutes : Layout
+tenMinutes = record { first = 3; other = 4; blocks = 17; records = 4; words = 30 }
+
 -- ---- words and blocks
 
 -- the k-th word of the bytes s, little-endian; past the end it is 0

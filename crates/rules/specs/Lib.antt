@@ -15,6 +15,7 @@ pub mod Settling
 pub mod Statement
 pub mod Explanation
 pub mod RawHour
+pub mod TenMinutes
 pub mod Promised
 pub mod Figures
 pub mod Inner

@@ -10,3 +10,5 @@ pub mod Imports
 pub mod Engines
 pub mod Deciding
 pub mod SixLines
+pub mod Intervals
+pub mod TenMinutes

@@ -4,18 +4,20 @@
 use Prim.Native.Nat.{ℕ, _+_, _-_, _*_, _/_, _%_}
 use mathlib.Core.Bool.{Bool, true, not, cond, _&&_}
 use mathlib.Core.Option.{Option}
-use mathlib.Core.List.{List, [], _∷_}
+use mathlib.Core.List.{List, [], _∷_, _++_}
 use lib.IntN.{natAbs}
 use lib.ListN.{getD}
 use lib.Dec.{ltb, leb, eqb}
 use Rattle.whole.specs.Below.{firstBelow}
 use Rattle.rules.specs.declared.Kind.{Kind}
 use Rattle.rules.specs.declared.Kind.the-variants.{Generator, RealTimeLoad, ProfileLoad, Import, Export, Unknown}
+use Rattle.rules.specs.declared.Mode.{Mode}
+use Rattle.rules.specs.declared.Mode.the-variants.{Hourly, TenMinutes}
 use Rattle.rules.specs.declared.Rule.{Rule}
 use Rattle.rules.specs.declared.Rule.the-variants.{Any, Between, LessThan, AtMostInSize}
 use Rattle.rules.specs.Record.{signed, kindOf}
 use Rattle.rules.specs.declared.Layout.{Layout}
-use Rattle.rules.specs.HourFile.{hourly}
+use Rattle.rules.specs.HourFile.{hourly, tenMinutes}
 
 unfoldable pub keeps : Rule → ℕ → Bool
 keeps Any v = true
@@ -97,6 +99,39 @@ rulesOf Unknown = []
 unfoldable pub recordRule : (members areas kind w : ℕ) → Rule
 recordRule members areas kind w = getD (Between 1 5 ∷ LessThan members ∷ LessThan areas ∷ rulesOf (kindOf kind)) w mustBeZero
 
+-- ---- a ten-minute file: document 02, A7
+
+-- its head: words 12 to 15 are zero; an area has its zone, and no ties; from 48 on each zone has six incremental prices, then six
+-- decremental
+unfoldable pub tenMinutesHeadRule : (zones areas w : ℕ) → Rule
+tenMinutesHeadRule zones areas w =
+    cond (ltb w 9) Any
+    (cond (ltb w 12) (getD countRules (w - 9) mustBeZero)
+    (cond (ltb w 16) mustBeZero
+    (cond (ltb w 48) (cond (ltb ((w - 16) / 4) areas && eqb ((w - 16) % 4) 0) (LessThan zones) mustBeZero)
+    (cond (ltb w 96) (cond (ltb ((w - 48) / 12) zones) (AtMostInSize 100000) mustBeZero)
+    mustBeZero))))
+
+abbrev pub six : Rule → List Rule
+six rule = rule ∷ rule ∷ rule ∷ rule ∷ rule ∷ rule ∷ []
+
+-- words 3 to 25 of each kind: the schedules of this hour, the one before and the next, the multipliers, six actuals, six adjustments, six
+-- ancillary figures. Only ramped kinds use 4 and 5; a profile load has an hourly reading in word 8
+unfoldable pub tenMinutesRulesOf : Kind → List Rule
+--                             this     before   next     F            H            actuals           adjustments        ancillary
+tenMinutesRulesOf Generator = energy ∷ energy ∷ energy ∷ multiplier ∷ multiplier ∷ six energy ++ six adjustment ++ six energy
+tenMinutesRulesOf RealTimeLoad = energy ∷ energy ∷ energy ∷ unused ∷ unused ∷ six energy ++ six adjustment ++ six energy
+tenMinutesRulesOf ProfileLoad = energy ∷ unused ∷ unused ∷ unused ∷ unused
+    ∷ (energy ∷ unused ∷ unused ∷ unused ∷ unused ∷ unused ∷ []) ++ six adjustment ++ six energy
+tenMinutesRulesOf Import = energy ∷ unused ∷ unused ∷ multiplier ∷ multiplier ∷ six unused ++ six adjustment ++ six energy
+tenMinutesRulesOf Export = energy ∷ unused ∷ unused ∷ unused ∷ unused ∷ six energy ++ six adjustment ++ six unused
+tenMinutesRulesOf Unknown = []
+
+-- word w of a record of this kind: "0 to 2 as before", "the rest zero"
+unfoldable pub tenMinutesRecordRule : (members areas kind w : ℕ) → Rule
+tenMinutesRecordRule members areas kind w =
+    getD (Between 1 5 ∷ LessThan members ∷ LessThan areas ∷ tenMinutesRulesOf (kindOf kind)) w mustBeZero
+
 -- ---- a kind of file
 
 -- its layout, and the rule of every word of its head and of its records
@@ -108,3 +143,11 @@ pub record Form : Type 0 where
 -- the first release's
 abbrev pub hourlyForm : Form
 hourlyForm = record { layout = hourly; headRule = headRule; recordRule = recordRule }
+
+-- document 02, A7
+abbrev pub tenMinutesForm : Form
+tenMinutesForm = record { layout = tenMinutes; headRule = tenMinutesHeadRule; recordRule = tenMinutesRecordRule }
+
+abbrev pub formOf : Mode → Form
+formOf Hourly = hourlyForm
+formOf TenMinutes = tenMinutesForm

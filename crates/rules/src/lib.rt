@@ -2,7 +2,7 @@
 // proofs/; nothing is computed here.
 ghost use mathlib.Core.Path.{_≡_};
 ghost use Rattle.rules.specs.HourFile as HourFile;
-ghost use Rattle.rules.specs.Inner.Layouts as Layouts;
+ghost use Rattle.rules.specs.Ranges as Ranges;
 
 // What a record is about (document 01, "The hour file", record words). A number that names none of the five is Unknown; row 5 refuses it.
 pub enum Kind {
@@ -43,6 +43,12 @@ pub struct Layout {
     pub blocks: usize,
     pub records: usize,
     pub words: usize,
+}
+
+// The two kinds of file: an hour, and an hour in ten-minute intervals.
+pub enum Mode {
+    Hourly,
+    TenMinutes,
 }
 
 // What a search finds.
@@ -113,7 +119,7 @@ pub fn hourly() -> Layout
 
 // The file of ten-minute settlement.
 pub fn ten_minutes() -> Layout
-    ensures { λ r. ⌜ r ≡ Layouts.tenMinutes ⌝ }
+    ensures { λ r. ⌜ r ≡ HourFile.tenMinutes ⌝ }
 {
     Layout {
         first: 3,
@@ -121,5 +127,15 @@ pub fn ten_minutes() -> Layout
         blocks: 17,
         records: 4,
         words: 30,
+    }
+}
+
+// The layout of a kind of file.
+pub fn layout_of(mode: Mode) -> Layout
+    ensures { λ r. ⌜ r ≡ Ranges.formOf mode .layout ⌝ }
+{
+    match mode {
+        Mode::Hourly => hourly(),
+        Mode::TenMinutes => ten_minutes(),
     }
 }

@@ -10,4 +10,5 @@ pub mod HourFiles
 pub mod Explaining
 pub mod SixLines
 pub mod Asked
+pub mod TenMinutes
 pub mod Figures

@@ -69,7 +69,7 @@ module _ (head records : List ℕ) (whole : ListsWhole head records) where
     held-length =
         let blocks = block-count head records in
         let all = whole .records-whole in
-        let count = said-count head records in
+        let count = said-count hourly head records in
         let rest = length-drop from records in
         split (ltb (b + 1) (blocksFor hourly h))
         (λ t. let l = ltb-true (b + 1) (blocksFor hourly h) t in rw t (length-take-le 120 (drop from records) (omega arith)))
@@ -100,7 +100,7 @@ module _ (head records : List ℕ) (whole : ListsWhole head records) where
             let place : from + k ≡ 12 * i + k % 12 = omega arith in
             let there : i < length records / 12 = omega (arith, held-length, held-inside) in
             getD-take 120 (drop from records) k 0 l ∙ getD-drop from records k 0 ∙ ap (λ (j : ℕ). getD records j 0) place
-            ∙ sym (said-word head records i (k % 12) there (omega arith))
+            ∙ sym (said-word hourly head records i (k % 12) there (omega arith))
 
     pub records-placed : (old : List ℕ) →
         blockPlaced b (blockBytes 2 b (length held / 12) held) (replacingFirst (fileByte hourly h) (512 * b) old)
@@ -114,7 +114,7 @@ module _ (head records : List ℕ) (whole : ListsWhole head records) where
 
   head-word : (k : ℕ) → k < 120 → getD head k 0 ≡ bodyWord hourly h 0 k
   unfolding bodyWord
-  head-word k l = ap (λ (j : ℕ). getD head j 0) (sym (gap 8 k)) ∙ sym (said-head head records (8 + k) (omega arith) (omega arith))
+  head-word k l = ap (λ (j : ℕ). getD head j 0) (sym (gap 8 k)) ∙ sym (said-head hourly head records (8 + k) (omega arith) (omega arith))
 
   pub head-placed : (count : ℕ) (old : List ℕ) → count ≡ blocksFor hourly h - 1 →
       blockPlaced 0 (blockBytes 1 0 count head) old ≡ replacingFirst (fileByte hourly h) 512 old

@@ -29,8 +29,8 @@ module _ (head records : List ℕ) where
   lists-whole e = let whole = lists-pass head records e in
       record {
         head-whole = whole .0;
-        records-whole = omega (arith, said-count head records, whole);
-        few-records = omega (arith, said-count head records, whole);
+        records-whole = omega (arith, said-count hourly head records, whole);
+        few-records = omega (arith, said-count hourly head records, whole);
       }
 
   pub block-count : blocksFor hourly h ≡ 1 + (length records / 12 + 9) / 10
@@ -42,7 +42,7 @@ module _ (head records : List ℕ) where
   file-length = refl
 
   pub few-blocks : ListsWhole head records → blocksFor hourly h ≤ 26
-  few-blocks whole = omega (arith, whole .few-records, said-count head records, block-count)
+  few-blocks whole = omega (arith, whole .few-records, said-count hourly head records, block-count)
 
   -- the room for so many blocks
   module _ (room n : ℕ) (e : n ≡ blocksFor hourly h) where

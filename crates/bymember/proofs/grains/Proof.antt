@@ -6,6 +6,7 @@ use Rattle.rules.specs.Record.{Hour, entryOf, areaOf}
 use Rattle.rules.specs.Deviation.{deviation}
 use Rattle.rules.specs.Charge.{enteringAs, entering, grains}
 use Rattle.rules.specs.Inner.Kept.{RecordKept}
+use Rattle.whole.proofs.Ranges.{u-more}
 use Rattle.rules.proofs.Bounds.{deviation-under, entering-under, share-under, price-under}
 use Rattle.hour.proofs.Inside.{record-inside}
 use Rattle.rules.specs.HourFile.{hourIn}
@@ -40,7 +41,7 @@ kind-in-requires : tie.Need-kind-in-requires
 kind-in-requires c κs = part-length (own c)
 
 entering-requires : tie.Need-entering-requires
-entering-requires c κs = let read = c .before in rw (deviation-is read) (deviation-under (kept read .entry-kept))
+entering-requires c κs = let read = c .before in rw (deviation-is read) (u-more 144000000000 (deviation-under (kept read .entry-kept)) tt)
 
 -- price, deviation and share, each as a number with its range
 module _ (c : tie.After-entering) where

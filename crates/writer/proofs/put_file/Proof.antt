@@ -137,7 +137,7 @@ held-by-requires c κs =
         arith,
         there c,
         block-count (head at) (records at),
-        said-count (head at) (records at),
+        said-count hourly (head at) (records at),
         whole at .records-whole,
       ),
     )

@@ -3,6 +3,7 @@ use mathlib.Core.Path.{_∙_, ap}
 use borrow.Author.Needs.{sfits-of}
 use Rattle.whole.proofs.Machine.{read-back}
 use Rattle.rules.specs.Deviation.{deviation}
+use Rattle.rules.proofs.Bounds.{entry-room}
 use Rattle.hour.proofs.Inside.{record-inside}
 use Rattle.hour.proofs.Rows.{PartOf, part-length, part-entry, part-entry-kept}
 use Rattle.byrecord.proofs.deviations.deviation_of.Statement.{statement}
@@ -22,7 +23,7 @@ entry-in-requires : tie.Need-entry-in-requires
 entry-in-requires c κs = part-length (own c)
 
 deviation-requires : tie.Need-deviation-requires
-deviation-requires c κs = rw (c .entry-in .ensures) (part-entry-kept (own (c .before)))
+deviation-requires c κs = rw (c .entry-in .ensures) (entry-room (part-entry-kept (own (c .before))))
 
 returns : tie.Need-returns
 returns c =

@@ -5,40 +5,55 @@ use mathlib.Core.Option.{none}
 use mathlib.Core.List.{List}
 use Prim.Native.Nat.{ℕ}
 use Rattle.rules.specs.declared.Found.{Found}
+use Rattle.rules.specs.declared.Layout.{Layout}
+use Rattle.rules.specs.declared.Mode.{Mode}
 use Rattle.rules.specs.Record.{Hour}
-use Rattle.rules.specs.Ranges.{hourlyForm}
-use Rattle.rules.specs.Refusals.{badHead, verdict, wordRows, comparisonRows, foundAt}
+use Rattle.rules.specs.HourFile.{body}
+use Rattle.rules.specs.Ranges.{formOf}
+use Rattle.rules.specs.Refusals.{badHead, verdict, wordRows, foundAt}
 use Rattle.rules.proofs.Faults.{fault-record, fault-nowhere}
 use Rattle.examine.specs.Fault.{faultAt, aboveAt}
 use Rattle.examine.specs.Sources.{hourBy}
 use Rattle.examine.proofs.Sources.{head-there, first-body}
+use Rattle.examine.proofs.Compared.{above-told, nothing-told}
 use Rattle.examine.proofs.search.examine_hour.Statement.{statement}
 use Rattle.examine.proofs.search.examine_hour.Tie as tie
+
+-- the first body, in the layout of the mode
+first-part : (c : tie.After-body) → let start = c .before .before .before .before .before in
+    c .body .result .now ≡ body (formOf (start .args .mode) .layout) (start .args .file .now) 0
+first-part c = c .body .ensures ∙ ap (λ (l : Layout). body l (c .before .before .before .before .before .args .file .now) 0) (c .before .layout-of .ensures)
 
 -- the head is searched
 module _ (c : tie.After-bad-head) where
   abbrev start : tie.Start
-  start = c .before .before .before .before .before
+  start = c .before .before .before .before .before .before
+
+  abbrev mode : Mode
+  mode = start .args .mode
 
   abbrev h : Hour
-  h = let at = start .args in hourBy (at .source) (at .file .now) (at .head .now) (at .records .now)
+  h = let at = start .args in hourBy mode (at .source) (at .file .now) (at .head .now) (at .records .now)
 
-  head-told : foundAt (c .bad-head .result) ≡ badHead hourlyForm h
+  head-told : foundAt (c .bad-head .result) ≡ badHead (formOf mode) h
   head-told =
       let at = start .args in
-      c .bad-head .ensures (at .file .now) (at .records .now) (first-body (at .file .now) _ (c .before .body .ensures) (at .source))
+      c .bad-head .ensures (at .file .now) (at .records .now) (first-body mode (at .file .now) _ (first-part (c .before)) (at .source))
 
 -- row 4 passed: the head is whole
-head-good : (c : tie.After-enum-told) → badHead hourlyForm (h (c .before .before)) ≡ none
+head-good : (c : tie.After-enum-told) → badHead (formOf (mode (c .before .before))) (h (c .before .before)) ≡ none
 head-good c = sym (head-told (c .before .before)) ∙ ap foundAt (c .enum-told .given .1)
+
+layout-of-requires : tie.Need-layout-of-requires
+layout-of-requires c κs = tt
 
 body-requires : tie.Need-body-requires
 body-requires c κs = tt
 
 bad-head-requires : tie.Need-bad-head-requires
 bad-head-requires c κs =
-    let given = c .before .before .before .before in
-    head-there (given .args .file .now) _ (c .body .ensures) (given .args .source) (given .args .head .now) (given .pre)
+    let given = c .before .before .before .before .before in
+    head-there (given .args .mode) (given .args .file .now) _ (first-part c) (given .args .source) (given .args .head .now) (given .pre)
 
 -- Found::At(w) = bad_head(..)
 enum-known-w : tie.Need-enum-known-w
@@ -46,7 +61,7 @@ enum-known-w c = c .match .keys1
 
 -- return Answer::BadHead(w)
 returns : tie.Need-returns
-unfolding verdict wordRows comparisonRows
+unfolding verdict wordRows
 returns c = simp (sym (head-told (c .before .before .before)) ∙ ap foundAt (c .before .w .given .1))
 
 -- Found::Nothing = bad_head(..)
@@ -70,40 +85,37 @@ enum-told-2 c = c .match2 .keys3
 
 -- Answer::BadRecord(i)
 returns-2 : tie.Need-returns-2
-unfolding verdict wordRows comparisonRows
+unfolding verdict wordRows
 returns-2 c =
     let searched = c .before .before .before in
     let found = sym (searched .first-fault .ensures .0) ∙ ap faultAt (c .before .i .given .1) in
-    simp (head-good (searched .before), fault-record hourlyForm _ _ _ found)
+    simp (head-good (searched .before), fault-record _ _ _ _ found)
 
 -- Answer::AboveMaximum(i)
 returns-3 : tie.Need-returns-3
-unfolding verdict wordRows comparisonRows
+unfolding verdict wordRows
 returns-3 c =
     let searched = c .before .before .before in
     let no-fault = ap faultAt (c .before .i2 .given .1) in
-    simp (
-      head-good (searched .before),
-      fault-nowhere hourlyForm _ (sym (searched .first-fault .ensures .0) ∙ no-fault),
-      sym (searched .first-fault .ensures .1 no-fault) ∙ ap aboveAt (c .before .i2 .given .1),
-    )
+    above-told _ (mode (searched .before .before .before)) _ (head-good (searched .before))
+    (fault-nowhere _ _ (sym (searched .first-fault .ensures .0) ∙ no-fault))
+    (sym (searched .first-fault .ensures .1 no-fault) ∙ ap aboveAt (c .before .i2 .given .1))
 
 -- Answer::Accepted
 returns-4 : tie.Need-returns-4
-unfolding verdict wordRows comparisonRows
+unfolding verdict wordRows
 returns-4 c =
     let searched = c .before .before in
     let no-fault = ap faultAt (c .enum-told2 .given .1) in
-    simp (
-      head-good (searched .before),
-      fault-nowhere hourlyForm _ (sym (searched .first-fault .ensures .0) ∙ no-fault),
-      sym (searched .first-fault .ensures .1 no-fault) ∙ ap aboveAt (c .enum-told2 .given .1),
-    )
+    nothing-told _ (mode (searched .before .before .before)) (head-good (searched .before))
+    (fault-nowhere _ _ (sym (searched .first-fault .ensures .0) ∙ no-fault))
+    (sym (searched .first-fault .ensures .1 no-fault) ∙ ap aboveAt (c .enum-told2 .given .1))
 
 pub examine-hour-spec : {M : Type 1} → statement M
 examine-hour-spec =
     tie.close
     (tie.spec
+    layout-of-requires
     body-requires
     bad-head-requires
     enum-known-w

@@ -10,48 +10,59 @@ use native.Mathlib.Omega.{arith}
 use Rattle.whole.specs.Below.{firstBelow}
 use Rattle.whole.proofs.Tests.{never-some}
 use Rattle.whole.proofs.Search.{first-next, first-hit, first-less}
+use Rattle.rules.specs.declared.Layout.{Layout}
+use Rattle.rules.specs.declared.Mode.{Mode}
 use Rattle.rules.specs.Record.{Hour, members, areas}
-use Rattle.rules.specs.Ranges.{keeps, recordRule, firstBroken, hourlyForm}
-use Rattle.rules.specs.Refusals.{isBroken, badWord, badRecord, firstFault, scheduledAbove, overScheduled, aboveMaximum}
+use Rattle.rules.specs.HourFile.{body}
+use Rattle.rules.specs.Ranges.{keeps, firstBroken, formOf}
+use Rattle.rules.specs.Refusals.{isBroken, badWord, badRecord, firstFault}
+use Rattle.rules.proofs.Layouts.{mode-fits, few-to-a-record}
 use Rattle.rules.proofs.Faults.{fault-at, no-fault}
 use Rattle.examine.specs.declared.search.Source.{Source}
-use Rattle.examine.specs.Sources.{hourBy, HourThere, wordBy, HasWords, fileRecord, listRecord}
-use Rattle.examine.proofs.Sources.{word-there, head-says, head-there, first-body}
+use Rattle.examine.specs.Sources.{wordsTo, hourBy, HourThere, wordBy, HasWords, fileRecord, listRecord}
+use Rattle.examine.specs.Fault.{aboveBy, aboveIn}
+use Rattle.examine.proofs.Sources.{word-there, head-says, head-there, first-body, words-most}
 use Rattle.examine.proofs.Sources.{file-record-there, list-record-there, record-there, record-says}
 use Rattle.examine.proofs.SoFar.{placeOr, kept-on, kept-some, kept-none}
 use Rattle.examine.proofs.search.first_fault.Statement.{statement}
 use Rattle.examine.proofs.search.first_fault.Tie as tie
 
-abbrev word-bad : (h : Hour) (i w : ℕ) → Bool
-word-bad h i w = not (keeps (recordRule (members h) (areas h) (h .rec i 0) w) (h .rec i w))
+abbrev word-bad : (mode : Mode) (h : Hour) (i w : ℕ) → Bool
+word-bad mode h i w = not (keeps (formOf mode .recordRule (members h) (areas h) (h .rec i 0) w) (h .rec i w))
 
-abbrev record-bad : (h : Hour) (i : ℕ) → Bool
-record-bad h i = isBroken (badWord hourlyForm h i)
+abbrev record-bad : (mode : Mode) (h : Hour) (i : ℕ) → Bool
+record-bad mode h i = isBroken (badWord (formOf mode) h i)
+
+abbrev above-at : (mode : Mode) (h : Hour) (i : ℕ) → Bool
+above-at mode h i = aboveBy mode (h .rec i 0) (h .rec i 3) (h .rec i 8)
 
 abbrev Inv-loop : tie.InvT-loop
-Inv-loop source file head records members areas n i w₀ above bytes words kind w =
-    firstBelow (word-bad (hourBy source file head records) i) w ≡ none
+Inv-loop mode source file head records size members areas n i w₀ above bytes words kind w =
+    firstBelow (word-bad mode (hourBy mode source file head records) i) w ≡ none
 
 abbrev μ-loop : tie.MeasureT-loop
-μ-loop source file head records members areas n i w₀ above bytes words kind w = 12 - w
+μ-loop mode source file head records size members areas n i w₀ above bytes words kind w = size - w
 
 abbrev Inv-rows : tie.InvT-rows
-Inv-rows source file head records members areas n i₀ w₀ above₀ i w above =
-    let h = hourBy source file head records in
-    (i ≤ n) × (firstBelow (record-bad h) i ≡ none) × (above ≡ placeOr n (firstBelow (overScheduled h) i))
+Inv-rows mode source file head records size members areas n i₀ w₀ above₀ i w above =
+    let h = hourBy mode source file head records in
+    (i ≤ n) × (firstBelow (record-bad mode h) i ≡ none) × (above ≡ placeOr n (firstBelow (above-at mode h) i))
 
 abbrev μ-rows : tie.MeasureT-rows
-μ-rows source file head records members areas n i₀ w₀ above₀ i w above = n - i
+μ-rows mode source file head records size members areas n i₀ w₀ above₀ i w above = n - i
 
 -- counts, kind and word that are the hour's are judged alike
-alike : (h : Hour) (i w m a k v : ℕ) → m ≡ members h → a ≡ areas h → k ≡ h .rec i 0 → v ≡ h .rec i w →
-    not (keeps (recordRule m a k w) v) ≡ word-bad h i w
-alike h i w m a k v em ea ek ev = rw (em, ea, ek, ev)
+alike : (mode : Mode) (h : Hour) (i w m a k v : ℕ) → m ≡ members h → a ≡ areas h → k ≡ h .rec i 0 → v ≡ h .rec i w →
+    not (keeps (formOf mode .recordRule m a k w) v) ≡ word-bad mode h i w
+alike mode h i w m a k v em ea ek ev = rw (em, ea, ek, ev)
 
 -- the moment at which the first body is in hand
 module _ (c : tie.After-body Inv-loop μ-loop Inv-rows μ-rows) where
   abbrev start : tie.Start Inv-loop μ-loop Inv-rows μ-rows
-  start = c .before .before .before .before
+  start = c .before .before .before .before .before
+
+  abbrev mode : Mode
+  mode = start .args .mode
 
   abbrev source : Source
   source = start .args .source
@@ -66,14 +77,20 @@ module _ (c : tie.After-body Inv-loop μ-loop Inv-rows μ-rows) where
   records = start .args .records .now
 
   abbrev hour : Hour
-  hour = hourBy source file head records
+  hour = hourBy mode source file head records
+
+  first-part : c .body .result .now ≡ body (formOf mode .layout) file 0
+  first-part = c .body .ensures ∙ ap (λ (l : Layout). body l file 0) (c .before .layout-of .ensures)
+
+  size-is : c .before .layout-of .result .words ≡ wordsTo mode
+  size-is = ap (λ (l : Layout). l .words) (c .before .layout-of .ensures)
 
   whole-head : HasWords 120 source (c .body .result .now) head
-  whole-head = head-there file (c .body .result .now) (c .body .ensures) source head (start .pre)
+  whole-head = head-there mode file (c .body .result .now) first-part source head (start .pre)
 
   word-here : (w : ℕ) → 8 ≤ w → w < 128 → wordBy source (c .body .result .now) head (w - 8) ≡ hour .head w
   word-here =
-      head-says source file head records (c .body .result .now) whole-head (first-body file (c .body .result .now) (c .body .ensures) source)
+      head-says mode source file head records (c .body .result .now) whole-head (first-body mode file (c .body .result .now) first-part source)
 
 -- a turn of the outer loop: its hour, and the record at which it stands
 module _ (turn : tie.At-rows Inv-loop μ-loop Inv-rows μ-rows) where
@@ -82,6 +99,9 @@ module _ (turn : tie.At-rows Inv-loop μ-loop Inv-rows μ-rows) where
 
   abbrev h : Hour
   h = hour in-hand
+
+  abbrev own : Mode
+  own = mode in-hand
 
   abbrev at : ℕ
   at = turn .rows .i
@@ -104,39 +124,44 @@ module _ (turn : tie.At-rows Inv-loop μ-loop Inv-rows μ-rows) where
   -- whether the code finds that a word breaks its rule, by the counts that it has read of the head
   abbrev judged : (bytes words : List ℕ) (kind w : ℕ) → Bool
   judged bytes words kind w =
-      not (keeps (recordRule (turn .before .before .before .word-of .result) (turn .before .before .word-of2 .result) kind w)
+      not (keeps (formOf own .recordRule (turn .before .before .before .word-of .result) (turn .before .before .word-of2 .result) kind w)
       (wordBy (source in-hand) bytes words w))
 
   -- what the code has read of the record's part is the hour's record
   module _ (bytes words : List ℕ) (kind : ℕ) (l : at < counted)
-      (in-file : bytes ≡ fileRecord (source in-hand) (file in-hand) at) (in-list : words ≡ listRecord (source in-hand) (records in-hand) at)
+      (in-file : bytes ≡ fileRecord own (source in-hand) (file in-hand) at)
+      (in-list : words ≡ listRecord own (source in-hand) (records in-hand) at)
     where
-      whole-record : HasWords 12 (source in-hand) bytes words
-      whole-record = record-there (file in-hand) (head in-hand) (records in-hand) at bytes words
+      whole-record : HasWords (wordsTo own) (source in-hand) bytes words
+      whole-record = record-there own (file in-hand) (head in-hand) (records in-hand) at bytes words
           (source in-hand) (start in-hand .pre) (there l) in-file in-list
 
-      says : (w : ℕ) → w < 12 → wordBy (source in-hand) bytes words w ≡ h .rec at w
-      says = record-says (file in-hand) (head in-hand) (records in-hand) at bytes words
+      says : (w : ℕ) → w < wordsTo own → wordBy (source in-hand) bytes words w ≡ h .rec at w
+      says = record-says own (file in-hand) (head in-hand) (records in-hand) at bytes words
           (source in-hand) (start in-hand .pre) (there l) in-file in-list
 
       module _ (e : kind ≡ wordBy (source in-hand) bytes words 0) where
         kind-is : kind ≡ h .rec at 0
-        kind-is = e ∙ says 0 (omega arith)
+        kind-is = e ∙ says 0 (omega (arith, words-most own))
 
-        told : (w : ℕ) → w < 12 → judged bytes words kind w ≡ word-bad h at w
-        told w m = alike h at w _ _ _ _ members-are areas-are kind-is (says w m)
+        told : (w : ℕ) → w < wordsTo own → judged bytes words kind w ≡ word-bad own h at w
+        told w m = alike own h at w _ _ _ _ members-are areas-are kind-is (says w m)
 
-        above-told : scheduledAbove kind (wordBy (source in-hand) bytes words 3) (wordBy (source in-hand) bytes words 8) ≡ overScheduled h at
-        above-told = rw (kind-is, says 3 (omega arith), says 8 (omega arith))
+        above-told : aboveBy own kind (wordBy (source in-hand) bytes words 3) (wordBy (source in-hand) bytes words 8) ≡ above-at own h at
+        above-told = rw (kind-is, says 3 (omega (arith, words-most own)), says 8 (words-most own))
 
         -- a word that breaks its rule, with none before it, is the first fault
-        stops : (w : ℕ) → w < 12 → firstBelow (word-bad h at) w ≡ none → judged bytes words kind w ≡ true →
-            firstFault hourlyForm h ≡ some (at, w)
+        stops : (w : ℕ) → w < wordsTo own → firstBelow (word-bad own h at) w ≡ none → judged bytes words kind w ≡ true →
+            firstFault (formOf own) h ≡ some (at, w)
         unfolding badRecord badWord firstBroken
         stops w m passed broken =
-            let word-first : badWord hourlyForm h at ≡ some w = first-hit (word-bad h at) w 12 passed (sym (told w m) ∙ broken) m in
-            let record-first = first-hit (record-bad h) at (h .count) (turn .rows .inv .1) (ap isBroken word-first) (there l) in
-            fault-at hourlyForm h at w record-first word-first
+            let word-first : badWord (formOf own) h at ≡ some w =
+            first-hit (word-bad own h at) w (wordsTo own) passed (sym (told w m) ∙ broken) m in
+            let record-first = first-hit (record-bad own h) at (h .count) (turn .rows .inv .1) (ap isBroken word-first) (there l) in
+            fault-at (formOf own) h at w record-first word-first
+
+layout-of-requires : tie.Need-layout-of-requires Inv-loop μ-loop Inv-rows μ-rows
+layout-of-requires c κs = tt
 
 body-requires : tie.Need-body-requires Inv-loop μ-loop Inv-rows μ-rows
 body-requires c κs = tt
@@ -161,20 +186,20 @@ file-record-requires : tie.Need-file-record-requires Inv-loop μ-loop Inv-rows �
 file-record-requires c κs =
     let turn = c .before in
     let body = in-hand turn in
-    file-record-there (file body) (head body) (records body) (at turn) (source body) (start body .pre) (there turn (c .rows-test .taken))
+    file-record-there (mode body) (file body) (head body) (records body) (at turn) (source body) (start body .pre) (there turn (c .rows-test .taken))
 
 list-record-requires : tie.Need-list-record-requires Inv-loop μ-loop Inv-rows μ-rows
 list-record-requires c κs =
     let turn = c .before .before in
     let body = in-hand turn in
-    list-record-there (file body) (head body) (records body) (at turn) (source body) (there turn (c .before .rows-test .taken))
+    list-record-there (mode body) (file body) (head body) (records body) (at turn) (source body) (there turn (c .before .rows-test .taken))
 
 -- word_of(source, bytes, words, 0)
 word-of-requires-3 : tie.Need-word-of-requires-3 Inv-loop μ-loop Inv-rows μ-rows
 word-of-requires-3 c κs =
     let turn = c .before .before .before in
-    word-there 12 0 (source (in-hand turn)) _ _ (whole-record turn _ _ 0 (c .before .before .rows-test .taken)
-    (c .before .file-record .ensures) (c .list-record .ensures)) (omega arith)
+    word-there (wordsTo (own turn)) 0 (source (in-hand turn)) _ _ (whole-record turn _ _ 0 (c .before .before .rows-test .taken)
+    (c .before .file-record .ensures) (c .list-record .ensures)) (omega (arith, words-most (own turn)))
 
 above-maximum-requires : tie.Need-above-maximum-requires Inv-loop μ-loop Inv-rows μ-rows
 above-maximum-requires c κs =
@@ -195,12 +220,14 @@ record-word-bad-requires c κs =
     let turn = read .before .before .before .before in (
       whole-record turn _ _ 0 (read .before .before .before .rows-test .taken) (read .before .before .file-record .ensures)
           (read .before .list-record .ensures),
-      omega arith,
+      omega (arith, c .loop-test .taken, size-is (in-hand turn)),
     )
 
 -- w += 1
 add-w : tie.Need-add-w Inv-loop μ-loop Inv-rows μ-rows
-add-w c = omega arith
+add-w c =
+    let turn = c .before .before .before .before .before .before .before .before .before .before in
+    omega (arith, c .before .before .loop-test .taken, size-is (in-hand turn), few-to-a-record (mode-fits (own turn)))
 
 loop-less : tie.Need-loop-less Inv-loop μ-loop Inv-rows μ-rows
 loop-less c = omega arith
@@ -213,8 +240,8 @@ loop-again c =
     let w = inner .loop .w in
     let here = told turn _ _ _ (read .before .before .before .rows-test .taken) (read .before .before .file-record .ensures)
     (read .before .list-record .ensures) (read .word-of3 .ensures) in
-    let kept = sym (here w (c .before .before .loop-test .taken)) ∙ sym (c .before .record-word-bad .ensures) ∙ c .if1 .left in
-    first-next (word-bad (h turn) (at turn)) w (inner .loop .inv) kept
+    let kept = sym (here w (omega (arith, c .before .before .loop-test .taken, size-is (in-hand turn)))) ∙ sym (c .before .record-word-bad .ensures) ∙ c .if1 .left in
+    first-next (word-bad (own turn) (h turn) (at turn)) w (inner .loop .inv) kept
 
 -- i += 1
 add-i : tie.Need-add-i Inv-loop μ-loop Inv-rows μ-rows
@@ -231,13 +258,14 @@ rows-again c =
     let read = kept .before .before in
     let turn = read .before .before .before .before in
     let less = read .before .before .before .rows-test .taken in
-    let whole = first-less (word-bad (h turn) (at turn)) _ 12 (inner .loop .inv) (omega arith) in
+    let whole = first-less (word-bad (own turn) (h turn) (at turn)) _ (wordsTo (own turn)) (inner .loop .inv)
+    (omega (arith, c .loop-test .left, size-is (in-hand turn))) in
     let above = above-told turn _ _ _ less (read .before .before .file-record .ensures) (read .before .list-record .ensures)
     (read .word-of3 .ensures) in
     let here = kept .before .above-maximum .ensures ∙ above in (
       omega arith,
-      first-next (record-bad (h turn)) (at turn) (turn .rows .inv .1) (ap isBroken whole),
-      kept .first-found .ensures ∙ kept-on (counted turn) (overScheduled (h turn)) (at turn) _ _ less (turn .rows .inv .2) here,
+      first-next (record-bad (own turn) (h turn)) (at turn) (turn .rows .inv .1) (ap isBroken whole),
+      kept .first-found .ensures ∙ kept-on (counted turn) (above-at (own turn) (h turn)) (at turn) _ _ less (turn .rows .inv .2) here,
     )
 
 -- return Fault::Word(i, w)
@@ -248,7 +276,8 @@ returns c =
     ⊎-elim
     (λ ran-out. absurd (omega (arith, ran-out .0 .left, c .if2 .taken)))
     (λ left.
-    let here = stops turn _ _ _ (left .0 .taken) (left .1 .ensures) (left .2 .ensures) (left .3 .ensures) (left .6 .w) (left .7 .taken)
+    let here = stops turn _ _ _ (left .0 .taken) (left .1 .ensures) (left .2 .ensures) (left .3 .ensures) (left .6 .w)
+    (omega (arith, left .7 .taken, size-is (in-hand turn)))
     (left .6 .inv) in
     let found = here (sym (left .8 .ensures) ∙ left .9 .taken) in
     (sym (found ∙ ap (λ (w : ℕ). some (at turn, w)) (sym (left .10))), λ e. never-some e))
@@ -262,9 +291,9 @@ module _ (c : tie.Else2 Inv-loop μ-loop Inv-rows μ-rows) where
   ended : at last ≡ counted last
   ended = omega (arith, last .rows .inv .0, c .if2 .left)
 
-  nowhere : firstFault hourlyForm (h last) ≡ none
+  nowhere : firstFault (formOf (own last)) (h last) ≡ none
   unfolding badRecord
-  nowhere = no-fault hourlyForm (h last) (ap (firstBelow (record-bad (h last))) (sym (ended ∙ count-is last)) ∙ last .rows .inv .1)
+  nowhere = no-fault (formOf (own last)) (h last) (ap (firstBelow (record-bad (own last) (h last))) (sym (ended ∙ count-is last)) ∙ last .rows .inv .1)
 
   as-left : c .before .rows-test .above ≡ last .rows .above
   as-left =
@@ -273,12 +302,11 @@ module _ (c : tie.Else2 Inv-loop μ-loop Inv-rows μ-rows) where
       (λ left. absurd (omega (arith, left .0 .taken, c .if2 .left)))
       (c .before .rows-test .came)
 
-  above-kept : c .before .rows-test .above ≡ placeOr (counted last) (firstBelow (overScheduled (h last)) (counted last))
-  above-kept = as-left ∙ last .rows .inv .2 ∙ ap (λ (i : ℕ). placeOr (counted last) (firstBelow (overScheduled (h last)) i)) ended
+  above-kept : c .before .rows-test .above ≡ placeOr (counted last) (firstBelow (above-at (own last) (h last)) (counted last))
+  above-kept = as-left ∙ last .rows .inv .2 ∙ ap (λ (i : ℕ). placeOr (counted last) (firstBelow (above-at (own last) (h last)) i)) ended
 
-  as-counted : aboveMaximum (h last) ≡ firstBelow (overScheduled (h last)) (counted last)
-  unfolding aboveMaximum
-  as-counted = ap (firstBelow (overScheduled (h last))) (sym (count-is last))
+  as-counted : aboveIn (own last) (h last) ≡ firstBelow (above-at (own last) (h last)) (counted last)
+  as-counted = ap (firstBelow (above-at (own last) (h last))) (sym (count-is last))
 
 -- return Fault::Above(above)
 returns-2 : tie.Need-returns-2 Inv-loop μ-loop Inv-rows μ-rows
@@ -291,7 +319,7 @@ returns-2 c =
 returns-3 : tie.Need-returns-3 Inv-loop μ-loop Inv-rows μ-rows
 returns-3 c =
     let passed = c .before in
-    let none-kept = kept-none (counted (last passed)) (overScheduled (h (last passed))) _ (above-kept passed) (c .if3 .left) in
+    let none-kept = kept-none (counted (last passed)) (above-at (own (last passed)) (h (last passed))) _ (above-kept passed) (c .if3 .left) in
     (sym (nowhere passed), λ e. sym (as-counted passed ∙ none-kept))
 
 pub first-fault-spec : {M : Type 1} → statement M
@@ -302,6 +330,7 @@ first-fault-spec =
     μ-loop
     Inv-rows
     μ-rows
+    layout-of-requires
     body-requires
     word-of-requires
     word-of-requires-2

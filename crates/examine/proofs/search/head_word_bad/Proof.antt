@@ -7,8 +7,8 @@ use Rattle.examine.proofs.Sources.{word-there}
 use Rattle.examine.proofs.search.head_word_bad.Statement.{statement}
 use Rattle.examine.proofs.search.head_word_bad.Tie as tie
 
-head-rule-requires : tie.Need-head-rule-requires
-head-rule-requires c κs = tt
+head-rule-of-requires : tie.Need-head-rule-of-requires
+head-rule-of-requires c κs = tt
 
 -- w - 8
 sub-word-of : tie.Need-sub-word-of
@@ -22,8 +22,8 @@ keeps-requires : tie.Need-keeps-requires
 keeps-requires c κs = tt
 
 returns : tie.Need-returns
-returns c = ap not (c .keeps .ensures ∙ ap₂ keeps (c .before .before .head-rule .ensures) (c .before .word-of .ensures))
+returns c = ap not (c .keeps .ensures ∙ ap₂ keeps (c .before .before .head-rule-of .ensures) (c .before .word-of .ensures))
 
 pub head-word-bad-spec : {M : Type 1} → statement M
 head-word-bad-spec =
-    tie.close (tie.spec head-rule-requires sub-word-of word-of-requires keeps-requires returns)
+    tie.close (tie.spec head-rule-of-requires sub-word-of word-of-requires keeps-requires returns)

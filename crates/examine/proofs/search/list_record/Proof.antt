@@ -1,8 +1,10 @@
 -- `examine::search::list_record` meets its contract: the record's part of the list that the source names, or an empty part.
-use mathlib.Core.Path.{refl}
-use Prim.Native.Nat.{_+_, _*_, _≤_}
+use mathlib.Core.Path.{refl, _∙_, ap}
+use mathlib.Core.List.{List}
+use Prim.Native.Nat.{ℕ, _+_, _*_, _≤_}
 use native.Mathlib.Omega.{arith}
-use lib.ListN.{length}
+use lib.ListN.{length, take, drop}
+use Rattle.rules.specs.declared.Layout.{Layout}
 use Rattle.examine.proofs.Listed.{part-is}
 use Rattle.examine.proofs.search.list_record.Statement.{statement}
 use Rattle.examine.proofs.search.list_record.Tie as tie
@@ -23,14 +25,18 @@ enum-told-2 : tie.Need-enum-told-2
 enum-told-2 c = c .match .keys2
 
 -- the list has the record
-inside : (c : tie.After-enum-told2) → let start = c .before .before in 12 * start .args .i + 12 ≤ length (start .args .records .now)
-inside c = rw (c .enum-told2 .given .1) at (c .before .before .pre)
+inside : (c : tie.After-layout-of) → let start = c .before .before .before .before in let size = c .layout-of .result .words in
+    size * start .args .i + size ≤ length (start .args .records .now)
+inside c = rw (c .layout-of .ensures) (rw (c .before .enum-told2 .given .1) at (c .before .before .before .before .pre))
 
--- WORDS * i
+layout-of-requires : tie.Need-layout-of-requires
+layout-of-requires c κs = tt
+
+-- size * i
 mul-from : tie.Need-mul-from
 mul-from c = omega (arith, inside c)
 
--- from + WORDS
+-- from + size
 add-to : tie.Need-add-to
 add-to c = omega (arith, inside c)
 
@@ -52,8 +58,10 @@ part-result-end c = omega (arith, inside c)
 
 returns-2 : tie.Need-returns-2
 returns-2 c =
-    let given = c .before .before .before .args in
-    rw (c .before .enum-told2 .given .1) (part-is (given .records .now) (12 * given .i) 12)
+    let laid-out = c .before in
+    let given = laid-out .before .before .before .before .args in
+    rw (laid-out .before .enum-told2 .given .1) (part-is (given .records .now) (laid-out .layout-of .result .words * given .i) _
+    ∙ ap (λ (l : Layout). take (l .words) (drop (l .words * given .i) (given .records .now))) (laid-out .layout-of .ensures))
 
 pub list-record-spec : {M : Type 1} → statement M
 list-record-spec =
@@ -63,6 +71,7 @@ list-record-spec =
     slice-aggregate-result
     returns
     enum-told-2
+    layout-of-requires
     mul-from
     add-to
     mul-result

@@ -6,6 +6,7 @@ use Rattle.rules.specs.declared.Kind.{Kind}
 use Rattle.rules.specs.declared.Kind.the-variants.{Generator, RealTimeLoad, ProfileLoad, Import, Export, Unknown}
 use Rattle.rules.specs.Record.{Entry}
 use Rattle.rules.specs.Inner.Posting.{accountedAs, accounted}
+use Rattle.rules.proofs.Bounds.{entry-room}
 use Rattle.formula.proofs.Terms.{A, H}
 use Rattle.formula.proofs.deviation.accounted.Statement.{statement}
 use Rattle.formula.proofs.deviation.accounted.Tie as tie
@@ -23,15 +24,15 @@ at-lost c = at-rate (c .before .before)
 module _ (c : tie.Start) where
   -- 10,000×A
   abbrev metered : Num
-  metered = # (pos 10000) :* A (c .pre)
+  metered = # (pos 10000) :* A (entry-room (c .pre))
 
   -- 10,000 - H
   abbrev rate : Num
-  rate = # (pos 10000) :- H (c .pre)
+  rate = # (pos 10000) :- H (entry-room (c .pre))
 
   -- A×(10,000 - H)
   abbrev lost : Num
-  lost = A (c .pre) :* rate
+  lost = A (entry-room (c .pre)) :* rate
 
 -- an entry of kind k adds what its kind adds
 told : (r : Entry) (k : Kind) → r .kind ≡ k → {z : ℤ} → z ≡ accountedAs k (r .A) (r .H) → z ≡ accounted r

@@ -1,43 +1,45 @@
 -- `formula::deviation::deviation` meets its contract: each kind has its formula.
 use mathlib.Core.Path.{_≡_, refl, sym, _∙_, ap}
 use lib.IntN.{ℤ}
-use Rattle.whole.proofs.Machine.{result, stored, back}
+use mir.Syntax.{w64}
+use mir.Val.{SFits}
+use native.Mathlib.Omega.{arith}
+use borrow.Author.Needs.{sfits-of}
+use Rattle.whole.proofs.Machine.{back, read-back}
 use Rattle.rules.specs.declared.Kind.{Kind}
 use Rattle.rules.specs.Record.{Entry}
 use Rattle.rules.specs.Deviation.{deviationAs, deviation}
-use Rattle.rules.specs.Inner.Kept.{EntryKept}
-use Rattle.rules.proofs.Bounds.{deviation-under}
 use Rattle.formula.proofs.deviation.deviation.Statement.{statement}
 use Rattle.formula.proofs.deviation.deviation.Tie as tie
 
 -- what the call for the entry's kind gave is the entry's deviation, and it is read back whole
-told : (r : Entry) → EntryKept r → (k : Kind) → r .kind ≡ k → (d : ℤ) → d ≡ deviationAs r k → back d ≡ deviation r
+told : (r : Entry) (k : Kind) → r .kind ≡ k → (d : ℤ) → SFits w64 d → d ≡ deviationAs r k → back d ≡ deviation r
 unfolding deviation
-told r kept k e d f = stored (result (f ∙ sym (ap (deviationAs r) e)) (deviation-under kept)) tt
+told r k e d ok f = read-back ok ∙ f ∙ sym (ap (deviationAs r) e)
 
 -- Kind::Generator => generator_deviation(r)
 returns : tie.Need-returns
-returns c = told _ (c .before .before .before .pre) _ (c .before .enum-told .given .1) _ (c .generator-deviation .ensures)
+returns c = told _ _ (c .before .enum-told .given .1) _ (sfits-of (c .generator-deviation .ok)) (c .generator-deviation .ensures)
 
 -- Kind::RealTimeLoad => load_deviation(r)
 returns-2 : tie.Need-returns-2
-returns-2 c = told _ (c .before .before .before .pre) _ (c .before .enum-told2 .given .1) _ (c .load-deviation .ensures)
+returns-2 c = told _ _ (c .before .enum-told2 .given .1) _ (sfits-of (c .load-deviation .ok)) (c .load-deviation .ensures)
 
 -- Kind::ProfileLoad => load_deviation(r)
 returns-3 : tie.Need-returns-3
-returns-3 c = told _ (c .before .before .before .pre) _ (c .before .enum-told3 .given .1) _ (c .load-deviation2 .ensures)
+returns-3 c = told _ _ (c .before .enum-told3 .given .1) _ (sfits-of (c .load-deviation2 .ok)) (c .load-deviation2 .ensures)
 
 -- Kind::Import => import_deviation(r)
 returns-4 : tie.Need-returns-4
-returns-4 c = told _ (c .before .before .before .pre) _ (c .before .enum-told4 .given .1) _ (c .import-deviation .ensures)
+returns-4 c = told _ _ (c .before .enum-told4 .given .1) _ (sfits-of (c .import-deviation .ok)) (c .import-deviation .ensures)
 
 -- Kind::Export => export_deviation(r)
 returns-5 : tie.Need-returns-5
-returns-5 c = told _ (c .before .before .before .pre) _ (c .before .enum-told5 .given .1) _ (c .export-deviation .ensures)
+returns-5 c = told _ _ (c .before .enum-told5 .given .1) _ (sfits-of (c .export-deviation .ok)) (c .export-deviation .ensures)
 
 -- Kind::Unknown => 0
 returns-6 : tie.Need-returns-6
-returns-6 c = told _ (c .before .before .pre) _ (c .enum-told6 .given .1) _ refl
+returns-6 c = told _ _ (c .enum-told6 .given .1) _ (omega arith) refl
 
 -- Kind::Generator
 enum-told : tie.Need-enum-told

@@ -1,0 +1,4 @@
+-- What the proofs of `tenminutes` share: where a file's words lie, a member's nets, record by record, and what the checks tell.
+pub mod Inside
+pub mod Adding
+pub mod Settled

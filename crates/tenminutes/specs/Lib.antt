@@ -1,0 +1,3 @@
+-- What the contracts of `tenminutes` cite beside `rules`.
+pub mod Room
+pub mod HandedOut
