@@ -31,6 +31,7 @@ pub mod Said
 pub mod OwnHour
 pub mod Stated
 pub mod PartsCut
+pub mod SheetLines
 pub mod Sheet
 pub mod Told
 pub mod Writing
@@ -45,3 +46,4 @@ pub mod IntervalTables
 pub mod IntervalsKept
 pub mod IntervalBounds
 pub mod TenMinutes
+pub mod TenMinutesSheet

@@ -7,11 +7,10 @@ use native.Mathlib.Omega.{arith}
 use lib.Dec.{ltb}
 use lib.IntN.{ℤ, pos, negsuc, negℤ, natAbs}
 use borrow.Author.Tests.{ltb-true, ltb-false}
-use Rattle.whole.specs.Signed.{withSignOf}
 use Rattle.whole.proofs.Tests.{split}
 use Rattle.whole.proofs.Linear.{zr, all1, all2}
 use Rattle.whole.proofs.Division.{div-low, div-high}
-use Rattle.rules.specs.Charge.{grainsPerCent, nearestCent, cents}
+use Rattle.rules.specs.Charge.{grainsPerCent, nearestCent, centsOf, cents}
 use Rattle.rules.specs.Promised.Rounding.{twiceOff, Nearest, Rounding}
 
 -- ---- of an amount that isn't below zero
@@ -76,7 +75,7 @@ turned parts a z near = record {
 }
 
 every-unit : (parts : ℕ) → 0 < parts → (amount whole : ℤ) →
-    (whole ≡ withSignOf amount (nearestCent parts (natAbs amount))) ↔ Nearest parts amount whole
+    (whole ≡ centsOf parts amount) ↔ Nearest parts amount whole
 every-unit parts some-part (pos n) z = from-zero parts some-part n z
 every-unit parts some-part (negsuc n) z = let above = from-zero parts some-part (suc n) (negℤ z) in (
   λ e. rw twice-turned at (turned parts (pos (suc n)) (negℤ z) (above .0 (ap negℤ e ∙ twice-turned _))),

@@ -17,7 +17,7 @@ use Rattle.rules.specs.HourFile.{lengthBad, hourOf, blockWord, hourIn}
 use Rattle.rules.specs.Refusals.{Verdict, accepted, refusedAt, verdict, Buffers, badLength, tooShort, blockRows, formRows, fileRows}
 use Rattle.rules.specs.Refusals.{hourRows, settleRows}
 use Rattle.rules.specs.Settling.{isAccepted}
-use Rattle.rules.specs.Statement.{firstLine, column, memberLine, memberLines, acceptedLines, refusedLine, statement}
+use Rattle.rules.specs.Statement.{firstLine, column, memberLine, memberLines, sheetOf, acceptedLines, refusedLine, statement}
 use Rattle.rules.specs.Inner.Kept.{HourKept, FileKept}
 use Rattle.rules.proofs.Rows.{accepts-when-whole, hour-numbered, zero-accepts, last-decides-nothing}
 use Rattle.rules.proofs.Kept.{passed-kept}
@@ -65,28 +65,32 @@ pub member-line-length : (m : ℕ) (c f : ℤ) → length (memberLine m c f) ≡
 unfolding memberLine
 member-line-length m c f = simp length-append (omega (arith, column-width c, column-width f))
 
-module _ (h : Hour) where
-  pub member-lines-length : (m : ℕ) → length (memberLines h m) ≡ 33 * m
-  unfolding memberLines
-  member-lines-length zero = refl
-  member-lines-length (suc m) =
-      length-append (memberLines h m) (memberLine m (charge h m) (final h m))
-      ∙ omega (arith, member-lines-length m, member-line-length m (charge h m) (final h m))
+pub member-lines-length : (line : ℕ → List ℕ) (width : ℕ) → ((m : ℕ) → length (line m) ≡ width) → (m : ℕ) →
+    length (memberLines line m) ≡ width * m
+unfolding memberLines
+member-lines-length line width each zero = omega arith
+member-lines-length line width each (suc m) =
+    length-append (memberLines line m) (line m) ∙ omega (arith, member-lines-length line width each m, each m)
 
+module _ (h : Hour) where
   -- an hour number of 32 bits has at most ten digits, members have two, records three
-  pub first-line-most : HourKept h → hourNumber h < 2 ^ 32 → length (firstLine (hourNumber h) (members h) (h .count)) ≤ 39
+  pub first-line-most : members h ≤ 99 → h .count ≤ 999 → hourNumber h < 2 ^ 32 → length (firstLine (hourNumber h) (members h) (h .count)) ≤ 39
   unfolding firstLine
-  first-line-most kept n = simp length-append (omega (
+  first-line-most few-members few-records n = simp length-append (omega (
     arith,
     decimal-length-at-most (hourNumber h) 9 (omega arith),
-    decimal-length-at-most (members h) 1 (omega (arith, kept .members-most)),
-    decimal-length-at-most (h .count) 2 (omega (arith, kept .count-most)),
+    decimal-length-at-most (members h) 1 (omega arith),
+    decimal-length-at-most (h .count) 2 (omega arith),
   ))
 
   pub accepted-lines-most : HourKept h → hourNumber h < 2 ^ 32 → length (acceptedLines h) ≤ 1095
-  unfolding acceptedLines
-  accepted-lines-most kept n = rw length-append
-      (omega (arith, first-line-most kept n, member-lines-length (members h), kept .members-most))
+  unfolding sheetOf
+  accepted-lines-most kept n = rw length-append (omega (
+    arith,
+    first-line-most (omega (arith, kept .members-most)) (omega (arith, kept .count-most)) n,
+    member-lines-length (λ m. memberLine m (charge h m) (final h m)) 33 (λ m. member-line-length m (charge h m) (final h m)) (members h),
+    kept .members-most,
+  ))
 
 pub refused-line-most : (v : Verdict) → length (refusedLine v) ≤ 53
 unfolding refusedLine

@@ -3,8 +3,9 @@
 use mathlib.Core.Path.{_≡_, refl, sym, _∙_, ap, ap₂}
 use mathlib.Core.Bool.{Bool, true, not, _&&_}
 use mathlib.Core.Option.{Option, none, some, Option·some-injective}
-use mathlib.Core.List.{List, [], _∷_}
+use mathlib.Core.List.{List, [], _∷_, _++_, append-assoc, append-nil}
 use Prim.Native.Nat.{ℕ, _+_, _-_, _*_, _/_, _^_, _≤_, _<_}
+use native.Mathlib.Nat.{mul-le-mul-right}
 use native.Mathlib.Omega.{arith}
 use lib.Dec.{ltb, leb, eqb}
 use lib.IntN.{ℤ, pos, natAbs}
@@ -18,12 +19,12 @@ use Rattle.rules.specs.Record.{Hour, hourNumber, members, areas}
 use Rattle.rules.specs.Charge.{charge}
 use Rattle.rules.specs.Neutrality.{hourDemand, neutrality, final}
 use Rattle.rules.specs.HourFile.{hourly, lengthBad, word, blocks, blockWord, recordCount, hourOf, hourIn}
-use Rattle.rules.specs.Ranges.{firstBroken}
+use Rattle.rules.specs.Ranges.{firstBroken, Form, hourlyForm, tenMinutesForm}
 use Rattle.rules.specs.Refusals.{Row, row, Verdict, accepted, refusedAt, verdict, placeZeroIf, Buffers}
 use Rattle.rules.specs.Refusals.{blockRows, wordRows, comparisonRows, sumRows, formRows, fileRows, hourRows}
 use Rattle.rules.specs.Refusals.{badLength, badSum, badBlock, badHead, badRecord, aboveMaximum, badArea, badAmount, noDemand}
 use Rattle.rules.specs.Settling.{ReadAmount, isAccepted, filled, settle, read}
-use Rattle.rules.specs.Statement.{firstLine, acceptedLines, refusedLine, statement}
+use Rattle.rules.specs.Statement.{firstLine, sheetOf, refusedLine, statement}
 use Rattle.rules.specs.Promised.Finals.{chargeColumn, finalColumn, SameSheet, ShowsOutcome, AreBytes, Sheet}
 use Rattle.rules.specs.Promised.Lines.{lineAt, wordAt, naturalIn, SaysRefused}
 use Rattle.rules.specs.Promised.Demands.{Accepts}
@@ -55,13 +56,30 @@ zero-small b p e = let z : 0 ≡ p = Option·some-injective 0 p (if-some b (some
 pub first-small : (q : ℕ → Bool) (n : ℕ) → n ≤ 10 ^ 20 → (p : ℕ) → firstBelow q n ≡ some p → p < 10 ^ 20
 first-small q n l p e = let f = first-some q n p .0 e in omega (arith, f .0)
 
-module _ (s : List ℕ) (b : AreBytes s) where
-  count-small : length s ≤ 13312 → hourIn s .count ≤ 10 ^ 20
+-- rows 1 to 5 of either kind of file
+module _ (form : Form) (s : List ℕ) (b : AreBytes s) (few : length s ≤ 13312) (most : form .layout .records ≤ 120) where
+  pub count-small : hourOf (form .layout) s .count ≤ 10 ^ 20
   unfolding hourOf recordCount blocks blockWord
-  count-small l =
+  count-small =
       let n = length s / 512 in
       let held = 128 * (n - 1) + 2 in
-      cond-ind (leb n 1) 0 (10 * (n - 2) + word s held) (λ k. k ≤ 10 ^ 20) (λ t. omega arith) (λ t. omega (arith, word-most s b held))
+      cond-ind (leb n 1) 0 (form .layout .records * (n - 2) + word s held) (λ k. k ≤ 10 ^ 20) (λ t. omega arith)
+      (λ t. omega (arith, word-most s b held, mul-le-mul-right (n - 2) most))
+
+  blocks-small : blocks s ≤ 10 ^ 20
+  unfolding blocks
+  blocks-small = omega arith
+
+  form-rows-small : {rows : List Row} → SmallRows rows → SmallRows (formRows form s ++ rows)
+  unfolding formRows blockRows wordRows badLength badSum badBlock badHead badRecord firstBroken
+  form-rows-small rows =
+      small-row 1 (omega arith) (zero-small (lengthBad (form .layout) s)) (
+      small-row 2 (omega arith) (first-small _ (blocks s) blocks-small) (
+      small-row 3 (omega arith) (first-small _ (blocks s) blocks-small) (
+      small-row 4 (omega arith) (first-small _ 128 (omega arith)) (
+      small-row 5 (omega arith) (first-small _ (hourOf (form .layout) s .count) count-small) rows))))
+
+module _ (s : List ℕ) (b : AreBytes s) where
 
   head-small : (w : ℕ) → hourIn s .head w ≤ 10 ^ 20
   unfolding hourOf blockWord
@@ -69,30 +87,27 @@ module _ (s : List ℕ) (b : AreBytes s) where
       (λ t. omega (arith, word-most s b (128 * 0 + w)))
       (λ t. omega arith)
 
-  blocks-small : length s ≤ 13312 → blocks s ≤ 10 ^ 20
-  unfolding blocks
-  blocks-small l = omega arith
-
   rows-small : length s ≤ 13312 → SmallRows (hourRows s)
-  unfolding hourRows fileRows formRows blockRows wordRows comparisonRows sumRows badLength badSum badBlock badHead badRecord aboveMaximum
-      badArea badAmount noDemand firstBroken
+  unfolding hourRows fileRows comparisonRows sumRows aboveMaximum badArea badAmount noDemand
   rows-small l =
       let h = hourIn s in
-      small-row 1 (omega arith) (zero-small (lengthBad hourly s)) (
-      small-row 2 (omega arith) (first-small _ (blocks s) (blocks-small l)) (
-      small-row 3 (omega arith) (first-small _ (blocks s) (blocks-small l)) (
-      small-row 4 (omega arith) (first-small _ 128 (omega arith)) (
-      small-row 5 (omega arith) (first-small _ (h .count) (count-small l)) (
-      small-row 14 (omega arith) (first-small _ (h .count) (count-small l)) (
+      let small = form-rows-small hourlyForm s b l (omega arith) in
+      let count = count-small hourlyForm s b l (omega arith) in
+      rw (append-assoc (formRows hourlyForm s) (comparisonRows h) (sumRows h)) (small (
+      small-row 14 (omega arith) (first-small _ (h .count) count) (
       small-row 6 (omega arith) (first-small _ (areas h) (head-small 11)) (
       small-row 7 (omega arith) (first-small _ (members h) (head-small 9)) (
-      small-row 12 (omega arith) (zero-small (eqb (hourDemand h) 0 && not (eqb (natAbs (neutrality h)) 0))) no-row))))))))
+      small-row 12 (omega arith) (zero-small (eqb (hourDemand h) 0 && not (eqb (natAbs (neutrality h)) 0))) no-row)))))
 
   -- a file that is too long has place 0; of the others every place is small
   pub hour-small : Small (verdict (hourRows s))
   hour-small = split (ltb 13312 (length s))
       (λ t. rw (too-long-refused s (ltb-true 13312 (length s) t)) (omega arith, omega arith))
       (λ t. verdict-small (rows-small (ltb-false 13312 (length s) t)))
+
+-- the same of a ten-minute file
+pub form-small : (s : List ℕ) → AreBytes s → length s ≤ 13312 → Small (verdict (formRows tenMinutesForm s))
+form-small s b l = verdict-small (rw append-nil at (form-rows-small tenMinutesForm s b l (omega arith) no-row))
 
 -- ---- a refusal is told
 
@@ -112,7 +127,7 @@ module _ (v w : Verdict) (a : Small v) (b : Small w) (e : refusedLine v ≡ refu
 -- ---- an accepted hour's text begins with h, a refusal's with r
 
 begins-accepted : (s : List ℕ) → verdict (hourRows s) ≡ accepted → getD (statement s) 0 0 ≡ 104
-unfolding acceptedLines firstLine
+unfolding sheetOf firstLine
 begins-accepted s e = rw (statement-accepted s e)
 
 begins-refused : (s : List ℕ) → (verdict (hourRows s) .number ≡ 0 → ⊥) → getD (statement s) 0 0 ≡ 114

@@ -10,6 +10,7 @@ ghost use Rattle.writer.specs.Lists.{hourOfLists};
 use examine::search;
 use examine::search::Source;
 use rules::Answer;
+use rules::Mode;
 
 // ---- refusal 1: the lists
 
@@ -45,7 +46,7 @@ pub fn first_refusal(head: &[u32], records: &[u32], room: usize) -> Answer
         return Answer::BadLength;
     }
     let bytes = [0u8; 1];
-    let answer = search::examine_hour(Source::Lists, &bytes[..0], head, records);
+    let answer = search::examine_hour(Mode::Hourly, Source::Lists, &bytes[..0], head, records);
     let Answer::Accepted = answer else {
         return answer;
     };

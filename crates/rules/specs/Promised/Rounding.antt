@@ -4,8 +4,7 @@ use Prim.Native.Nat.{ℕ, _*_, _≤_, _<_}
 use mathlib.Core.Path.{_≡_}
 use mathlib.Core.Logic.{_↔_}
 use lib.IntN.{ℤ, pos, natAbs, _-ℤ_, _*ℤ_}
-use Rattle.whole.specs.Signed.{withSignOf}
-use Rattle.rules.specs.Charge.{grainsPerCent, nearestCent, cents}
+use Rattle.rules.specs.Charge.{grainsPerCent, centsOf, cents}
 
 module _ (parts : ℕ) (amount whole : ℤ) where
   -- twice the distance from the exact amount, in parts
@@ -24,6 +23,6 @@ module _ (parts : ℕ) (amount whole : ℤ) where
 pub record Rounding : Type 0 where
   -- exactly one whole number is nearest, whatever the unit: the definition's
   pub every-unit : (parts : ℕ) → 0 < parts → (amount whole : ℤ) →
-      (whole ≡ withSignOf amount (nearestCent parts (natAbs amount))) ↔ Nearest parts amount whole
+      (whole ≡ centsOf parts amount) ↔ Nearest parts amount whole
   -- a charge
   pub charged : (amount whole : ℤ) → (whole ≡ cents amount) ↔ Nearest grainsPerCent amount whole
