@@ -80,7 +80,6 @@ module _ (form : Form) (s : List ℕ) (b : AreBytes s) (few : length s ≤ 13312
       small-row 5 (omega arith) (first-small _ (hourOf (form .layout) s .count) count-small) rows))))
 
 module _ (s : List ℕ) (b : AreBytes s) where
-
   head-small : (w : ℕ) → hourIn s .head w ≤ 10 ^ 20
   unfolding hourOf blockWord
   head-small w = cond-ind (leb 8 w && ltb w 128) (word s (128 * 0 + w)) 0 (λ n. n ≤ 10 ^ 20)

@@ -17,14 +17,14 @@ head-rule-requires c κs = tt
 enum-told-2 : tie.Need-enum-told-2
 enum-told-2 c = c .match .keys2
 
-ten-minutes-head-rule-requires : tie.Need-ten-minutes-head-rule-requires
-ten-minutes-head-rule-requires c κs = tt
+head-rule-requires-2 : tie.Need-head-rule-requires-2
+head-rule-requires-2 c κs = tt
 
 returns : tie.Need-returns
 returns c = rw (c .before .enum-told .given .1) (c .head-rule .ensures)
 
 returns-2 : tie.Need-returns-2
-returns-2 c = rw (c .before .enum-told2 .given .1) (c .ten-minutes-head-rule .ensures)
+returns-2 c = rw (c .before .enum-told2 .given .1) (c .head-rule2 .ensures)
 
 pub head-rule-of-spec : {M : Type 1} → statement M
-head-rule-of-spec = tie.close (tie.spec enum-told head-rule-requires enum-told-2 ten-minutes-head-rule-requires returns returns-2)
+head-rule-of-spec = tie.close (tie.spec enum-told head-rule-requires enum-told-2 head-rule-requires-2 returns returns-2)

@@ -14,14 +14,14 @@ record-keeps-requires c κs = tt
 enum-told-2 : tie.Need-enum-told-2
 enum-told-2 c = c .match .keys2
 
-ten-minutes-keeps-requires : tie.Need-ten-minutes-keeps-requires
-ten-minutes-keeps-requires c κs = tt
+record-keeps-requires-2 : tie.Need-record-keeps-requires-2
+record-keeps-requires-2 c κs = tt
 
 returns : tie.Need-returns
 returns c = rw (c .before .enum-told .given .1) (c .record-keeps .ensures)
 
 returns-2 : tie.Need-returns-2
-returns-2 c = rw (c .before .enum-told2 .given .1) (c .ten-minutes-keeps .ensures)
+returns-2 c = rw (c .before .enum-told2 .given .1) (c .record-keeps2 .ensures)
 
 pub record-keeps-as-spec : {M : Type 1} → statement M
-record-keeps-as-spec = tie.close (tie.spec enum-told record-keeps-requires enum-told-2 ten-minutes-keeps-requires returns returns-2)
+record-keeps-as-spec = tie.close (tie.spec enum-told record-keeps-requires enum-told-2 record-keeps-requires-2 returns returns-2)

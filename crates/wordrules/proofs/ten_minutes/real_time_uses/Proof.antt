@@ -1,8 +1,8 @@
--- `wordrules::real_time_uses` meets its contract: the row by its tests.
+-- `wordrules::ten_minutes::real_time_uses` meets its contract: the row by its tests.
 use borrow.Author.Tests.{lt-ltb, le-ltb, eq-eqb, ne-eqb}
 use Rattle.rules.proofs.IntervalTables.{real-time-uses}
-use Rattle.wordrules.proofs.real_time_uses.Statement.{statement}
-use Rattle.wordrules.proofs.real_time_uses.Tie as tie
+use Rattle.wordrules.proofs.ten_minutes.real_time_uses.Statement.{statement}
+use Rattle.wordrules.proofs.ten_minutes.real_time_uses.Tie as tie
 
 returns : tie.Need-returns
 returns c = rw real-time-uses (simp (lt-ltb _ _ (c .if1 .taken)))

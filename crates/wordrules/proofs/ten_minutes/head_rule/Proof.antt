@@ -1,10 +1,10 @@
--- `wordrules::ten_minutes_head_rule` meets its contract: the tests are the definition's.
+-- `wordrules::ten_minutes::head_rule` meets its contract: the tests are the definition's.
 use mathlib.Core.Path.{_∙_}
 use borrow.Author.Needs.{needs}
 use borrow.Author.Tests.{lt-ltb, le-ltb}
 use Rattle.rules.specs.Ranges.{tenMinutesHeadRule}
-use Rattle.wordrules.proofs.ten_minutes_head_rule.Statement.{statement}
-use Rattle.wordrules.proofs.ten_minutes_head_rule.Tie as tie
+use Rattle.wordrules.proofs.ten_minutes.head_rule.Statement.{statement}
+use Rattle.wordrules.proofs.ten_minutes.head_rule.Tie as tie
 
 -- return Rule::Any
 returns : tie.Need-returns
@@ -75,5 +75,5 @@ returns-7 c = simp (
   le-ltb _ _ (c .if5 .left),
 )
 
-pub ten-minutes-head-rule-spec : {M : Type 1} → statement M
-ten-minutes-head-rule-spec = tie.close (tie.spec returns counts-rule-requires returns-2 returns-3 zone-rule-requires returns-4 returns-5 returns-6 returns-7)
+pub head-rule-spec : {M : Type 1} → statement M
+head-rule-spec = tie.close (tie.spec returns counts-rule-requires returns-2 returns-3 zone-rule-requires returns-4 returns-5 returns-6 returns-7)

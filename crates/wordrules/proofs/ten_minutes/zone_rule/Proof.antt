@@ -1,8 +1,8 @@
--- `wordrules::zone_rule` meets its contract: the tests are the definition's.
+-- `wordrules::ten_minutes::zone_rule` meets its contract: the tests are the definition's.
 use mathlib.Core.Bool.{and-false}
 use borrow.Author.Tests.{lt-ltb, le-ltb, eq-eqb, ne-eqb}
-use Rattle.wordrules.proofs.zone_rule.Statement.{statement}
-use Rattle.wordrules.proofs.zone_rule.Tie as tie
+use Rattle.wordrules.proofs.ten_minutes.zone_rule.Statement.{statement}
+use Rattle.wordrules.proofs.ten_minutes.zone_rule.Tie as tie
 
 returns : tie.Need-returns
 returns c = simp (lt-ltb _ _ (c .before .if1 .taken), eq-eqb _ _ (c .if2 .taken))

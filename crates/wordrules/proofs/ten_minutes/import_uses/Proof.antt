@@ -1,8 +1,8 @@
--- `wordrules::interval_import_uses` meets its contract: the row by its tests.
+-- `wordrules::ten_minutes::import_uses` meets its contract: the row by its tests.
 use borrow.Author.Tests.{lt-ltb, le-ltb, eq-eqb, ne-eqb}
 use Rattle.rules.proofs.IntervalTables.{import-uses}
-use Rattle.wordrules.proofs.interval_import_uses.Statement.{statement}
-use Rattle.wordrules.proofs.interval_import_uses.Tie as tie
+use Rattle.wordrules.proofs.ten_minutes.import_uses.Statement.{statement}
+use Rattle.wordrules.proofs.ten_minutes.import_uses.Tie as tie
 
 returns : tie.Need-returns
 returns c = rw import-uses (simp (lt-ltb _ _ (c .if1 .taken)))
@@ -19,5 +19,5 @@ returns-4 c = rw import-uses (simp (le-ltb _ _ (c .before .before .before .if1 .
 returns-5 : tie.Need-returns-5
 returns-5 c = rw import-uses (simp (le-ltb _ _ (c .before .before .before .if1 .left), le-ltb _ _ (c .before .before .if2 .left), le-ltb _ _ (c .before .if3 .left), le-ltb _ _ (c .if4 .left)))
 
-pub interval-import-uses-spec : {M : Type 1} → statement M
-interval-import-uses-spec = tie.close (tie.spec returns returns-2 returns-3 returns-4 returns-5)
+pub import-uses-spec : {M : Type 1} → statement M
+import-uses-spec = tie.close (tie.spec returns returns-2 returns-3 returns-4 returns-5)

@@ -1,8 +1,8 @@
--- `wordrules::profile_uses` meets its contract: the row by its tests.
+-- `wordrules::ten_minutes::profile_uses` meets its contract: the row by its tests.
 use borrow.Author.Tests.{lt-ltb, le-ltb, eq-eqb, ne-eqb}
 use Rattle.rules.proofs.IntervalTables.{profile-uses}
-use Rattle.wordrules.proofs.profile_uses.Statement.{statement}
-use Rattle.wordrules.proofs.profile_uses.Tie as tie
+use Rattle.wordrules.proofs.ten_minutes.profile_uses.Statement.{statement}
+use Rattle.wordrules.proofs.ten_minutes.profile_uses.Tie as tie
 
 returns : tie.Need-returns
 returns c = rw profile-uses (simp (lt-ltb _ _ (c .if1 .taken)))

@@ -1,12 +1,12 @@
--- `wordrules::interval_uses` meets its contract: the row of each of the five kinds.
+-- `wordrules::ten_minutes::uses` meets its contract: the row of each of the five kinds.
 use mathlib.Core.Path.{sym, _∙_}
 use borrow.Author.Needs.{needs}
 use Rattle.rules.specs.Record.{kindOf}
 use Rattle.rules.specs.Ranges.{tenMinutesRulesOf, keeps}
 use Rattle.rules.proofs.RuleTables.{kind-unknown}
 use Rattle.rules.proofs.IntervalTables.{generator-uses}
-use Rattle.wordrules.proofs.interval_uses.Statement.{statement}
-use Rattle.wordrules.proofs.interval_uses.Tie as tie
+use Rattle.wordrules.proofs.ten_minutes.uses.Statement.{statement}
+use Rattle.wordrules.proofs.ten_minutes.uses.Tie as tie
 
 returns : tie.Need-returns
 unfolding kindOf
@@ -26,12 +26,12 @@ returns-3 : tie.Need-returns-3
 unfolding kindOf
 returns-3 c = c .profile-uses .ensures ∙ rw (c .before .if3 .taken)
 
-interval-import-uses-requires : tie.Need-interval-import-uses-requires
-interval-import-uses-requires c κs = search needs
+import-uses-requires : tie.Need-import-uses-requires
+import-uses-requires c κs = search needs
 
 returns-4 : tie.Need-returns-4
 unfolding kindOf
-returns-4 c = c .interval-import-uses .ensures ∙ rw (c .before .if4 .taken)
+returns-4 c = c .import-uses .ensures ∙ rw (c .before .if4 .taken)
 
 export-uses-requires : tie.Need-export-uses-requires
 export-uses-requires c κs = search needs
@@ -52,5 +52,5 @@ returns-6 c =
     (c .before .if4 .left)
     (c .if5 .left))
 
-pub interval-uses-spec : {M : Type 1} → statement M
-interval-uses-spec = tie.close (tie.spec returns real-time-uses-requires returns-2 profile-uses-requires returns-3 interval-import-uses-requires returns-4 export-uses-requires returns-5 returns-6)
+pub uses-spec : {M : Type 1} → statement M
+uses-spec = tie.close (tie.spec returns real-time-uses-requires returns-2 profile-uses-requires returns-3 import-uses-requires returns-4 export-uses-requires returns-5 returns-6)

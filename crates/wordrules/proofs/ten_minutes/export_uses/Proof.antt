@@ -1,8 +1,8 @@
--- `wordrules::export_uses` meets its contract: the row by its tests.
+-- `wordrules::ten_minutes::export_uses` meets its contract: the row by its tests.
 use borrow.Author.Tests.{lt-ltb, le-ltb, eq-eqb, ne-eqb}
 use Rattle.rules.proofs.IntervalTables.{export-uses}
-use Rattle.wordrules.proofs.export_uses.Statement.{statement}
-use Rattle.wordrules.proofs.export_uses.Tie as tie
+use Rattle.wordrules.proofs.ten_minutes.export_uses.Statement.{statement}
+use Rattle.wordrules.proofs.ten_minutes.export_uses.Tie as tie
 
 returns : tie.Need-returns
 returns c = rw export-uses (simp (lt-ltb _ _ (c .if1 .taken)))

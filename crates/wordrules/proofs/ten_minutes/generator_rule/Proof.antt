@@ -1,8 +1,8 @@
--- `wordrules::interval_rule` meets its contract: the row by its tests.
+-- `wordrules::ten_minutes::generator_rule` meets its contract: the row by its tests.
 use borrow.Author.Tests.{lt-ltb, le-ltb, eq-eqb, ne-eqb}
 use Rattle.rules.proofs.IntervalTables.{interval-words}
-use Rattle.wordrules.proofs.interval_rule.Statement.{statement}
-use Rattle.wordrules.proofs.interval_rule.Tie as tie
+use Rattle.wordrules.proofs.ten_minutes.generator_rule.Statement.{statement}
+use Rattle.wordrules.proofs.ten_minutes.generator_rule.Tie as tie
 
 returns : tie.Need-returns
 returns c = rw interval-words (simp (lt-ltb _ _ (c .if1 .taken)))
@@ -22,5 +22,5 @@ returns-5 c = rw interval-words (simp (le-ltb _ _ (c .before .before .before .be
 returns-6 : tie.Need-returns-6
 returns-6 c = rw interval-words (simp (le-ltb _ _ (c .before .before .before .before .if1 .left), le-ltb _ _ (c .before .before .before .if2 .left), le-ltb _ _ (c .before .before .if3 .left), le-ltb _ _ (c .before .if4 .left), le-ltb _ _ (c .if5 .left)))
 
-pub interval-rule-spec : {M : Type 1} → statement M
-interval-rule-spec = tie.close (tie.spec returns returns-2 returns-3 returns-4 returns-5 returns-6)
+pub generator-rule-spec : {M : Type 1} → statement M
+generator-rule-spec = tie.close (tie.spec returns returns-2 returns-3 returns-4 returns-5 returns-6)
