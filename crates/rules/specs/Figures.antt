@@ -3,6 +3,7 @@ pub mod Cases
 pub mod Files
 pub mod Starred
 pub mod Numbered
+pub mod Amounts
 pub mod Printed
 pub mod Limits
 pub mod Refused
