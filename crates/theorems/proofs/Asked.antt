@@ -8,6 +8,7 @@ use Rattle.sneupelaar.proofs.sneupelaar_read.Reads as sneupelaar-read
 use Rattle.writer.proofs.boundary.sneupelaar_write_hour.Reads as sneupelaar-write-hour
 use Rattle.sneupelaar.proofs.sneupelaar_body.Reads as sneupelaar-body
 use Rattle.explain.proofs.boundary.sneupelaar_explain.Reads as sneupelaar-explain
+use Rattle.tenminutes.proofs.boundary.sneupelaar_settle_ten_minutes.Reads as sneupelaar-settle-ten-minutes
 use Rattle.pool.proofs.Port.settle.Reads as settle
 use Rattle.pool.proofs.settle_unlined.Reads as settle-unlined
 use Rattle.explain.proofs.explain.Reads as explain
@@ -15,7 +16,9 @@ use Rattle.writer.proofs.write_hour.Reads as write-hour
 use Rattle.amount.proofs.write.Reads as write
 use Rattle.amount.proofs.read.Reads as read
 use Rattle.hour.proofs.body.Reads as body
+use Rattle.tenminutes.proofs.settle.Reads as settle-ten-minutes
 use Rattle.examine.proofs.examine.Reads as examine
+use Rattle.examine.proofs.examine_ten_minutes.Reads as examine-ten-minutes
 use Rattle.report.proofs.statement.put_statement.Reads as statement
 use Rattle.report.proofs.explanation.put_explanation.Reads as explanation
 use Rattle.report.proofs.written.put_written_hour.Reads as write-raw
@@ -40,6 +43,9 @@ asks-nothing-sneupelaar-body κs a = tt
 pub asks-nothing-sneupelaar-explain : (κs : Lfts 1) → AsksNothing (sneupelaar-explain.Asked κs)
 asks-nothing-sneupelaar-explain κs a = tt
 
+pub asks-nothing-sneupelaar-settle-ten-minutes : (κs : Lfts 2) → AsksNothing (sneupelaar-settle-ten-minutes.Asked κs)
+asks-nothing-sneupelaar-settle-ten-minutes κs a = tt
+
 -- ---- settling, explaining, writing, reading
 
 pub asks-nothing-settle : (κs : Lfts 6) → AsksNothing (settle.Asked κs)
@@ -62,6 +68,12 @@ asks-nothing-read κs a = tt
 
 pub asks-nothing-body : (κs : Lfts 1) → AsksNothing (body.Asked κs)
 asks-nothing-body κs a = tt
+
+pub asks-nothing-settle-ten-minutes : (κs : Lfts 2) → AsksNothing (settle-ten-minutes.Asked κs)
+asks-nothing-settle-ten-minutes κs a = tt
+
+pub asks-nothing-examine-ten-minutes : (κs : Lfts 1) → AsksNothing (examine-ten-minutes.Asked κs)
+asks-nothing-examine-ten-minutes κs a = tt
 
 pub asks-nothing-examine : (κs : Lfts 1) → AsksNothing (examine.Asked κs)
 asks-nothing-examine κs a = tt

@@ -1,6 +1,6 @@
 -- Ten-minute settlement: no second result fits the contracts, and what document 02, A7, asks, said of the contracts as their callers read
 -- them.
-use mathlib.Core.Path.{_≡_, sym, _∙_, ap, subst}
+use mathlib.Core.Path.{_≡_, refl, sym, _∙_, ap, subst}
 use mathlib.Core.List.{List}
 use Prim.Native.Nat.{ℕ}
 use lib.IntN.{ℤ}
@@ -10,7 +10,8 @@ use Rattle.rules.specs.Refusals.{verdictOf}
 use Rattle.rules.specs.TenMinutes.{TenMinutesSettlement, settleTenMinutes}
 use Rattle.rules.proofs.TenMinutes.{ten-minutes}
 use Rattle.tenminutes.specs.HandedOut.{settlement}
-use Rattle.theorems.specs.Determined.{OneResult, OneOutcome, Gives, KeepsTenMinutes}
+use Rattle.theorems.specs.Determined.{OneResult, OneOutcome, Gives}
+use Rattle.theorems.specs.Demanded.{KeepsTenMinutes}
 use Rattle.theorems.proofs.Laws.{agree, agree-answer}
 use Rattle.rules.proofs.layout_of.Reads as layout-of
 use Rattle.wordrules.proofs.head_rule_of.Reads as head-rule-of
@@ -52,8 +53,7 @@ one-sneupelaar-settle-ten-minutes κs a x y s t p q = (
 keeps : {file : List ℕ} {before : List ℤ} {r : TenMinutesSettlement} → r ≡ settleTenMinutes file before → KeepsTenMinutes file before r
 unfolding settleTenMinutes
 keeps {file} {before} e = subst (KeepsTenMinutes file before) (sym e) (record {
-  accepts = ten-minutes .accepts file before;
-  refuses = ten-minutes .refuses file before;
+  by-the-table = refl;
   unchanged = ten-minutes .changes-nothing file before;
   charged = ten-minutes .settled file before;
 })

@@ -1,4 +1,4 @@
--- What the contracts of settling, writing and explaining give: the customer's demands, stated of what was handed in, what was answered and
+-- What the contracts of settling, writing, explaining and ten-minute settling give: the customer's demands, stated of what was handed in, what was answered and
 -- what was left in the buffers.
 use mathlib.Core.Path.{_≡_}
 use mathlib.Core.Logic.{_↔_}
@@ -15,12 +15,14 @@ use Rattle.rules.specs.Refusals.{Verdict, accepted, refusedAt, verdict, Buffers
 use Rattle.rules.specs.Refusals.{blockRows, formRows, fileRows, hourRows, settleRows, explainRows, listFormRows, writeHourRows}
 use Rattle.rules.specs.Settling.{settle, noFigures, emptyLine, HourWritten}
 use Rattle.rules.specs.Explanation.{Explanation, noHeads}
+use Rattle.rules.specs.TenMinutes.{TenMinutesSettlement, tenMinutesIn, tenMinutesRows}
 use Rattle.rules.specs.Promised.Demands.{Accepts, ByFormula, FairOutcome}
 use Rattle.rules.specs.Promised.Finals.{NeutralOutcome, HeldToDemand, AreBytes}
 use Rattle.rules.specs.Promised.Writing.{lengthFor, fileIn}
 use Rattle.rules.specs.Promised.Imports.{FirstMetered}
 use Rattle.rules.specs.Promised.Engines.{HeldToMaximum}
 use Rattle.rules.specs.Promised.Deciding.{Explains}
+use Rattle.rules.specs.Promised.TenMinutes.{ChargedByInterval}
 use Rattle.rules.specs.Ranges.{hourlyForm}
 
 -- the three demands of a settling and what document 02 asks of its finals (A1), of imports (A3) and of schedules (A6), by its file, its
@@ -91,3 +93,11 @@ pub record KeepsExplaining (file : List ℕ) (member : ℕ) (e : Explanation) : 
 abbrev pub ExplainsSettled : (file : List ℕ) (after : Buffers) (handed : List ℕ) (member : ℕ) (heads : List ℤ) (decided : Option ℕ) → Type 0
 ExplainsSettled file after handed member heads decided =
     handed ≡ file → let h = hourIn file in member < members h → ExplainsOutcome h after member heads decided
+
+-- what document 02 asks of ten-minute settlement (A7), by its file and its charges before, and by what was answered and left
+pub record KeepsTenMinutes (file : List ℕ) (before : List ℤ) (r : TenMinutesSettlement) : Type 0 where
+  -- the first broken row of the table answers, and a refusal changes nothing
+  pub by-the-table : r .verdict ≡ verdict (tenMinutesRows file before)
+  pub unchanged : (r .verdict ≡ accepted → ⊥) → r .charges ≡ before
+  -- each member's charge is that of 000, D 2.1.1, rounded once, and nothing is written past the members
+  pub charged : r .verdict ≡ accepted → ChargedByInterval (tenMinutesIn file) before (r .charges)
