@@ -90,7 +90,7 @@ fn bad_head(mode: Mode, source: Source, body: &[u8], head: &[u32]) -> Found
         }
         w += 1;
     }
-    head_not_zero(source, body, head, end)
+    head_not_zero(source, body, head, w)
 }
 
 // ---- refusals 5 and 14: the records

@@ -33,6 +33,6 @@ unfolding Below.countBelow Below.sumBelow Below.totalBelow Below.valuesBelow Bel
     Refusals.noDemand Refusals.tooShort Refusals.outOfRange Refusals.tooNarrow Refusals.blockRows Refusals.wordRows Refusals.comparisonRows
     Refusals.sumRows Refusals.formRows Refusals.fileRows Refusals.hourRows Refusals.settleRows Refusals.writeAmountRows Settling.lineOf
     Settling.filled Settling.ufeFigures Settling.settle Settling.write Statement.firstLine Statement.column Statement.memberLine
-    Statement.memberLines Statement.acceptedLines Statement.statement wordBytes Deviation.importDeviation Deviation.exportDeviation sealed
+    Statement.memberLines Statement.sheetOf Statement.statement wordBytes Deviation.importDeviation Deviation.exportDeviation sealed
     everyKind longBuffers everySettlement Charge.poolTotal
 every-kind-right = record { settled = refl; pooled = refl; stated = refl }

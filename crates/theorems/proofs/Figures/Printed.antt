@@ -33,5 +33,5 @@ unfolding Below.countBelow Below.sumBelow Below.totalBelow Below.valuesBelow Bel
     Refusals.noDemand Refusals.tooShort Refusals.outOfRange Refusals.tooNarrow Refusals.blockRows Refusals.wordRows Refusals.comparisonRows
     Refusals.sumRows Refusals.formRows Refusals.fileRows Refusals.hourRows Refusals.settleRows Refusals.writeAmountRows Settling.lineOf
     Settling.filled Settling.ufeFigures Settling.settle Settling.write Statement.firstLine Statement.column Statement.memberLine
-    Statement.memberLines Statement.acceptedLines Statement.statement wordBytes printedFile usedBuffers printedSettlement
+    Statement.memberLines Statement.sheetOf Statement.statement wordBytes printedFile usedBuffers printedSettlement
 printed-right = record { settled = refl; stated = refl }

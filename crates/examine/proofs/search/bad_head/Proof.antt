@@ -23,7 +23,7 @@ use Rattle.examine.proofs.search.bad_head.Statement.{statement}
 use Rattle.examine.proofs.search.bad_head.Tie as tie
 
 abbrev Inv-loop : tie.InvT-loop
-Inv-loop mode source body head zones areas end w₀ w = (9 ≤ w) × (firstBelow (headBad mode source body head) w ≡ none)
+Inv-loop mode source body head zones areas end w₀ w = (9 ≤ w) × (w ≤ end) × (firstBelow (headBad mode source body head) w ≡ none)
 
 abbrev μ-loop : tie.MeasureT-loop
 μ-loop mode source body head zones areas end w₀ w = end - w
@@ -93,7 +93,7 @@ head-end-requires c κs = tt
 
 loop-holds : tie.Need-loop-holds Inv-loop μ-loop
 loop-holds c = let mode = c .before .before .before .before .before .args .mode in
-    (omega arith, none-below _ 9 (λ w l. mode-any _ _ mode w _ l))
+    (omega arith, rw (c .head-end .ensures) (ends mode .0), none-below _ 9 (λ w l. mode-any _ _ mode w _ l))
 
 head-word-bad-requires : tie.Need-head-word-bad-requires Inv-loop μ-loop
 head-word-bad-requires c κs = let turn = c .before in
@@ -104,7 +104,7 @@ returns : tie.Need-returns Inv-loop μ-loop
 returns c file records body-is =
     let turn = turn-of (c .before) in
     let broken = sym (told-here (c .before)) ∙ c .if1 .taken in
-    sym (row-is turn file records body-is ∙ first-hit (bad turn) (turn .loop .w) 128 (turn .loop .inv .1) broken
+    sym (row-is turn file records body-is ∙ first-hit (bad turn) (turn .loop .w) 128 (turn .loop .inv .2) broken
     (omega (arith, c .before .before .loop-test .taken, end-is turn, ends (mode turn))))
 
 -- w += 1
@@ -117,19 +117,20 @@ loop-less c = omega arith
 loop-again : tie.Need-loop-again Inv-loop μ-loop
 loop-again c =
     let turn = turn-of (c .before) in
-    (omega arith, first-next (bad turn) (turn .loop .w) (turn .loop .inv .1) (sym (told-here (c .before)) ∙ c .if1 .left))
+    (omega arith, omega arith, first-next (bad turn) (turn .loop .w) (turn .loop .inv .2) (sym (told-here (c .before)) ∙ c .if1 .left))
 
 head-not-zero-requires : tie.Need-head-not-zero-requires Inv-loop μ-loop
 head-not-zero-requires c κs = let turn = c .before in
-    (given turn .pre, omega (arith, end-is turn, ends (mode turn)))
+    (given turn .pre, omega (arith, turn .loop .inv .0))
 
--- head_not_zero(source, body, head, end)
+-- head_not_zero(source, body, head, w)
 returns-2 : tie.Need-returns-2 Inv-loop μ-loop
 returns-2 c file records body-is =
     let turn = c .before .before in
-    let passed = first-less (bad turn) _ (headEnd (mode turn)) (turn .loop .inv .1) (omega (arith, c .before .loop-test .left, end-is turn)) in
+    let at-end : turn .loop .w ≡ headEnd (mode turn) = omega (arith, turn .loop .inv .1, c .before .loop-test .left, end-is turn) in
+    let passed = rw at-end at (turn .loop .inv .2) in
     c .head-not-zero .ensures
-    ∙ ap (λ (from : ℕ). firstBelow (λ w. leb from w && not (eqb (wordBy (source turn) (body turn) (head turn) (w - 8)) 0)) 128) (end-is turn)
+    ∙ ap (λ (from : ℕ). firstBelow (λ w. leb from w && not (eqb (wordBy (source turn) (body turn) (head turn) (w - 8)) 0)) 128) at-end
     ∙ sym (first-rest (bad turn) _ (headEnd (mode turn)) 128 passed (λ w l. rw (lt-leb (headEnd (mode turn)) w l)) (λ w l m. rest-zero turn w l))
     ∙ sym (row-is turn file records body-is)
 
