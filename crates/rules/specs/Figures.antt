@@ -11,4 +11,4 @@ pub mod Written
 pub mod Unwritten
 pub mod EveryKind
 pub mod FiveHeads
-pub mod TenMinutes
+pub mod EveryInterval

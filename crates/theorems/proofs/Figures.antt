@@ -8,4 +8,4 @@ pub mod Refused
 pub mod Written
 pub mod EveryKind
 pub mod FiveHeads
-pub mod TenMinutes
+pub mod EveryInterval

@@ -39,27 +39,27 @@ module _ (w : ℕ → ℕ) (b : ℕ) where
   abbrev pub adj : ℤ
   adj = whole (signed (w (13 + b)))
 
-  abbrev pub a/s : ℤ
-  a/s = whole (pos (w (19 + b)))
+  abbrev pub ancillary : ℤ
+  ancillary = whole (pos (w (19 + b)))
 
   unfoldable pub beepGenDev : ℤ
   beepGenDev = let Gsb = beepSchedule (pos (w 3)) (pos (w 4)) (pos (w 5)) b in let GMMf = pos (w 6) in let GMMa = pos (w 7) in
-      Gsb *ℤ GMMf -ℤ ((metered -ℤ adj) *ℤ GMMa -ℤ inUnits a/s)
+      Gsb *ℤ GMMf -ℤ ((metered -ℤ adj) *ℤ GMMa -ℤ inUnits ancillary)
 
   -- of a Participating Load, metered in the interval
   unfoldable pub beepLoadDev : ℤ
   beepLoadDev = let Lsb = beepSchedule (pos (w 3)) (pos (w 4)) (pos (w 5)) b in
-      inUnits Lsb -ℤ (inUnits (metered -ℤ adj) +ℤ inUnits a/s)
+      inUnits Lsb -ℤ (inUnits (metered -ℤ adj) +ℤ inUnits ancillary)
 
   -- of another, with Lat its hourly metered quantity
   unfoldable pub beepProfileDev : ℤ
   beepProfileDev = let Lsb = sixth (pos (w 3)) in let Lat = pos (w 8) in let La = sixth Lat in
-      inUnits Lsb -ℤ (inUnits (La -ℤ adj) +ℤ inUnits a/s)
+      inUnits Lsb -ℤ (inUnits (La -ℤ adj) +ℤ inUnits ancillary)
 
   -- the actual import is deemed to be the scheduled
   unfoldable pub beepImpDev : ℤ
   beepImpDev = let Isb = sixth (pos (w 3)) in let GMMf = pos (w 6) in let Ia = Isb in let GMMah = pos (w 7) in
-      Isb *ℤ GMMf -ℤ (Ia -ℤ adj) *ℤ GMMah +ℤ inUnits a/s
+      Isb *ℤ GMMf -ℤ (Ia -ℤ adj) *ℤ GMMah +ℤ inUnits ancillary
 
   unfoldable pub beepExpDev : ℤ
   beepExpDev = let Esb = sixth (pos (w 3)) in let Ea = metered in

@@ -10,12 +10,15 @@ use Rattle.rules.specs.HourFile
 use Rattle.rules.specs.HourWords
 use Rattle.rules.specs.Ranges
 use Rattle.rules.specs.Refusals
+use Rattle.rules.specs.Text
+use Rattle.rules.specs.Settling
+use Rattle.rules.specs.Statement
 use Rattle.rules.specs.TenMinutes as Ten
 use Rattle.rules.specs.Figures.Files.{wordBytes, sealed}
 use Rattle.rules.specs.Figures.Limits
-use Rattle.rules.specs.Figures.TenMinutes as Figures
+use Rattle.rules.specs.Figures.EveryInterval as Figures
 
-pub ten-minutes-right : Figures.TenMinutesRight
+pub every-interval-right : Figures.EveryIntervalRight
 unfolding Below.sumBelow Below.totalBelow Below.valuesBelow Below.replacingFirst Below.firstBelow orElse minℤ maxℤ Record.signed
     Record.kindOf Record.memberOf Record.areaOf Record.zoneOf Deviation.generatorUnavailable Deviation.generatorDeviation
     Deviation.loadUnavailable Deviation.loadDeviation Deviation.importDeviation Deviation.exportDeviation Deviation.deviation
@@ -26,10 +29,14 @@ unfolding Below.sumBelow Below.totalBelow Below.valuesBelow Below.replacingFirst
     Refusals.wordRows Refusals.formRows Ten.rampPart Ten.scheduledIn Ten.actualIn Ten.intervalEntry Ten.intervalOf Ten.incremental
     Ten.decremental Ten.intervalPrice Ten.netDeviation Ten.intervalCost Ten.tenMinutesAmount Ten.tenMinutesCharge Ten.tenMinutesRows
     Ten.settleTenMinutes wordBytes sealed Limits.faults Limits.ownPlaces Figures.intervalsFault Figures.intervalLimits
-    Figures.pricesFault Figures.fullPrices Figures.priceLimits Figures.everyInterval Figures.tenRefusals
-ten-minutes-right = record {
+    Figures.pricesFault Figures.fullPrices Figures.priceLimits Figures.everyInterval Figures.tenRefusals Figures.chargesStated
+    Text.digitsUpTo Text.decimal Text.amountText Text.amountField Refusals.outOfRange Refusals.tooNarrow Refusals.writeAmountRows
+    Settling.write Statement.firstLine Statement.column Statement.memberLines Statement.sheetOf Statement.refusedLine Statement.chargeLine
+    Statement.tenMinutesStatement
+every-interval-right = record {
   of-records = (refl, (refl, (refl, (refl, (refl, (refl, (refl, (refl, (refl, (refl, (refl, tt)))))))))));
   of-the-head = (refl, (refl, (refl, (refl, (refl, (refl, (refl, (refl, (refl, (refl, (refl, (refl, (refl, (refl, (refl, (refl, tt))))))))))))))));
   settled = refl;
+  stated = (refl, (refl, (refl, tt)));
   refused = (refl, (refl, (refl, (refl, (refl, (refl, (refl, (refl, (refl, tt)))))))));
 }

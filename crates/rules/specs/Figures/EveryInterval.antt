@@ -1,5 +1,5 @@
 -- Ten-minute files as figures: for each kind a record at its limits, and each of its words one past them; the same of the head; an hour with
--- every kind of record; and for each refusal a small file that breaks it, twice where it has a place, and every row after it.
+-- every kind of record; for each refusal a small file that breaks it, twice where it has a place, and every row after it; and sheets.
 -- Document 02, A7.
 use Prim.Native.Nat.{ℕ, _+_}
 use mathlib.Core.Path.{_≡_}
@@ -13,7 +13,9 @@ use Rattle.rules.specs.HourFile.{tenMinutes, lengthBad}
 use Rattle.rules.specs.HourWords.{hourFrom}
 use Rattle.rules.specs.Ranges.{keeps, tenMinutesHeadRule, tenMinutesForm}
 use Rattle.rules.specs.Refusals.{accepted, refusedAt, badHead, badWord}
+use Rattle.rules.specs.Text.{bytes}
 use Rattle.rules.specs.TenMinutes.{settleTenMinutes}
+use Rattle.rules.specs.Statement.{chargeLine, tenMinutesStatement}
 use Rattle.rules.specs.Figures.Cases.{Case, _is_, AllRight}
 use Rattle.rules.specs.Figures.Files.{block, sealed, first, plainHead}
 use Rattle.rules.specs.Figures.Limits.{Change, faults, ownPlaces, leastAdjustment, tooLow}
@@ -194,10 +196,22 @@ tenRefusals =
     ∷ refusedTen 11 0 (firstTen 0 (tenHead 100000 0))
     ∷ []
 
-pub record TenMinutesRight : Type 0 where
+-- ---- the sheet
+
+unfoldable pub chargesStated : List Case
+chargesStated =
+    tenMinutesStatement everyInterval is
+    bytes "hour 7 members 4 records 6\n00          +0.00\n01          +1.62\n02          -0.01\n03          +0.00\n"
+    ∷ tenMinutesStatement (firstTen 1 (tenHead 100001 1) ++ otherTen 1 4 0 unknownTen) is bytes "refused 4 at 48\n"
+    -- the largest sum that a member can have
+    ∷ chargeLine 31 (negℤ (pos 15360000000)) is bytes "31  -153600000.00\n"
+    ∷ []
+
+pub record EveryIntervalRight : Type 0 where
   pub of-records : AllRight intervalLimits
   pub of-the-head : AllRight priceLimits
   -- the engine that follows its ramp is charged nothing, and neither is a member without records
   pub settled : settleTenMinutes everyInterval (usedCharges 5)
       ≡ record { verdict = accepted; charges = pos 0 ∷ pos 162 ∷ negℤ (pos 1) ∷ pos 0 ∷ pos 9 ∷ [] }
   pub refused : AllRight tenRefusals
+  pub stated : AllRight chargesStated
