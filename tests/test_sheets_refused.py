@@ -270,7 +270,7 @@ class DamagedAtRandom(unittest.TestCase):
         except sheets.Unclear as unclear:
             self.assertRegex(str(unclear), rf"\A({self.SAID})")
             return "unclear"
-        written = second.written_hour(packed.words())
+        written = second.written_hour(packed.hour().words())
         if not written.startswith(b"refused"):
             return "written"
         self.assertRegex(packed.reason(*refusal_in(written)), r"\Arow [0-9]+, column [A-Z] \([a-z -]+\): .")
@@ -330,7 +330,7 @@ class RefusedByTheWriter(unittest.TestCase):
     def assert_reason(self, sheet, number, place, words):
         """The same, without starting anything."""
         packed = sheets.Packed(sheet)
-        self.assertEqual(refusal_in(second.written_hour(packed.words())), (number, place))
+        self.assertEqual(refusal_in(second.written_hour(packed.hour().words())), (number, place))
         self.assertEqual(packed.reason(number, place), words)
 
     def test_fields(self):
@@ -358,7 +358,7 @@ class RefusedByTheWriter(unittest.TestCase):
     def test_too_many_records(self):
         """The first that is one too many, also where there are many more."""
         why = "a record more than the 250 that an hour can have"
-        self.assertEqual(len(second.written_hour(sheets.Packed(sheet_of(self.of_records(250))).words())), 13_312)
+        self.assertEqual(len(second.written_hour(sheets.Packed(sheet_of(self.of_records(250))).hour().words())), 13_312)
         self.assert_refused(sheet_of(self.of_records(251)), 1, 0, f"row 264: {why}")
         self.assert_reason(sheet_of(self.of_records(5_000)), 1, 0, f"row 264: {why}")
         self.assert_reason(sheet_of(moved(self.of_records(251))), 1, 0, f"row 792: {why}")
