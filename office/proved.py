@@ -7,7 +7,7 @@ import subprocess
 import time
 
 from streams import PROGRESS, Trouble, say
-from ten_minutes import TenMinuteHour, form_of
+from ten_minute_hour import TenMinuteHour, form_of
 
 ROOT = os.path.dirname(os.path.dirname(os.path.abspath(__file__)))
 

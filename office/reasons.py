@@ -3,7 +3,7 @@ only looked up again, to say what stands there."""
 
 from hour import (ACTUAL, AREA, BLOCK_BYTES, BLOCK_WORDS, FIRST_WORD, HEAD_BYTES, KIND, KINDS, LOADS, LONGEST_WORDS, MAXIMUM, MEMBER,
                   MEMBERS, RECORD_BYTES, SCHEDULED, Hour, value_of, words_in)
-from ten_minutes import form_of
+from ten_minute_hour import form_of
 
 # The rows of text amounts and of buffers, which no file, question or sheet brings about.
 ELSEWHERE = {

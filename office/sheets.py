@@ -9,7 +9,7 @@ from collections import namedtuple
 from hour import (AREA, AREAS, FIRST_WORD, HEAD_WORDS, KIND, KINDS, MEMBER, MEMBER_COUNT, MEMBERS, MOST_AREAS, MOST_MEMBERS, SCHEDULED,
                   ZONE, ZONES, Field, Hour, value_of)
 from reasons import beyond, of_words
-from ten_minutes import TenMinuteHour, form_of
+from ten_minute_hour import TenMinuteHour, form_of
 
 MOST_BYTES = 2**20  # many times what an hour's sheet has
 SHOWN = 40  # characters of a field, in a message
