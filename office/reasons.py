@@ -80,7 +80,8 @@ def of_record(hour, index):
         if field is None and value != 0:
             return word, f"record {index} ({whose(record)}): {name} is {value} and must be 0"
         if field is not None and not field.low <= value <= field.high:
-            return word, f"record {index} ({whose(record, word)}): {name} {beyond(value, field)}"
+            between = ": " if name[-1].isdigit() else " "  # so that an interval's number is not read as part of the value
+            return word, f"record {index} ({whose(record, word)}): {name}{between}{beyond(value, field)}"
     return KIND, f"record {index} is not as its kind asks"
 
 
