@@ -180,7 +180,7 @@ def parts_of(rows, form):
         elif table is not None:
             table.rows.append((number, fields))
         else:
-            raise unclear(Place(number, 0), f"{shown(fields[0])} is none of {', '.join((*numbers, *tables))}")
+            raise unclear(Place(number, 0), f"{shown(fields[0])} is none of {', '.join((*FORMS, MEMBER_COUNT.name, *tables))}")
     for name in (*numbers, *tables):
         if name not in parts:
             raise Unclear(f"there is no row that begins with {' or '.join(map(repr, FORMS if name in FORMS else [name]))}")

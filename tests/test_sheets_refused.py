@@ -37,7 +37,7 @@ def with_row(number, *fields):
 # ---- Sheets that say no hour
 
 MANY_DIGITS = "7" * 5_000
-NO_PART = "is none of hour, members, zone, area, kind"
+NO_PART = "is none of hour, ten-minute hour, members, zone, area, kind"
 NO_HOUR = "there is no row that begins with 'hour' or 'ten-minute hour'"
 RECORD_COLUMNS = ("there are kind, member, area, scheduled, actual, adjustment, ancillary, obligation, maximum, scheduled multiplier, "
                   "hour-ahead multiplier")
