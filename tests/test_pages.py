@@ -12,7 +12,9 @@ HERE = Path(__file__).resolve().parent
 ROOT = HERE.parent
 sys.path.insert(0, str(HERE))
 import hours  # noqa: E402
+import naming  # noqa: E402
 import second  # noqa: E402
+import ten_minutes  # noqa: E402
 from answers import answer  # noqa: E402
 from scripts import load_script  # noqa: E402
 
@@ -144,6 +146,19 @@ class Pages(unittest.TestCase):
     def test_the_ten_minute_statement_of_the_format(self):
         statement = second.ten_minutes((ROOT / "examples" / "ten-minutes-1.hour").read_bytes()).decode()
         self.assertIn(f"```\n{statement}```\n", (ROOT / "docs" / "FORMAT.md").read_text())
+
+    def test_the_ten_minute_records_of_the_format(self):
+        """Each word of a record stands in one row, and each kind has a mark there or a zero as the maker of hours has it."""
+        section = naming.sections((ROOT / "docs" / "FORMAT.md").read_text())["The ten-minute file"]
+        table = [row for row in naming.rows(section) if "1 generator" in row]
+        spans = [[int(number) for number in row["word"].split(" to ")] for row in table]
+        words = [range(span[0], span[-1] + 1) for span in spans]
+        self.assertEqual([word for span in words for word in span], [*range(30)])
+        for kind, column in zip(ten_minutes.USED_WORDS, list(table[0])[3:]):
+            self.assertEqual(column[0], str(kind))
+            marked = [word for row, span in zip(table, words) for word in span if row[column] == "✓"]
+            self.assertEqual(marked, [0, 1, 2, *sorted(ten_minutes.USED_WORDS[kind])], column)
+            self.assertLessEqual({row[column] for row in table}, {"✓", "0"})
 
     def test_the_explanation_of_the_format(self):
         data = (ROOT / "examples" / "two-zones.hour").read_bytes()
