@@ -74,8 +74,10 @@ def word_unused(word):
 
 def word_too_low(word):
     """A multiplier of 0, or an adjustment below its range."""
+    under = LOWEST[LETTER_AT[word]] - 1
+
     def fault(rng, hour, blocks):
-        return spoil_record(rng, hour, blocks, lambda each: (word, LOWEST[LETTER_AT[word]] - 1) if word in USED_WORDS[each["kind"]] else None)
+        return spoil_record(rng, hour, blocks, lambda each: (word, under) if word in USED_WORDS[each["kind"]] else None)
     fault.__name__ = f"word_{word}_too_low"
     return fault
 
