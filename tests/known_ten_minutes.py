@@ -305,6 +305,7 @@ def of_blocks():
     yield refused("other-mark-3", 3, 3, words(five_blocks(), (3, 0, 3)))
     yield refused("blocks-counted", 3, 0, words(five_blocks(), (0, 2, 5)))
     yield refused("block-not-full", 3, 1, words(five_blocks(), (1, 2, 3)))
+    yield refused("block-of-three", 3, 1, words(five_blocks(), (1, 2, 3), *((1, word, 0) for word in range(98, 128))))
     yield refused("block-of-five", 3, 1, words(five_blocks(), (1, 2, 5)))
     yield refused("last-block-of-five", 3, 4, words(full_hour(16).blocks(), (4, 2, 5)))
     yield refused("last-block-empty", 3, 4, words(five_blocks(), (4, 2, 0), *((4, word, 0) for word in range(8, 128))))
