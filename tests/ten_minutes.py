@@ -114,8 +114,12 @@ def made(seed, index):
     return ROUND[index % len(ROUND)](random.Random(f"ten minutes {seed} {index}"))
 
 
-def length_for(rng, members):
-    """How many charges are lent: just enough, more, one too few, none, or any number."""
+def length_for(rng, data):
+    """How many charges are lent: just enough, more, one too few, none, or any number. Where no hour can be read, any members will do."""
+    try:
+        members = second.read_ten_minute_hour(data)["members"]
+    except second.Refused:
+        members = rng.randint(1, second.MOST_MEMBERS)
     return rng.choice([members, members, rng.randint(members, MOST_CHARGES), members - 1, members - 1, 0, rng.randint(0, MOST_CHARGES)])
 
 
