@@ -244,6 +244,16 @@ def block_too_few(rng, hour, blocks):
     return 3, 0
 
 
+def block_not_full(rng, hour, blocks):
+    """A block before the last without its last records, zeros in their place."""
+    if len(blocks) < 3:
+        return None
+    place, held = rng.randint(1, len(blocks) - 2), rng.randint(1, hour.layout.records_in_a_block - 1)
+    _, past = hour.where(held, 0)
+    blocks[place][2], blocks[place][past:] = held, [0] * (128 - past)
+    return 3, place
+
+
 def blocks_swapped(rng, hour, blocks):
     if len(blocks) < 3:
         return None
@@ -319,7 +329,7 @@ PLACED_FAULTS = tuple(map(wrong_at, PLACES))
 SUM_FAULTS = (wrong_sum, wrong_sum_by_its_highest_bit, wrong_sum_twice)
 LENGTH_FAULTS = (nothing_at_all, cut, bytes_too_many, file_too_long)
 LONE_FAULTS = (one_record_more, one_record_fewer, block_too_many, last_block_without_records, block_too_few,
-               blocks_swapped)
+               block_not_full, blocks_swapped)
 FAULTS = HOUR_FAULTS + WORD_FAULTS + SUM_FAULTS + LENGTH_FAULTS
 
 # Two faults of an area, of a sum or of the length can undo each other, and no record is an import and a generator.

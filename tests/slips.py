@@ -41,6 +41,7 @@ HOUR_SLIPS = {
     "layout before sums": (
         "    check_sums(blocks)\n    check_layout(blocks, layout)", "    check_layout(blocks, layout)\n    check_sums(blocks)"),
     "sums without their highest bit": ("sum(block) % 2**32", "sum(block) % 2**31"),
+    "fewer records before the last block": ("range(1 if last else layout.records_in_a_block, ", "range(1, "),
     "no refusal 6": ("energy != 0 and demand(hour, area) == 0", "False"),
     "lines short by one": ("min(len(lines), len(charges)", "min(len(lines) + 1, len(charges)"),
     "charges short by one": ("min(len(lines), len(charges)", "min(len(lines), len(charges) + 1"),

@@ -5,9 +5,9 @@ import itertools
 
 from faults import (COUNTS, LAYOUT_FAULTS, LENGTH_FAULTS, LONE_FAULTS, SUM_FAULTS, area_past_areas, fourth_word_of_an_area,
                     last_word_of_the_head, none_of, too_many, wrong_zone)
-from faulty_records import (PLACES, place_of, put_in_record, spoil_record, unwanted, wrong_area, wrong_kind, wrong_kind_twice, wrong_member)
-from hour_bytes import HIGHEST, LOWEST
-from ten_minute_hours import (ADJUSTMENTS, FIRST_PRICE_WORD, FORECAST, HOUR_AHEAD, LETTER_AT, MOST_INTERVAL_PRICE, PAST_PRICES, REST,
+from faulty_records import PLACES, place_of, put_in_record, spoil_record, unwanted, wrong_area, wrong_kind, wrong_kind_twice, wrong_member
+from hour_bytes import HIGHEST, LOWEST, PROFILE_LOAD
+from ten_minute_hours import (ACTUALS, ADJUSTMENTS, FIRST_PRICE_WORD, FORECAST, HOUR_AHEAD, LETTER_AT, MOST_INTERVAL_PRICE, PAST_PRICES, REST,
                               USED_WORDS)
 
 
@@ -74,10 +74,17 @@ def word_unused(word):
 
 def word_too_low(word):
     """A multiplier of 0, or an adjustment below its range."""
+    under = LOWEST[LETTER_AT[word]] - 1
+
     def fault(rng, hour, blocks):
-        return spoil_record(rng, hour, blocks, lambda each: (word, LOWEST[LETTER_AT[word]] - 1) if word in USED_WORDS[each["kind"]] else None)
+        return spoil_record(rng, hour, blocks, lambda each: (word, under) if word in USED_WORDS[each["kind"]] else None)
     fault.__name__ = f"word_{word}_too_low"
     return fault
+
+
+def reading_too_high(rng, hour, blocks):
+    """The hourly reading of a load by profile."""
+    return spoil_record(rng, hour, blocks, lambda each: (ACTUALS[0], HIGHEST["A"] + 1) if each["kind"] == PROFILE_LOAD else None)
 
 
 def word_below_zero(rng, hour, blocks):
@@ -104,7 +111,8 @@ HEAD_FAULTS = (*itertools.starmap(none_of, COUNTS), *itertools.starmap(too_many,
                fourth_word_of_an_area, area_past_areas, interval_price_too_high, interval_price_too_low, interval_price_past_zones,
                word_past_prices, last_word_of_the_head)
 RECORD_FAULTS = (wrong_kind, wrong_member, wrong_area, *map(word_too_high, LETTER_AT), *map(word_unused, [*UNUSED_BY_SOME, *REST]),
-                 *map(word_too_low, [FORECAST, HOUR_AHEAD, *ADJUSTMENTS]), word_below_zero, wrong_kind_twice, *map(wrong_at, PLACES))
+                 *map(word_too_low, [FORECAST, HOUR_AHEAD, *ADJUSTMENTS]), reading_too_high, word_below_zero, wrong_kind_twice,
+                 *map(wrong_at, PLACES))
 FAULTS = LAYOUT_FAULTS + HEAD_FAULTS + RECORD_FAULTS + SUM_FAULTS + LENGTH_FAULTS + LONE_FAULTS
 
 # Pairs of rows next to each other, of which the table's order decides, and of two faults in a row, of which the first place does.

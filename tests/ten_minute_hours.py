@@ -40,7 +40,8 @@ class TenMinuteHour(Hour):
 
 
 def interval_record(kind, member, area, **named):
-    """A record; what is left out is 0. `A`, `J` and `N` are six numbers, or one for all six; `A` of a load by profile is its hourly reading."""
+    """A record; what is left out is 0. `A`, `J` and `N` are six numbers, or one for all six; `A` of a load by profile is its hourly
+    reading."""
     words = {NAMES[name]: named.pop(name) for name in NAMES if name in named}
     for name, value in named.items():
         if name == "A" and kind == PROFILE_LOAD:

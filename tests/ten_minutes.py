@@ -114,8 +114,12 @@ def made(seed, index):
     return ROUND[index % len(ROUND)](random.Random(f"ten minutes {seed} {index}"))
 
 
-def length_for(rng, members):
-    """How many charges are lent: just enough, more, one too few, none, or any number."""
+def length_for(rng, data):
+    """How many charges are lent: just enough, more, one too few, none, or any number. Where no hour can be read, any members will do."""
+    try:
+        members = second.read_ten_minute_hour(data)["members"]
+    except second.Refused:
+        members = rng.randint(1, second.MOST_MEMBERS)
     return rng.choice([members, members, rng.randint(members, MOST_CHARGES), members - 1, members - 1, 0, rng.randint(0, MOST_CHARGES)])
 
 
@@ -134,6 +138,7 @@ class Reached:
         self.records = self.counted(data) if number in (0, 5) else 0
         self.broken = broken_words(data, self.place) if number == 5 else ()
         self.members = self.hour["members"] if self.hour else None
+        self.posted = len({each["member"] for each in self.hour["records"]}) if self.hour else None
         self.nets = [nets_of(self.hour, member) for member in range(self.members)] if self.hour else []
 
     def counted(self, data):
@@ -200,8 +205,9 @@ def deviates(kind):
 KIND_NAMES = {second.GENERATOR: "a generator", second.REAL_TIME_LOAD: "a load in real time", second.PROFILE_LOAD: "a load by profile",
               second.IMPORT: "an import", second.EXPORT: "an export"}
 HEAD_PARTS = {"the counts": range(9, 12), "the hourly prices": range(12, 16), "an area's zone": range(16, 48, 4),
-              "an area's other words": [word for word in range(16, 48) if word % 4], "an incremental price": [
-                  word for word in range(48, 96) if word % 12 < 6], "a decremental price": [word for word in range(48, 96) if word % 12 > 5],
+              "an area's other words": [word for word in range(16, 48) if word % 4],
+              "an incremental price": [word for word in range(48, 96) if word % 12 < 6],
+              "a decremental price": [word for word in range(48, 96) if word % 12 > 5],
               "the zeros past the prices": range(96, 127), "the last word": [127]}
 SIDES = {
     "1, no bytes": lambda r: r.number == 1 and r.bytes == 0,
@@ -221,7 +227,7 @@ SIDES = {
     "accepted, charges just long enough": lambda r: r.called == 0 and r.length == r.members,
     "accepted, charges to spare": lambda r: r.called == 0 and r.length > r.members,
     **{f"accepted, {count} records": lambda r, count=count: r.number == 0 and r.records == count for count in (0, 1, 4, 5, 64)},
-    "accepted, 64 records of 32 members": lambda r: r.number == 0 and r.records == 64 and len({x["member"] for x in r.hour["records"]}) == 32,
+    "accepted, 64 records of 32 members": lambda r: r.number == 0 and r.records == 64 and r.posted == 32,
     **{f"{name} deviates": lambda r, kind=kind: r.any_record(deviates(kind)) for kind, name in KIND_NAMES.items()},
     **{f"{KIND_NAMES[kind]} ramps in interval {interval}": lambda r, kind=kind, interval=interval: r.any_record(ramps(kind, interval))
        for kind in second.RAMPED for interval in (1, 6)},
