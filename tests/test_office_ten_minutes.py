@@ -124,8 +124,8 @@ class ManyHours(Case):
         """Both kinds, accepted and refused by each row."""
         reached = Counter((is_ten_minutes(data), int(statement.split()[1]) if is_refused(statement) else 0)
                           for data, statement in zip(self.files, self.statements))
-        print("\nfiles of both kinds: " + ", ".join(
-            f"{'ten minutes' if by_ten else 'hourly'}, {number or 'accepted'}: {count}" for (by_ten, number), count in sorted(reached.items())))
+        print("\nfiles of both kinds: " + ", ".join(f"{'ten minutes' if by_ten else 'hourly'}, {number or 'accepted'}: {count}"
+                                                    for (by_ten, number), count in sorted(reached.items())))
         self.assertLessEqual({(True, number) for number in range(6)} | {(False, number) for number in (0, 2, 3)}, set(reached))
 
     def test_settled(self):
@@ -137,8 +137,8 @@ class ManyHours(Case):
         self.assertEqual(asked("check", "-q", *self.paths), (REFUSED, checked(self.paths, self.statements), ""))
 
     def test_unpacked(self):
-        """Of each refusal the first ten-minute file, which has its line and no sheet; of those that are accepted ten, which are packed again
-        as the same file."""
+        """Of each refusal the first ten-minute file, which has its line and no sheet; of those that are accepted ten, which are packed
+        again as the same file."""
         seen = Counter()
         for path, data, statement in zip(self.paths, self.files, self.statements):
             number = statement.split()[1] if is_refused(statement) else 0

@@ -55,7 +55,8 @@ class Pages(unittest.TestCase):
     @staticmethod
     def ten_minute_figures(hour):
         records, intervals = hour["records"], second.INTERVALS
-        figures = [24 * of(r, interval) for r in records for interval in intervals for of in (second.interval_schedule, second.interval_actual)]
+        figures = [24 * second.interval_schedule(r, interval) for r in records for interval in intervals]
+        figures += [24 * second.interval_actual(r, interval) for r in records for interval in intervals]
         figures += [240_000 * second.interval_deviation(r, interval) for r in records for interval in intervals]
         for member in range(hour["members"]):
             for zone, prices in enumerate(hour["prices"]):
