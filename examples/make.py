@@ -1,7 +1,7 @@
 #!/usr/bin/env python3
 """Writes the example hours beside this file, their sheets, and the printed case's head and records as words: python3 examples/make.py
 
-What each hour holds is worked out by hand on the page of its name.
+What each hour holds is worked out by hand on the page of its name, and the two ten-minute hours on one page, ten-minutes.md.
 """
 
 import sys
@@ -11,6 +11,7 @@ HERE = Path(__file__).resolve().parent
 sys.path.insert(0, str(HERE.parent / "tests"))
 sys.dont_write_bytecode = True
 from hours import EXPORT, GENERATOR, IMPORT, PROFILE_LOAD, REAL_TIME_LOAD, Hour, printed_case, record  # noqa: E402
+from ten_minute_hours import TenMinuteHour, interval_record  # noqa: E402
 from to_write import taken_apart  # noqa: E402
 
 sys.path.insert(0, str(HERE.parent / "office"))
@@ -61,7 +62,37 @@ def neutrality():
         ])
 
 
+def ten_minutes_1():
+    """Every kind of record but an import; the engine and the load in real time ramp."""
+    return TenMinuteHour(
+        number=1_500, members=3, areas=[0, 1],
+        prices=[[3_000, 3_100, 3_200, 3_200, 3_400, 3_400, 2_000, 2_000, 1_900, 1_900, 2_100, 2_100],
+                [2_500, 2_500, 2_600, 2_600, 2_700, 2_700, 1_500, 1_500, 1_400, 1_400, 1_600, 1_600]],
+        records=[
+            interval_record(GENERATOR, 0, 0, S=600, before=480, next=720, F=9_800, H=9_800, A=[95, 98, 103, 100, 102, 105],
+                            N=[0, 0, 0, 0, 2, 0]),
+            interval_record(REAL_TIME_LOAD, 1, 0, S=720, before=720, next=600, A=[120, 120, 118, 123, 120, 115]),
+            interval_record(PROFILE_LOAD, 1, 1, S=300, A=330, J=[0, 5, 0, 0, 0, 0]),
+            interval_record(EXPORT, 2, 1, S=240, A=[40, 40, 42, 38, 40, 40]),
+        ])
+
+
+def ten_minutes_2():
+    """The hour after it: what each ramped record was scheduled for before is what it was scheduled for then."""
+    return TenMinuteHour(
+        number=1_501, members=3, areas=[0, 1],
+        prices=[[3_400, 3_400, 3_400, 3_400, 3_300, 3_300, 3_000, 3_000, 3_000, 2_900, 2_900, 3_000],
+                [2_500, 2_500, -400, 2_600, 2_600, 2_600, 1_500, 1_500, 1_400, 1_400, 1_600, 1_600]],
+        records=[
+            interval_record(GENERATOR, 0, 0, S=720, before=600, next=660, F=9_800, H=9_800, A=[115, 120, 121, 119, 120, 118]),
+            interval_record(REAL_TIME_LOAD, 1, 0, S=600, before=720, next=600, A=[105, 100, 100, 101, 100, 100]),
+            interval_record(IMPORT, 2, 1, S=240, F=10_000, H=9_500, J=[0, 0, 10, 0, 0, 0], N=[0, 0, 0, 0, 1, 0]),
+            interval_record(EXPORT, 2, 1, S=240, A=[38, 40, 40, 40, 40, 42]),
+        ])
+
+
 EXAMPLES = {"printed": printed_case, "two-zones": two_zones, "left-over": left_over, "neutrality": neutrality}
+TEN_MINUTES = {"ten-minutes-1": ten_minutes_1, "ten-minutes-2": ten_minutes_2}
 
 
 def printed_words():
@@ -69,7 +100,7 @@ def printed_words():
 
 
 def main():
-    for name, hour in EXAMPLES.items():
+    for name, hour in {**EXAMPLES, **TEN_MINUTES}.items():
         file = hour().encode()
         (HERE / f"{name}.hour").write_bytes(file)
         (HERE / f"{name}.csv").write_bytes(sheet_of(file))

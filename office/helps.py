@@ -14,6 +14,9 @@ HELP = """./sneupelaar settle [FILE...]        settles hour files, prints their 
 ./sneupelaar unpack [FILE] > SHEET   makes CSV of an hour file
 ./sneupelaar write [WORDS] > FILE    makes an hour file of raw words
 
+An hour file is hourly or by ten minutes, and says so itself: settle, check,
+pack and unpack take both kinds, explain and write the hourly one.
+
 Where no file is named, or -, standard input is read. Standard output has what
 the proved programs print; a refusal is `refused NUMBER at PLACE` there, and
 standard error says in words what is wrong.
@@ -29,12 +32,12 @@ HELPS = {
     "settle": """./sneupelaar settle [--quiet] [FILE...]
 
 Settles hour files and prints their statements: a line for the hour, and for
-each member its charge and its final amount. Of several files each statement
-stands under its file's name.
+each member its charge and its final amount; of a ten-minute file its charge
+alone. Of several files each statement stands under its file's name.
 
-All are settled by one program, whatever is wrong with one of them; where
-standard error is a terminal, a line there shows how many are done. Of a file
-no more is read than the longest hour file has, and a byte.
+All are answered, whatever is wrong with one of them, the hourly ones by one
+program; where standard error is a terminal, a line there shows how many are
+done. Of a file no more is read than the longest hour file has, and a byte.
 """ + STATUS,
     "check": """./sneupelaar check [--quiet] [FILE...]
 
@@ -45,7 +48,7 @@ Of several files the answers stand behind their names.
 
 Tells why a member's charge is what it is: what it is made of under five heads,
 in grains (10,000,000 are a cent), and the head that decided. Members are
-numbered from 0.
+numbered from 0. A ten-minute file has no explanation.
 """ + STATUS,
     "pack": """./sneupelaar pack [--quiet] [SHEET] > FILE
 
@@ -53,8 +56,10 @@ Makes an hour file of a sheet, as docs/SHEETS.md has it: CSV in UTF-8, with
 commas or semicolons. What is no whole number, or stands in no column, is said
 with its row and column, and nothing is written.
 
-What the sheet says is written by the proved writer. If that refuses, its line
-stands in the file's place, and standard error has the row and the column.
+The sheet says which kind of hour it is. An hourly file is written by the
+proved writer; a ten-minute file is written here, and only if the proved
+program accepts it. If that or the writer refuses, its line stands in the
+file's place, and standard error has the row and the column.
 """ + STATUS,
     "unpack": """./sneupelaar unpack [--quiet] [--semicolons] [FILE] > SHEET
 
@@ -66,7 +71,7 @@ the same file: that is tried before anything is written.
 """ + STATUS,
     "write": """./sneupelaar write [--quiet] [WORDS] > FILE
 
-Makes an hour file of a head and records, given as words of 32 bits
+Makes an hourly file of a head and records, given as words of 32 bits
 (docs/FORMAT.md, "Writing a file"). If they are refused, the refusal's line
 stands in the file's place.
 """ + STATUS}

@@ -4,16 +4,12 @@ stand there is for the proved programs to say."""
 import struct
 from collections import namedtuple
 
-BLOCK_WORDS, FIRST_WORD = 128, 8
-HEAD_WORDS, RECORD_WORDS = 120, 12
-BLOCK_BYTES, HEAD_BYTES, RECORD_BYTES = 512, 480, 48
-MOST_BLOCKS, MOST_RECORDS, BLOCK_RECORDS = 26, 250, 10
-LONGEST_FILE = MOST_BLOCKS * BLOCK_BYTES
-LONGEST_WORDS = HEAD_BYTES + MOST_RECORDS * RECORD_BYTES
+BLOCK_WORDS, FIRST_WORD, HEAD_WORDS = 128, 8, 120
+BLOCK_BYTES, HEAD_BYTES = 512, 480
 
-MEMBERS, ZONES, AREAS, PRICES, FIRST_AREA = 9, 10, 11, 12, 16  # words of the first block
+MEMBERS, ZONES, AREAS, FIRST_AREA = 9, 10, 11, 16  # words of the first block
 MOST_MEMBERS, MOST_ZONES, MOST_AREAS, AREA_WORDS = 32, 4, 8, 4
-KIND, MEMBER, AREA, SCHEDULED, ACTUAL, MAXIMUM = 0, 1, 2, 3, 4, 8  # words of a record
+KIND, MEMBER, AREA, SCHEDULED, ACTUAL, MAXIMUM = 0, 1, 2, 3, 4, 8  # words of a record; the last two of an hourly one
 
 # What a word is called, in what unit it is, and from what to what it may go.
 Field = namedtuple("Field", "name unit low high")
@@ -23,29 +19,14 @@ HOUR = Field("hour", "", 0, 2**32 - 1)
 MEMBER_COUNT = Field("members", "", 1, MOST_MEMBERS)
 COUNTS = (HOUR, MEMBER_COUNT, Field("zones", "", 1, MOST_ZONES), Field("areas", "", 1, MOST_AREAS))
 PRICE = Field("price", "cents/MWh", -1_000_000, 1_000_000)
-TIE_IN = Field("tie in", KWH, 0, 10_000_000)
-TIE_OUT = Field("tie out", KWH, 0, 10_000_000)
+ZONE = Field("zone", "", 0, MOST_ZONES - 1)
+SCHEDULED_ENERGY, ACTUAL_ENERGY = Field("scheduled", KWH, 0, 100_000), Field("actual", KWH, 0, 100_000)
+ADJUSTMENT, ANCILLARY = Field("adjustment", KWH, -100_000, 100_000), Field("ancillary", KWH, 0, 100_000)
+MULTIPLIERS = tuple(Field(f"{name} multiplier", "ten-thousandths", 1, 20_000) for name in ("scheduled", "hour-ahead"))
 
-# Words 3 to 10 of a record.
-ENERGIES = (
-    Field("scheduled", KWH, 0, 100_000), Field("actual", KWH, 0, 100_000), Field("adjustment", KWH, -100_000, 100_000),
-    Field("ancillary", KWH, 0, 100_000), Field("obligation", KWH, 0, 100_000), Field("maximum", KWH, 0, 100_000),
-    Field("scheduled multiplier", "ten-thousandths", 1, 20_000), Field("hour-ahead multiplier", "ten-thousandths", 1, 20_000))
-
-# The kinds from 1 on, and the words of 3 to 10 that each uses.
+# The kinds from 1 on.
 KINDS = ("generator", "load", "profile load", "import", "export")
 LOADS = (2, 3)
-USED = ((3, 4, 5, 6, 7, 8, 9, 10), (3, 4, 5, 6, 7), (3, 4, 5, 6, 7), (3, 5, 6, 9, 10), (3, 4, 5))
-
-
-def uses(kind, word):
-    """Whether a record of this kind has something in one of its words 3 to 10."""
-    return word in USED[kind - 1]
-
-
-def word_name(word):
-    """What a record's word is called from word 1 on."""
-    return {MEMBER: "member", AREA: "area", RECORD_WORDS - 1: f"word {word}"}.get(word) or ENERGIES[word - SCHEDULED].name
 
 
 def value_of(word, field):
@@ -58,7 +39,18 @@ def words_in(data):
 
 
 class Hour:
-    """The head's words, by their numbers in the first block, and the records' words."""
+    """The head's words, by their numbers in the first block, and the records' words. In capitals stands what differs between the two kinds
+    of file: this one is the hourly."""
+
+    NAME, CALLED = HOUR, "an hour"
+    FIRST_MARK, OTHER_MARK = 1, 2  # word 0 of the first block, and of every other
+    MOST_BLOCKS, MOST_RECORDS, BLOCK_RECORDS, RECORD_WORDS = 26, 250, 10, 12
+    FIRST_PRICE, PRICES = 12, (PRICE,)  # the word of zone 0's first price, and the prices of a zone
+    AREA_FIELDS = (ZONE, Field("tie in", KWH, 0, 10_000_000), Field("tie out", KWH, 0, 10_000_000))
+    # The words of a record from 3 on, and those of them that each kind uses.
+    ENERGIES = (SCHEDULED_ENERGY, ACTUAL_ENERGY, ADJUSTMENT, ANCILLARY, Field("obligation", KWH, 0, 100_000),
+                Field("maximum", KWH, 0, 100_000), *MULTIPLIERS)
+    USED = ((3, 4, 5, 6, 7, 8, 9, 10), (3, 4, 5, 6, 7), (3, 4, 5, 6, 7), (3, 5, 6, 9, 10), (3, 4, 5))
 
     def __init__(self, head, records):
         self.head = {FIRST_WORD + at: word for at, word in enumerate(head)}
@@ -69,15 +61,43 @@ class Hour:
         """Of head and records one behind the other, as the writer takes them."""
         words = words_in(data)
         behind = words[HEAD_WORDS:]
-        return cls(words[:HEAD_WORDS], [behind[at:at + RECORD_WORDS] for at in range(0, len(behind), RECORD_WORDS)])
+        return cls(words[:HEAD_WORDS], [behind[at:at + cls.RECORD_WORDS] for at in range(0, len(behind), cls.RECORD_WORDS)])
 
     @classmethod
     def of_file(cls, data):
         """Of a file whose blocks are as they should be."""
         blocks = [words_in(data[at:at + BLOCK_BYTES]) for at in range(0, len(data), BLOCK_BYTES)]
-        records = [block[at:at + RECORD_WORDS] for block in blocks[1:]
-                   for at in range(FIRST_WORD, FIRST_WORD + RECORD_WORDS * block[2], RECORD_WORDS)]
+        records = [block[at:at + cls.RECORD_WORDS] for block in blocks[1:]
+                   for at in range(FIRST_WORD, FIRST_WORD + cls.RECORD_WORDS * block[2], cls.RECORD_WORDS)]
         return cls(blocks[0][FIRST_WORD:], records)
+
+    @classmethod
+    def longest_file(cls):
+        return cls.MOST_BLOCKS * BLOCK_BYTES
+
+    @classmethod
+    def uses(cls, kind, word):
+        """Whether a record of this kind has something in one of its words from 3 on."""
+        return word in cls.USED[kind - 1]
+
+    @classmethod
+    def word_name(cls, word):
+        """What a record's word is called from word 1 on."""
+        if word < SCHEDULED:
+            return {MEMBER: "member", AREA: "area"}[word]
+        return cls.ENERGIES[word - SCHEDULED].name if word - SCHEDULED < len(cls.ENERGIES) else f"word {word}"
+
+    @classmethod
+    def price_words(cls, zone):
+        """Where a zone's prices stand in the first block."""
+        first = cls.FIRST_PRICE + len(cls.PRICES) * zone
+        return range(first, first + len(cls.PRICES))
+
+    @classmethod
+    def area_words(cls, area):
+        """Where what an area has stands in the first block."""
+        first = FIRST_AREA + AREA_WORDS * area
+        return range(first, first + len(cls.AREA_FIELDS))
 
     def words(self):
         """As the writer takes them."""
@@ -86,16 +106,18 @@ class Hour:
 
     def head_field(self, word):
         """What a word of the head is, beside the counts that stand before it; None where it must be 0."""
-        zones, areas = self.head[ZONES], self.head[AREAS]
-        if word < PRICES:
+        if word - FIRST_WORD < len(COUNTS):
             return COUNTS[word - FIRST_WORD]
-        if word < FIRST_AREA:
-            return PRICE._replace(name=f"price of zone {word - PRICES}") if word - PRICES < zones else None
-        area, part = divmod(word - FIRST_AREA, AREA_WORDS)
-        if area >= min(areas, MOST_AREAS) or part == AREA_WORDS - 1:
-            return None
-        field = (Field("zone", "", 0, zones - 1), TIE_IN, TIE_OUT)[part]
-        return field._replace(name=f"{field.name} of area {area}")
+        for zone in range(min(self.head[ZONES], MOST_ZONES)):
+            for field, price in zip(self.PRICES, self.price_words(zone)):
+                if price == word:
+                    return field._replace(name=f"{field.name} of zone {zone}")
+        for area in range(min(self.head[AREAS], MOST_AREAS)):
+            for field, part in zip(self.AREA_FIELDS, self.area_words(area)):
+                if part == word:
+                    high = self.head[ZONES] - 1 if field is ZONE else field.high
+                    return field._replace(name=f"{field.name} of area {area}", high=high)
+        return None
 
     def record_field(self, index, word):
         """What a word of a record of a known kind is, beside the kind and the counts; None where it must be 0."""
@@ -103,4 +125,9 @@ class Hour:
             return Field("member", "", 0, self.head[MEMBERS] - 1)
         if word == AREA:
             return Field("area", "", 0, self.head[AREAS] - 1)
-        return ENERGIES[word - SCHEDULED] if uses(self.records[index][KIND], word) else None
+        return self.ENERGIES[word - SCHEDULED] if self.uses(self.records[index][KIND], word) else None
+
+
+LONGEST_FILE = Hour.longest_file()  # of either kind
+RECORD_BYTES = 4 * Hour.RECORD_WORDS
+LONGEST_WORDS = HEAD_BYTES + Hour.MOST_RECORDS * RECORD_BYTES

@@ -7,6 +7,7 @@ import subprocess
 import time
 
 from streams import PROGRESS, Trouble, say
+from ten_minute_hour import TenMinuteHour, form_of
 
 ROOT = os.path.dirname(os.path.dirname(os.path.abspath(__file__)))
 
@@ -114,10 +115,14 @@ def printed_by(name, data):
 
 
 class Statements:
-    """The program `statement`, started once for any number of hours. It reads an hour, with its length in front, to its end before it
-    prints, and the statement's first line says how many follow: so neither waits for the other."""
+    """The program `statement`, started once for any number of hourly files, with the first of them. It reads an hour, with its length in
+    front, to its end before it prints, and the statement's first line says how many follow: so neither waits for the other. The program
+    `ten_minutes` takes one file, and is started for each."""
 
     def __init__(self):
+        self.program = None
+
+    def start(self):
         try:
             self.program = subprocess.Popen([*command("statement"), "each"], stdin=subprocess.PIPE, stdout=subprocess.PIPE,
                                             env=environment())
@@ -128,6 +133,8 @@ class Statements:
         return self
 
     def __exit__(self, *_):
+        if self.program is None:
+            return
         try:
             self.program.stdin.close()
         except OSError:
@@ -136,7 +143,11 @@ class Statements:
         self.program.wait()
 
     def of(self, data):
-        """The statement of an hour file."""
+        """The statement of an hour file of either kind."""
+        if form_of(data) is TenMinuteHour:
+            return printed_by("ten_minutes", data)
+        if self.program is None:
+            self.start()
         try:
             self.program.stdin.write(len(data).to_bytes(4, "little") + data)
             self.program.stdin.flush()

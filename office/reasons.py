@@ -1,9 +1,9 @@
 """A refusal in words: what is wrong, where, what the value is and what it may be. Number and place are a proved program's; the bytes are
 only looked up again, to say what stands there."""
 
-from hour import (ACTUAL, AREA, BLOCK_BYTES, BLOCK_RECORDS, BLOCK_WORDS, FIRST_WORD, HEAD_BYTES, KIND, KINDS, LOADS, LONGEST_FILE,
-                  LONGEST_WORDS, MAXIMUM, MEMBER, MEMBERS, MOST_RECORDS, RECORD_BYTES, RECORD_WORDS, SCHEDULED, Hour, value_of, word_name,
-                  words_in)
+from hour import (ACTUAL, AREA, BLOCK_BYTES, BLOCK_WORDS, FIRST_WORD, HEAD_BYTES, KIND, KINDS, LOADS, LONGEST_WORDS, MAXIMUM, MEMBER,
+                  MEMBERS, RECORD_BYTES, SCHEDULED, Hour, value_of, words_in)
+from ten_minute_hour import form_of
 
 # The rows of text amounts and of buffers, which no file, question or sheet brings about.
 ELSEWHERE = {
@@ -19,8 +19,9 @@ def beyond(value, field):
 # ---- Blocks
 
 def of_length(data):
-    length = f"more than {LONGEST_FILE}" if len(data) > LONGEST_FILE else len(data)
-    return f"the file has {length} bytes; it may have {BLOCK_BYTES} to {LONGEST_FILE}, in whole blocks of {BLOCK_BYTES}"
+    longest = form_of(data).longest_file()
+    length = f"more than {longest}" if len(data) > longest else len(data)
+    return f"the file has {length} bytes; it may have {BLOCK_BYTES} to {longest}, in whole blocks of {BLOCK_BYTES}"
 
 
 def of_sum(data, block):
@@ -29,23 +30,25 @@ def of_sum(data, block):
 
 def of_layout(data, block):
     """The first word of the block that isn't as its place asks."""
-    words, blocks = words_of_block(data, block), len(data) // BLOCK_BYTES
-    for word, name, low, high in first_layout(blocks) if block == 0 else other_layout(block, blocks, words[2]):
+    form, words, blocks = form_of(data), words_of_block(data, block), len(data) // BLOCK_BYTES
+    for word, name, low, high in first_layout(form, blocks) if block == 0 else other_layout(form, block, blocks, words[2]):
         if not low <= words[word] <= high:
             return f"block {block}: {name} is {words[word]} and must be {low if low == high else f'{low} to {high}'}"
     return f"block {block} is not as its place in the file asks"
 
 
-def first_layout(blocks):
+def first_layout(form, blocks):
     """The words that a layout asks something of: each with what it is, and from what to what it may go."""
-    behind = blocks - 1
-    return [(0, "its first word", 1, 1), (1, "its position", 0, 0), (2, "the number of blocks behind it", behind, behind), *zeros(3, 7)]
+    mark, behind = form.FIRST_MARK, blocks - 1
+    return [(0, "its first word", mark, mark), (1, "its position", 0, 0), (2, "the number of blocks behind it", behind, behind),
+            *zeros(3, 7)]
 
 
-def other_layout(block, blocks, records):
-    fewest = 1 if block == blocks - 1 else BLOCK_RECORDS
-    behind = FIRST_WORD + RECORD_WORDS * min(records, BLOCK_RECORDS)
-    return [(0, "its first word", 2, 2), (1, "its position", block, block), (2, "the number of its records", fewest, BLOCK_RECORDS),
+def other_layout(form, block, blocks, records):
+    mark, most = form.OTHER_MARK, form.BLOCK_RECORDS
+    fewest = 1 if block == blocks - 1 else most
+    behind = FIRST_WORD + form.RECORD_WORDS * min(records, most)
+    return [(0, "its first word", mark, mark), (1, "its position", block, block), (2, "the number of its records", fewest, most),
             *zeros(3, 7), *zeros(behind, BLOCK_WORDS, ", behind its last record,")]
 
 
@@ -71,13 +74,14 @@ def of_record(hour, index):
     record = hour.records[index]
     if not 1 <= record[KIND] <= len(KINDS):
         return KIND, f"record {index}: kind {record[KIND]} is none of 1 to {len(KINDS)} ({', '.join(KINDS)})"
-    for word in range(MEMBER, RECORD_WORDS):
-        field, name = hour.record_field(index, word), word_name(word)
+    for word in range(MEMBER, hour.RECORD_WORDS):
+        field, name = hour.record_field(index, word), hour.word_name(word)
         value = value_of(record[word], field) if field else record[word]
         if field is None and value != 0:
             return word, f"record {index} ({whose(record)}): {name} is {value} and must be 0"
         if field is not None and not field.low <= value <= field.high:
-            return word, f"record {index} ({whose(record, word)}): {name} {beyond(value, field)}"
+            between = ": " if name[-1].isdigit() else " "  # so that an interval's number is not read as part of the value
+            return word, f"record {index} ({whose(record, word)}): {name}{between}{beyond(value, field)}"
     return KIND, f"record {index} is not as its kind asks"
 
 
@@ -132,7 +136,7 @@ def of_file(number, place, data, member=None):
         return of_layout(data, place)
     if number == 7:
         return of_amount(place)
-    hour = Hour.of_file(data)
+    hour = form_of(data).of_file(data)
     if number == 6:
         return of_area(hour, place)
     if number == 12:
@@ -146,5 +150,5 @@ def of_raw(number, place, data):
     """Why raw words are not written."""
     if number == 1:
         length = f"more than {LONGEST_WORDS}" if len(data) > LONGEST_WORDS else len(data)
-        return f"there are {length} bytes of words; a head has {HEAD_BYTES}, and each of at most {MOST_RECORDS} records {RECORD_BYTES}"
+        return f"there are {length} bytes of words; a head has {HEAD_BYTES}, and each of at most {Hour.MOST_RECORDS} records {RECORD_BYTES}"
     return of_words(number, place, Hour.of_words(data))[1]

@@ -1,26 +1,35 @@
 """Hours as sheets, the CSV that spreadsheets read and write (docs/SHEETS.md). All that is judged here is whether a sheet says an hour's
-words: what the words may be is for the proved writer to say."""
+words: what the words may be is for the proved programs to say."""
 
 import csv
 import io
 import re
 from collections import namedtuple
 
-import hour
-from hour import AREA_WORDS, AREAS, ENERGIES, FIRST_AREA, FIRST_WORD, KIND, KINDS, MEMBERS, PRICES, SCHEDULED, ZONES, Field, Hour
+from hour import (AREA, AREAS, FIRST_WORD, HEAD_WORDS, KIND, KINDS, MEMBER, MEMBER_COUNT, MEMBERS, MOST_AREAS, MOST_MEMBERS, SCHEDULED,
+                  ZONE, ZONES, Field, Hour, value_of)
 from reasons import beyond, of_words
+from ten_minute_hour import TenMinuteHour, form_of
 
 MOST_BYTES = 2**20  # many times what an hour's sheet has
 SHOWN = 40  # characters of a field, in a message
 
-KIND_NAME, MEMBER_NUMBER = Field("kind", "", 1, len(KINDS)), Field("member", "", 0, hour.MOST_MEMBERS - 1)
-ZONE_NUMBER, AREA_NUMBER = Field("zone", "", 0, hour.MOST_ZONES - 1), Field("area", "", 0, hour.MOST_AREAS - 1)
-ZONE_COLUMNS = (ZONE_NUMBER, hour.PRICE)
-AREA_COLUMNS = (AREA_NUMBER, ZONE_NUMBER, hour.TIE_IN, hour.TIE_OUT)
-RECORD_COLUMNS = (KIND_NAME, MEMBER_NUMBER, AREA_NUMBER, *ENERGIES)
+KIND_NAME, MEMBER_NUMBER = Field("kind", "", 1, len(KINDS)), Field("member", "", 0, MOST_MEMBERS - 1)
+AREA_NUMBER = Field("area", "", 0, MOST_AREAS - 1)
+# Which hour a sheet is of, by the first field of the row that has the hour's number.
+FORMS = {form.NAME.name: form for form in (Hour, TenMinuteHour)}
+
+
 # What stands in the first field of a row that begins a part: a single number behind it, or columns.
-NUMBERS = {field.name: field for field in (hour.HOUR, hour.MEMBER_COUNT)}
-TABLES = {columns[0].name: columns for columns in (ZONE_COLUMNS, AREA_COLUMNS, RECORD_COLUMNS)}
+
+def numbers_of(form):
+    return {field.name: field for field in (form.NAME, MEMBER_COUNT)}
+
+
+def tables_of(form):
+    """The columns of a record are its words, in their order."""
+    return {"zone": (ZONE, *form.PRICES), "area": (AREA_NUMBER, *form.AREA_FIELDS),
+            "kind": (KIND_NAME, MEMBER_NUMBER, AREA_NUMBER, *form.ENERGIES)}
 
 
 class Unclear(Exception):
@@ -49,13 +58,14 @@ def unclear(place, what):
 
 def sheet_of(file, delimiter=","):
     """The sheet of a file whose words are all in their ranges, as bytes."""
-    told = Hour.of_file(file)
+    form = form_of(file)
+    told, tables = form.of_file(file), tables_of(form)
     text = io.StringIO()
     out = csv.writer(text, delimiter=delimiter, lineterminator="\n")
-    out.writerows([("hour", told.head[FIRST_WORD]), ("members", told.head[MEMBERS]), ()])
-    out.writerows([titles(ZONE_COLUMNS), *(zone_row(told, zone) for zone in range(told.head[ZONES])), ()])
-    out.writerows([titles(AREA_COLUMNS), *(area_row(told, area) for area in range(told.head[AREAS])), ()])
-    out.writerows([titles(RECORD_COLUMNS), *(record_row(record) for record in told.records)])
+    out.writerows([(form.NAME.name, told.head[FIRST_WORD]), ("members", told.head[MEMBERS]), ()])
+    out.writerows([titles(tables["zone"]), *(head_row(told, zone, form.price_words) for zone in range(told.head[ZONES])), ()])
+    out.writerows([titles(tables["area"]), *(head_row(told, area, form.area_words) for area in range(told.head[AREAS])), ()])
+    out.writerows([titles(tables["kind"]), *(record_row(form, record) for record in told.records)])
     return text.getvalue().encode()
 
 
@@ -63,19 +73,15 @@ def titles(columns):
     return [f"{field.name} ({field.unit})" if field.unit else field.name for field in columns]
 
 
-def zone_row(told, zone):
-    return zone, hour.value_of(told.head[PRICES + zone], hour.PRICE)
+def head_row(told, number, words_of):
+    """A zone or an area."""
+    return number, *(value_of(told.head[word], told.head_field(word)) for word in words_of(number))
 
 
-def area_row(told, area):
-    first = FIRST_AREA + AREA_WORDS * area
-    return area, *(told.head[word] for word in range(first, first + AREA_WORDS - 1))
-
-
-def record_row(record):
+def record_row(form, record):
     """What a record's kind doesn't use is left empty."""
     kind = record[KIND]
-    energies = (hour.value_of(record[word], field) if hour.uses(kind, word) else "" for word, field in enumerate(ENERGIES, SCHEDULED))
+    energies = (value_of(record[word], field) if form.uses(kind, word) else "" for word, field in enumerate(form.ENERGIES, SCHEDULED))
     return KINDS[kind - 1], *record[1:SCHEDULED], *energies
 
 
@@ -84,7 +90,7 @@ def record_row(record):
 def rows_of(data):
     """The rows that have something in them, as (number, fields without blanks around them)."""
     if len(data) > MOST_BYTES:
-        raise Unclear(f"the sheet has more than {MOST_BYTES} bytes; an hour has at most {hour.MOST_RECORDS} records")
+        raise Unclear(f"the sheet has more than {MOST_BYTES} bytes; an hour has at most {Hour.MOST_RECORDS} records")
     try:
         text = data.decode("utf-8-sig")
     except UnicodeDecodeError as error:
@@ -148,31 +154,40 @@ class Table:
                 raise unclear(Place(number, column), f"{shown(field)} stands under no title")
 
 
-def parts_of(rows):
+def form_in(rows):
+    """Which hour a sheet is of; the hourly where it doesn't say, so that what else is wrong with it is said in names of that."""
+    named = [(number, name) for number, fields in rows if (name := folded(fields[0])) in FORMS]
+    for number, name in named:
+        if name != named[0][1]:
+            raise unclear(Place(number, 0), f"{name!r} is there beside {named[0][1]!r}; a sheet is of one of them")
+    return FORMS[named[0][1]] if named else Hour
+
+
+def parts_of(rows, form):
     """{a part's name: (place, number), or a table}."""
+    numbers, tables = numbers_of(form), tables_of(form)
     parts, table = {}, None
     for number, fields in rows:
         name = folded(fields[0])
-        if name in NUMBERS or name in TABLES:
+        if name in numbers or name in tables:
             if name in parts:
                 raise unclear(Place(number, 0), f"{name!r} is there twice")
             table = None
-            if name in TABLES:
-                parts[name] = table = Table(TABLES[name], number, fields)
+            if name in tables:
+                parts[name] = table = Table(tables[name], number, fields)
             else:
-                parts[name] = number_part(number, fields)
+                parts[name] = number_part(number, fields, numbers[name])
         elif table is not None:
             table.rows.append((number, fields))
         else:
-            raise unclear(Place(number, 0), f"{shown(fields[0])} is none of {', '.join((*NUMBERS, *TABLES))}")
-    for name in (*NUMBERS, *TABLES):
+            raise unclear(Place(number, 0), f"{shown(fields[0])} is none of {', '.join((*FORMS, MEMBER_COUNT.name, *tables))}")
+    for name in (*numbers, *tables):
         if name not in parts:
-            raise Unclear(f"there is no row that begins with {name!r}")
+            raise Unclear(f"there is no row that begins with {' or '.join(map(repr, FORMS if name in FORMS else [name]))}")
     return parts
 
 
-def number_part(number, fields):
-    field = NUMBERS[folded(fields[0])]
+def number_part(number, fields, field):
     for column, more in enumerate(fields[2:], 2):
         if more:
             raise unclear(Place(number, column), f"{shown(more)} stands behind the number")
@@ -207,13 +222,15 @@ class Packed:
     """The words that a sheet says, and where in the sheet each stands."""
 
     def __init__(self, data):
-        parts = parts_of(rows_of(data))
-        self.head, self.places = [0] * hour.HEAD_WORDS, {}
-        for word, name in ((FIRST_WORD, "hour"), (MEMBERS, "members")):
+        rows = rows_of(data)
+        self.form = form_in(rows)
+        parts = parts_of(rows, self.form)
+        self.head, self.places = [0] * HEAD_WORDS, {}
+        for word, name in zip((FIRST_WORD, MEMBERS), numbers_of(self.form)):
             place, value = parts[name]
             self.put(word, value, place)
-        self.put_zones(parts["zone"])
-        self.put_areas(parts["area"])
+        self.put_rows(parts["zone"], ZONES, self.form.price_words)
+        self.put_rows(parts["area"], AREAS, self.form.area_words)
         self.table = parts["kind"]
         self.records = [self.record(row) for row in self.table.rows]
 
@@ -221,23 +238,14 @@ class Packed:
         self.head[word - FIRST_WORD] = value % 2**32
         self.places[word] = place
 
-    def put_count(self, word, table):
-        """How many rows a table has. It stands at the last of them, or at the titles."""
+    def put_rows(self, table, count, words_of):
+        """Zones or areas. How many they are stands at the last of them, or at the titles."""
+        for number, row in enumerate(table.rows):
+            self.expect(table, row, number)
+            for word, field in zip(words_of(number), table.columns[1:]):
+                self.put(word, table.number_at(row, field), table.place(row, field.name))
         last = table.rows[-1] if table.rows else (table.number, [])
-        self.put(word, len(table.rows), table.place(last, table.columns[0].name))
-
-    def put_zones(self, table):
-        for zone, row in enumerate(table.rows):
-            self.expect(table, row, zone)
-            self.put(PRICES + zone, table.number_at(row, hour.PRICE), table.place(row, "price"))
-        self.put_count(ZONES, table)
-
-    def put_areas(self, table):
-        for area, row in enumerate(table.rows):
-            self.expect(table, row, area)
-            for part, field in enumerate(AREA_COLUMNS[1:]):
-                self.put(FIRST_AREA + AREA_WORDS * area + part, table.number_at(row, field), table.place(row, field.name))
-        self.put_count(AREAS, table)
+        self.put(count, len(table.rows), table.place(last, table.columns[0].name))
 
     def expect(self, table, row, due):
         """Zones and areas stand in order, from 0 on, as many as there is room for."""
@@ -252,11 +260,11 @@ class Packed:
     def record(self, row):
         kind = self.kind(row)
         self.table.expect_titles(row)
-        words = [kind, *(self.table.number_at(row, field) for field in RECORD_COLUMNS[1:SCHEDULED])]
-        for word, field in enumerate(ENERGIES, SCHEDULED):
-            empty = not self.table.field_at(row, field.name) and not hour.uses(kind, word)
+        words = [kind, *(self.table.number_at(row, self.table.columns[word]) for word in (MEMBER, AREA))]
+        for word, field in enumerate(self.form.ENERGIES, SCHEDULED):
+            empty = not self.table.field_at(row, field.name) and not self.form.uses(kind, word)
             words.append(0 if empty else self.table.number_at(row, field) % 2**32)
-        return [*words, 0]
+        return words + [0] * (self.form.RECORD_WORDS - len(words))
 
     def kind(self, row):
         text = self.table.field_at(row, "kind")
@@ -264,14 +272,15 @@ class Packed:
             raise unclear(self.table.place(row, "kind"), f"{shown(text)} is none of {', '.join(KINDS)}")
         return KINDS.index(folded(text)) + 1
 
-    def words(self):
-        """For the writer; a record too many is enough for it to see that there are."""
-        return Hour(self.head, self.records[:hour.MOST_RECORDS + 1]).words()
+    def hour(self):
+        """A record too many is enough for a program to see that there are."""
+        return self.form(self.head, self.records[:self.form.MOST_RECORDS + 1])
 
     def reason(self, number, place):
-        """Why the writer refuses these words, and where they stand in the sheet."""
+        """Why these words are refused, and where they stand in the sheet."""
         if number == 1:
-            return f"row {self.table.rows[hour.MOST_RECORDS][0]}: a record more than the {hour.MOST_RECORDS} that an hour can have"
-        word, why = of_words(number, place, Hour(self.head, self.records))
-        at = self.places[word] if number == 4 else self.table.place(self.table.rows[place], RECORD_COLUMNS[word].name)
+            most = self.form.MOST_RECORDS
+            return f"row {self.table.rows[most][0]}: a record more than the {most} that {self.form.CALLED} can have"
+        word, why = of_words(number, place, self.hour())
+        at = self.places[word] if number == 4 else self.table.place(self.table.rows[place], self.table.columns[word].name)
         return f"{text_of(at)}: {why}"

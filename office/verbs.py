@@ -6,6 +6,7 @@ import proved
 import reasons
 from hour import LONGEST_FILE, LONGEST_WORDS
 from streams import PROGRESS, STANDARD_INPUT, Trouble, name_of, read, say, write
+from ten_minute_hour import TenMinuteHour, form_of
 
 ANSWERED, REFUSED, TROUBLE = 0, 1, 2
 WORD_ROWS = (1, 2, 3, 4, 5, 14)  # what can be wrong with a file's words; the other rows are about its sums
@@ -42,8 +43,8 @@ def check(asked):
 
 
 def each_hour(asked, what, behind_name, shown):
-    """One program is started for all of them, and each is answered, whatever is wrong with another. Of several each answer has its file's
-    name before it."""
+    """One program is started for all hourly ones, and each is answered, whatever is wrong with another. Of several each answer has its
+    file's name before it."""
     files, status = files_of(asked), ANSWERED
     with proved.Statements() as statements:
         for done, path in enumerate(files):
@@ -77,6 +78,8 @@ def explain(asked):
     member = member_in(asked.words.pop(0))
     path = file_of(asked)
     data = read(path, LONGEST_FILE + 1)
+    if form_of(data) is TenMinuteHour:
+        raise Trouble(f"{name_of(path)}: a ten-minute file has no explanation; explain takes an hourly one")
     question = member.to_bytes(4, "little") + data
     return answer(asked, path, "explanation", question, lambda *refusal: reasons.of_file(*refusal, data, member))
 
@@ -95,7 +98,19 @@ def pack(asked):
         packed = sheets.Packed(read(path, sheets.MOST_BYTES + 1))
     except sheets.Unclear as unclear:
         raise Trouble(f"{name_of(path)}: {unclear}") from unclear
-    return answer(asked, path, "write_hour", packed.words(), packed.reason)
+    printed = file_or_refusal(packed)
+    write(printed)
+    return status_of(asked, path, printed, packed.reason)
+
+
+def file_or_refusal(packed):
+    """The file of a packed sheet, or a refusal's line. An hourly file is the proved writer's own; a ten-minute one is made here, and handed
+    on only where the proved program settles it."""
+    if packed.form is not TenMinuteHour:
+        return proved.printed_by("write_hour", packed.hour().words())
+    file = packed.hour().file()
+    statement = proved.printed_by("ten_minutes", file)
+    return statement if proved.is_refused(statement) else file
 
 
 def unpack(asked):
@@ -109,7 +124,7 @@ def unpack(asked):
         write(statement)
         return status_of(asked, path, statement, lambda *refusal: reasons.of_file(*refusal, data))
     sheet = sheets.sheet_of(data, ";" if asked.semicolons else ",")
-    if proved.printed_by("write_hour", sheets.Packed(sheet).words()) != data:
+    if file_or_refusal(sheets.Packed(sheet)) != data:
         raise Trouble(f"{name_of(path)}: its sheet would not be packed as the same file, so it is not written")
     write(sheet)
     return ANSWERED

@@ -68,7 +68,7 @@ def no_demand_twice(rng, hour):
 
 def wrong_mark(rng, hour, blocks):
     place = rng.randrange(len(blocks))
-    blocks[place][0] = other(rng, blocks[place][0], [0, 1, 2, 3, 2**32 - 1])
+    blocks[place][0] = other(rng, blocks[place][0], [0, 1, 2, 3, 4, 2**32 - 1])
     return 3, place
 
 
@@ -79,23 +79,25 @@ def wrong_position(rng, hour, blocks):
 
 
 def wrong_count_of_blocks(rng, hour, blocks):
-    blocks[0][2] = other(rng, blocks[0][2], [0, len(blocks) - 2, len(blocks), 25, 26, *BIG_WORDS])
+    most = hour.layout.most_blocks
+    blocks[0][2] = other(rng, blocks[0][2], [0, len(blocks) - 2, len(blocks), most - 1, most, *BIG_WORDS])
     return 3, 0
 
 
 def wrong_count_before_the_last(rng, hour, blocks):
-    """A block that isn't the last, and holds other than ten."""
+    """A block that isn't the last, and holds other than it has room for."""
     if len(blocks) < 3:
         return None
-    place = rng.randint(1, len(blocks) - 2)
-    blocks[place][2] = rng.choice([0, 1, 9, 11, *BIG_WORDS])
+    place, full = rng.randint(1, len(blocks) - 2), hour.layout.records_in_a_block
+    blocks[place][2] = rng.choice([0, 1, full - 1, full + 1, *BIG_WORDS])
     return 3, place
 
 
 def wrong_count_in_the_last(rng, hour, blocks):
     if len(blocks) == 1:
         return None
-    blocks[-1][2] = 11 if rng.random() < 0.6 else rng.choice([0, 12, *BIG_WORDS])
+    full = hour.layout.records_in_a_block
+    blocks[-1][2] = full + 1 if rng.random() < 0.6 else rng.choice([0, full + 2, *BIG_WORDS])
     return 3, len(blocks) - 1
 
 
@@ -110,9 +112,9 @@ def reserved_word(word):
 
 
 def word_past_records(rng, hour, blocks):
-    if len(hour.records) % 10 == 0:
+    if len(hour.records) % hour.layout.records_in_a_block == 0:
         return None
-    past = 8 + 12 * (len(hour.records) % 10)
+    _, past = hour.where(len(hour.records), 0)
     blocks[-1][rng.choice([past, 127, rng.randint(past, 127)])] = unwanted(rng)
     return 3, len(blocks) - 1
 
@@ -205,7 +207,7 @@ def last_word_of_the_head(rng, hour, blocks):
 
 def one_record_more(rng, hour, blocks):
     """The zeros past the last record are taken for a record: its kind is 0."""
-    if len(blocks) == 1 or blocks[-1][2] == 10:
+    if len(blocks) == 1 or blocks[-1][2] == hour.layout.records_in_a_block:
         return None
     blocks[-1][2] += 1
     return 5, len(hour.records)
@@ -220,7 +222,7 @@ def one_record_fewer(rng, hour, blocks):
 
 
 def block_too_many(rng, hour, blocks):
-    if len(blocks) == 26:
+    if len(blocks) == hour.layout.most_blocks:
         return None
     blocks.append([0] * 128)
     return 3, 0
@@ -228,9 +230,9 @@ def block_too_many(rng, hour, blocks):
 
 def last_block_without_records(rng, hour, blocks):
     """A block that is right in all but that it holds none, after blocks that are full."""
-    if len(hour.records) % 10 != 0 or len(blocks) == 26:
+    if len(hour.records) % hour.layout.records_in_a_block != 0 or len(blocks) == hour.layout.most_blocks:
         return None
-    blocks.append(padded([2, len(blocks)], 128))
+    blocks.append(padded([hour.layout.other_mark, len(blocks)], 128))
     blocks[0][2] += 1
     return 3, len(blocks) - 1
 
@@ -240,6 +242,16 @@ def block_too_few(rng, hour, blocks):
         return None
     blocks.pop()
     return 3, 0
+
+
+def block_not_full(rng, hour, blocks):
+    """A block before the last without its last records, zeros in their place."""
+    if len(blocks) < 3:
+        return None
+    place, held = rng.randint(1, len(blocks) - 2), rng.randint(1, hour.layout.records_in_a_block - 1)
+    _, past = hour.where(held, 0)
+    blocks[place][2], blocks[place][past:] = held, [0] * (128 - past)
+    return 3, place
 
 
 def blocks_swapped(rng, hour, blocks):
@@ -282,21 +294,21 @@ def wrong_sum_twice(rng, blocks):
 
 # Faults of the length: each is refusal 1 at 0.
 
-def nothing_at_all(rng, data):
+def nothing_at_all(rng, hour, data):
     return b""
 
 
-def cut(rng, data):
+def cut(rng, hour, data):
     return data[:rng.choice([1, len(data) - 1, len(data) - rng.randint(1, 511)])]
 
 
-def bytes_too_many(rng, data):
+def bytes_too_many(rng, hour, data):
     return data + bytes(rng.choice([1, 511, rng.randint(1, 511)]))
 
 
-def file_too_long(rng, data):
-    """Whole blocks, but more than 26 of them: 13,824 bytes, or more."""
-    return data + bytes(512 * (27 + rng.choice([0, 0, 5]) - len(data) // 512))
+def file_too_long(rng, hour, data):
+    """Whole blocks, but more than there may be: one, mostly, so that an hour has 13,824 bytes."""
+    return data + bytes(512 * (hour.layout.most_blocks + rng.choice([1, 1, 6]) - len(data) // 512))
 
 
 AREA_FAULTS = (no_demand, no_demand_twice)
@@ -317,7 +329,7 @@ PLACED_FAULTS = tuple(map(wrong_at, PLACES))
 SUM_FAULTS = (wrong_sum, wrong_sum_by_its_highest_bit, wrong_sum_twice)
 LENGTH_FAULTS = (nothing_at_all, cut, bytes_too_many, file_too_long)
 LONE_FAULTS = (one_record_more, one_record_fewer, block_too_many, last_block_without_records, block_too_few,
-               blocks_swapped)
+               block_not_full, blocks_swapped)
 FAULTS = HOUR_FAULTS + WORD_FAULTS + SUM_FAULTS + LENGTH_FAULTS
 
 # Two faults of an area, of a sum or of the length can undo each other, and no record is an import and a generator.
@@ -348,13 +360,13 @@ def spoil(rng, hour, faults):
     None where the hour has no room for one of them."""
     due = [fault(rng, hour) for fault in faults if fault in HOUR_FAULTS]
     blocks = hour.blocks()
-    due += [fault(rng, hour, blocks) for fault in faults if fault in WORD_FAULTS + PLACED_FAULTS + LONE_FAULTS]
+    due += [fault(rng, hour, blocks) for fault in faults if fault not in HOUR_FAULTS + SUM_FAULTS + LENGTH_FAULTS]
     for block in blocks:
         mend(block)
     due += [fault(rng, blocks) for fault in faults if fault in SUM_FAULTS]
     data = to_bytes(blocks)
     for fault in faults:
         if fault in LENGTH_FAULTS:
-            data = fault(rng, data)
+            data = fault(rng, hour, data)
             due.append((1, 0))
     return None if None in due else (data, first_row(due))

@@ -21,8 +21,9 @@ def beyond(rng, highest):
     return highest + 1 if rng.random() < 0.85 else rng.choice([rng.randint(highest + 1, 2**31), *BIG_WORDS])
 
 
-def put_in_record(blocks, place, word, value):
-    blocks[1 + place // 10][8 + 12 * (place % 10) + word] = value % 2**32
+def put_in_record(hour, blocks, place, word, value):
+    block, at = hour.where(place, word)
+    blocks[block][at] = value % 2**32
 
 
 def spoil_record(rng, hour, blocks, choose):
@@ -34,7 +35,7 @@ def spoil_record(rng, hour, blocks, choose):
     chosen = choose(hour.records[place])
     if chosen is None:
         return None
-    put_in_record(blocks, place, *chosen)
+    put_in_record(hour, blocks, place, *chosen)
     return 5, place
 
 
@@ -101,7 +102,7 @@ def import_with_actual(which):
         place = place_of(hour, which)
         if place is None or hour.records[place]["kind"] != IMPORT:
             return None
-        put_in_record(blocks, place, 4, unwanted(rng))
+        put_in_record(hour, blocks, place, 4, unwanted(rng))
         return 5, place
     fault.__name__ = f"import_with_actual_{which}"
     return fault
@@ -111,7 +112,7 @@ def imports_as_document_01_had_them(rng, hour, blocks):
     """A file of the form before document 02, A3, in which every import brought what was scheduled: word 4 is word 3."""
     places = [place for place, each in enumerate(hour.records) if each["kind"] == IMPORT and each["S"] > 0]
     for place in places:
-        put_in_record(blocks, place, 4, hour.records[place]["S"])
+        put_in_record(hour, blocks, place, 4, hour.records[place]["S"])
     return (5, places[0]) if places else None
 
 
@@ -121,7 +122,7 @@ def wrong_at(which):
         place = place_of(hour, which)
         if place is None:
             return None
-        put_in_record(blocks, place, *rng.choice([(0, 6), (11, 1), (1, hour.members), (3, 100_001)]))
+        put_in_record(hour, blocks, place, *rng.choice([(0, 6), (11, 1), (1, hour.members), (3, 100_001)]))
         return 5, place
     fault.__name__ = f"{which}_record_wrong"
     return fault
@@ -136,7 +137,7 @@ def wrong_kind_twice(rng, hour, blocks):
         return None
     places = rng.sample(range(len(hour.records)), 2)
     for place in places:
-        put_in_record(blocks, place, 0, beyond(rng, 5))
+        put_in_record(hour, blocks, place, 0, beyond(rng, 5))
     return 5, min(places)
 
 
@@ -148,7 +149,7 @@ def put_above_maximum(rng, hour, blocks, place):
     scheduled, maximum = hour.records[place]["S"], hour.records[place]["M"]
     raised = [(3, over) for over in (maximum + 1, maximum + 1, 10 * maximum, HIGHEST["S"]) if maximum < over <= HIGHEST["S"]]
     lowered = [(8, under) for under in (scheduled - 1, scheduled // 10) if 0 <= under < scheduled]
-    put_in_record(blocks, place, *rng.choice(raised + lowered))
+    put_in_record(hour, blocks, place, *rng.choice(raised + lowered))
     return 14, place
 
 

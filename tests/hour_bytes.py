@@ -1,6 +1,7 @@
 """Hours before they are bytes, and as words and bytes, as document 01 lays them out."""
 
 import struct
+from collections import namedtuple
 
 GENERATOR, REAL_TIME_LOAD, PROFILE_LOAD, IMPORT, EXPORT = 1, 2, 3, 4, 5
 KINDS = (GENERATOR, REAL_TIME_LOAD, PROFILE_LOAD, IMPORT, EXPORT)
@@ -16,10 +17,15 @@ MOST_PRICE = 1_000_000
 MOST_TIE = 10_000_000
 MOST_RECORDS = 250
 
+# Word 0 of the first block and of the others, and how much a file, a block and a record hold.
+Layout = namedtuple("Layout", "first_mark other_mark most_blocks records_in_a_block record_words")
+
 
 class Hour:
     """An hour before it is bytes: prices one a zone, areas as [zone, tie in, tie out], records as made
     by `record`."""
+
+    layout = Layout(1, 2, 26, 10, 12)
 
     def __init__(self, number, members, prices, areas, records):
         self.number = number
@@ -30,20 +36,33 @@ class Hour:
 
     def blocks(self):
         """The blocks as lists of 128 words, sums mended."""
-        held = [self.records[at:at + 10] for at in range(0, len(self.records), 10)]
-        first = [1, 0, len(held), 0, 0, 0, 0, 0, self.number, self.members, len(self.prices), len(self.areas)]
-        first += padded([price % 2**32 for price in self.prices], 4)
-        for zone, tie_in, tie_out in self.areas:
-            first += [zone, tie_in, tie_out, 0]
-        blocks = [padded(first, 128)]
+        most = self.layout.records_in_a_block
+        held = [self.records[at:at + most] for at in range(0, len(self.records), most)]
+        blocks = [padded([self.layout.first_mark, 0, len(held), 0, 0, 0, 0, 0, *self.head()], 128)]
         for position, records in enumerate(held, 1):
-            words = [2, position, len(records), 0, 0, 0, 0, 0]
+            words = [self.layout.other_mark, position, len(records), 0, 0, 0, 0, 0]
             for each in records:
-                words += record_words(each)
+                words += self.words_of(each)
             blocks.append(padded(words, 128))
         for block in blocks:
             mend(block)
         return blocks
+
+    def head(self):
+        """The words of the first body, up to the zeros that it ends with."""
+        words = [self.number, self.members, len(self.prices), len(self.areas)]
+        words += padded([price % 2**32 for price in self.prices], 4)
+        for zone, tie_in, tie_out in self.areas:
+            words += [zone, tie_in, tie_out, 0]
+        return words
+
+    def words_of(self, each):
+        return record_words(each)
+
+    def where(self, place, word):
+        """The block and the word in it at which a word of a record stands."""
+        block, within = divmod(place, self.layout.records_in_a_block)
+        return 1 + block, 8 + self.layout.record_words * within + word
 
     def encode(self):
         return to_bytes(self.blocks())

@@ -96,6 +96,7 @@ def of_blocks():
     yield "block-marked-first", "refused 3 at 3", words(five_blocks(), (3, 0, 1))
     yield "block-displaced", "refused 3 at 1", words(five_blocks(), (1, 1, 2))
     yield "block-not-full", "refused 3 at 1", words(five_blocks(), (1, 2, 9))
+    yield "block-of-nine", "refused 3 at 1", words(five_blocks(), (1, 2, 9), *((1, word, 0) for word in range(116, 128)))
     yield "last-block-empty", "refused 3 at 4", words(five_blocks(), (4, 2, 0), *((4, word, 0) for word in range(8, 68)))
     yield "last-block-eleven", "refused 3 at 4", words(hour_of(40).blocks(), (4, 2, 11))
 

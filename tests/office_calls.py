@@ -20,12 +20,14 @@ sys.path.insert(0, str(HERE))
 import hours  # noqa: E402
 import programs  # noqa: E402
 import proved  # noqa: E402
+import second  # noqa: E402
 from programs import COMMAND, Ended  # noqa: E402
 
 EXAMPLES = ROOT / "examples"
 PRINTED, SHEET, WORDS = (EXAMPLES / f"printed.{kind}" for kind in ("hour", "csv", "words"))
+TEN_MINUTES, TEN_MINUTE_SHEET = (EXAMPLES / f"ten-minutes-1.{kind}" for kind in ("hour", "csv"))
 MISSING = EXAMPLES / "nothing.hour"
-PROGRAMS = ("statement", "explanation", "write_hour")
+PROGRAMS = ("statement", "explanation", "write_hour", "ten_minutes")
 
 ANSWERED, REFUSED, TROUBLE = 0, 1, 2
 
@@ -33,7 +35,7 @@ ANSWERED, REFUSED, TROUBLE = 0, 1, 2
 CALLS = {"settle": (["settle"], PRINTED), "check": (["check"], PRINTED), "explain": (["explain", "1"], PRINTED),
          "pack": (["pack"], SHEET), "unpack": (["unpack"], PRINTED), "write": (["write"], WORDS)}
 SEVERAL = ("settle", "check")  # the verbs that take several files
-EACH_PROGRAM = [CALLS[verb] for verb in ("settle", "explain", "write")]  # a call for each program
+EACH_PROGRAM = [*(CALLS[verb] for verb in ("settle", "explain", "write")), (["settle"], TEN_MINUTES)]  # a call for each program
 
 
 def setUpModule():
@@ -53,6 +55,16 @@ def answers():
     hour, file = PRINTED.read_bytes(), printed_by("write_hour", WORDS.read_bytes())
     return {"settle": printed_by("statement", hour), "check": b"accepted\n", "explain": printed_by("explanation", hours.question(1, hour)),
             "pack": file, "unpack": SHEET.read_bytes(), "write": file}
+
+
+def is_ten_minutes(file):
+    """What a user expects the command to take for a ten-minute file: one that begins with that file's first word."""
+    return file[:4] == b"\3\0\0\0"
+
+
+def settled(file):
+    """What the command must print of a file of either kind, by the second program."""
+    return second.ten_minutes(file) if is_ten_minutes(file) else second.statement(file)
 
 
 def refused(verb):

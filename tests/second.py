@@ -1,6 +1,6 @@
 #!/usr/bin/env python3
-"""The second program: settles an hour, explains a member's charge, writes an hour file, writes and reads amounts as documents 01, 02 and
-003 say, apart from the proved programs.
+"""The second program: settles an hour, hourly or by ten minutes, explains a member's charge, writes an hour file, writes and reads amounts
+as documents 000, 01, 02 and 003 say, apart from the proved programs.
 
     python3 tests/second.py statement < hour
     python3 tests/second.py settled [L [C [F [S [D]]]]] < hour
@@ -8,12 +8,15 @@
     python3 tests/second.py explained [MEMBER..] < hour
     python3 tests/second.py write_hour < words
     python3 tests/second.py written [H [R]] < words
+    python3 tests/second.py ten_minutes < ten-minute file
+    python3 tests/second.py charged [C] < ten-minute file
     python3 tests/second.py amounts < cases
 
 It is the other opinion that the proved programs are compared with, so it takes nothing from them. It
 works in another way too: energy in kWh and multipliers as exact fractions, as document 003 writes its
 formulas, and units, grains and cents only where document 01 asks for them. The hour file stands in
-second_file.py, the sums in second_sums.py; a test finds all of it here, as `second.NAME`.
+second_file.py, the sums in second_sums.py, ten-minute settlement in second_ten_minutes.py; a test finds
+all of it here, as `second.NAME`.
 """
 
 import re
@@ -23,6 +26,7 @@ from collections import namedtuple
 
 from second_file import *  # noqa: F401, F403
 from second_sums import *  # noqa: F401, F403
+from second_ten_minutes import *  # noqa: F401, F403
 
 MOST_CENTS = 999_999_999_999
 UFE_FIGURES = 8
@@ -46,6 +50,7 @@ MEMBERS_ASKED_FOR = (*range(MOST_MEMBERS + 2), 255, 256, 2**31, 2**32 - 1)
 
 Answer = namedtuple("Answer", "number place ufe charges finals shares deviations lines")
 Explained = namedtuple("Explained", "number place heads decided")
+Charged = namedtuple("Charged", "number place charges")
 
 
 # ---- Settling into lent buffers (document 01, "The sums" and "Refusal numbers and their order"; document 02, A1)
@@ -77,6 +82,20 @@ def settle(data, lengths=USUAL_LENGTHS):
                   written_over(figures["shares"], shares),
                   written_over(figures["deviations"], deviations),
                   written_over(list(zip(figures["amounts"], posted)), lines))
+
+
+# ---- Ten-minute settlement into a lent buffer (document 02, A7)
+
+def settle_ten_minutes(data, length=MOST_MEMBERS):
+    """What ten-minute settling answers, and `length` charges afterwards, each of which is 77 before."""
+    charges = [UNTOUCHED] * length
+    try:
+        hour = read_ten_minute_hour(data)
+        if length < hour["members"]:
+            raise Refused(11)
+    except Refused as refused:
+        return Charged(refused.number, refused.place, charges)
+    return Charged(0, 0, written_over(ten_minute_charges(hour), charges))
 
 
 # ---- Why is this my charge? (document 02, A5)
@@ -163,15 +182,30 @@ def statement(data):
         figures = work_out(hour)
     except Refused as refused:
         return refusal(refused)
-    text = b"hour %d members %d records %d\n" % (hour["number"], hour["members"], len(hour["records"]))
+    text = first_line(hour)
     for member, (charge, final) in enumerate(zip(figures["charges"], figures["finals"])):
         text += b"%02d %s %s\n" % (member, column(charge), column(final))
     return text
 
 
+def first_line(hour):
+    return b"hour %d members %d records %d\n" % (hour["number"], hour["members"], len(hour["records"]))
+
+
+def ten_minutes(data):
+    """Program `ten_minutes`: as the hourly statement, with the charges alone (document 02, A7)."""
+    try:
+        hour = read_ten_minute_hour(data)
+    except Refused as refused:
+        return refusal(refused)
+    lines = (b"%02d %s\n" % (member, column(charge)) for member, charge in enumerate(ten_minute_charges(hour)))
+    return first_line(hour) + b"".join(lines)
+
+
 def column(cents):
     """An amount as the statement has it. All members' amounts together come to less than 4 x 10^18 grains
-    (tests/hours.py), so a charge and a share of N are at most 4 x 10^11 cents each, and a final fits 14 columns."""
+    (tests/hours.py), so a charge and a share of N are at most 4 x 10^11 cents each, and a final fits 14 columns. A ten-minute charge is
+    far smaller (tests/ten_minutes.py)."""
     number, field = write_amount(cents, AMOUNT_COLUMNS)
     assert number == 0
     return field
@@ -191,6 +225,12 @@ def settled(data, lengths=()):
             ["lines", *(f"{amount}:{records}" for amount, records in answer.lines)],
             ["bodies", *(f"{begins}:{length}" for begins, length in bodies(data, BLOCKS_ASKED_FOR))]]
     return "".join(" ".join(map(str, row)) + "\n" for row in rows).encode()
+
+
+def charged(data, lengths=(MOST_MEMBERS,)):
+    """The answer and the charges after ten-minute settling, as program `charged` prints them."""
+    answer = settle_ten_minutes(data, *lengths)
+    return " ".join(map(str, ["answer", answer.number, "at", f"{answer.place}\ncharges", *answer.charges])).encode() + b"\n"
 
 
 def explanation(data):
@@ -275,8 +315,8 @@ def amounts(data):
 
 
 PRINTED = {"statement": statement, "settled": settled, "explanation": explanation, "explained": explained, "write_hour": written_hour,
-           "written": written, "amounts": amounts}
-MOST_NUMBERS = {"settled": len(USUAL_LENGTHS), "explained": len(MEMBERS_ASKED_FOR), "written": len(USUAL_WRITING)}
+           "written": written, "ten_minutes": ten_minutes, "charged": charged, "amounts": amounts}
+MOST_NUMBERS = {"charged": 1, "settled": len(USUAL_LENGTHS), "explained": len(MEMBERS_ASKED_FOR), "written": len(USUAL_WRITING)}
 
 
 def main(name="", *numbers):

@@ -1,6 +1,8 @@
 """The second program's hour file: read and written, with the refusals that look at words and lengths."""
 
+import functools
 import struct
+from collections import namedtuple
 from itertools import chain
 
 BLOCK_BYTES = 512
@@ -11,6 +13,10 @@ RECORDS_IN_A_BLOCK = 10
 HEAD_WORDS = 120
 MOST_MEMBERS = 32
 MOST_RECORDS = 250
+
+# What tells the two kinds of file apart before their words are read: word 0 of the first block and of the others, and how much there is.
+Layout = namedtuple("Layout", "first_mark other_mark most_blocks records_in_a_block record_words")
+HOURLY = Layout(1, 2, MOST_BLOCKS, RECORDS_IN_A_BLOCK, RECORD_WORDS)
 
 GENERATOR, REAL_TIME_LOAD, PROFILE_LOAD, IMPORT, EXPORT = 1, 2, 3, 4, 5
 LOADS = (REAL_TIME_LOAD, PROFILE_LOAD)
@@ -48,9 +54,9 @@ def signed(word):
     return word - 2**32 if word >= 2**31 else word
 
 
-def blocks_in(data):
+def blocks_in(data, layout=HOURLY):
     """The file as blocks of 128 words; refusal 1 looks at nothing but the length."""
-    if len(data) == 0 or len(data) % BLOCK_BYTES != 0 or len(data) > MOST_BLOCKS * BLOCK_BYTES:
+    if len(data) == 0 or len(data) % BLOCK_BYTES != 0 or len(data) > layout.most_blocks * BLOCK_BYTES:
         raise Refused(1)
     return list(struct.iter_unpack("<128I", data))
 
@@ -72,53 +78,69 @@ def check_sums(blocks):
             raise Refused(2, place)
 
 
-def layout_holds(blocks, place):
+def layout_holds(blocks, place, layout):
     """Words 0 to 6 of a block, and the zeros past its records."""
     block = blocks[place]
     if place == 0:
-        return block[0:7] == (1, 0, len(blocks) - 1, 0, 0, 0, 0)
+        return block[0:7] == (layout.first_mark, 0, len(blocks) - 1, 0, 0, 0, 0)
     held = block[2]
     last = place == len(blocks) - 1
-    if held not in range(1 if last else RECORDS_IN_A_BLOCK, RECORDS_IN_A_BLOCK + 1):
+    if held not in range(1 if last else layout.records_in_a_block, layout.records_in_a_block + 1):
         return False
-    past = FIRST_BODY_WORD + RECORD_WORDS * held
-    return block[0:2] == (2, place) and not any(block[3:7]) and not any(block[past:])
+    past = FIRST_BODY_WORD + layout.record_words * held
+    return block[0:2] == (layout.other_mark, place) and not any(block[3:7]) and not any(block[past:])
 
 
-def check_layout(blocks):
+def check_layout(blocks, layout):
     for place in range(len(blocks)):
-        if not layout_holds(blocks, place):
+        if not layout_holds(blocks, place, layout):
             raise Refused(3, place)
 
 
-def read_head(block):
-    """The first body. Words are looked at in order, so that the counts are known to be in range
-    before a later word leans on them."""
+def whole_blocks(data, layout):
+    """The blocks of a file that keeps rows 1 to 3."""
+    blocks = blocks_in(data, layout)
+    check_sums(blocks)
+    check_layout(blocks, layout)
+    return blocks
 
-    def word(place, allowed):
-        value = signed(block[place]) if allowed is PRICE else block[place]
-        if value not in allowed:
-            raise Refused(4, place)
-        return value
 
-    head = {"number": word(8, WORD)}
-    head["members"] = word(9, range(1, 33))
-    zones = word(10, range(1, 5))
-    areas = word(11, range(1, 9))
-    prices = [word(12 + zone, PRICE if zone < zones else ZERO) for zone in range(4)]
+def head_word(block, place, allowed):
+    """A word of the first body; one that may be below zero is in two's complement."""
+    value = signed(block[place]) if allowed.start < 0 else block[place]
+    if value not in allowed:
+        raise Refused(4, place)
+    return value
+
+
+def read_counts(word):
+    """The words that a first body begins with: the hour's number, and how many members, zones and areas there are."""
+    return word(8, WORD), word(9, range(1, 33)), word(10, range(1, 5)), word(11, range(1, 9))
+
+
+def read_areas(word, zones, areas, ties):
+    """The areas of a first body, `ties` being what their ties may be."""
     rows = []
     for area in range(8):
         counted = area < areas
         at = 16 + 4 * area
         rows.append({"zone": word(at, range(zones) if counted else ZERO),
-                     "in": word(at + 1, TIE if counted else ZERO),
-                     "out": word(at + 2, TIE if counted else ZERO)})
+                     "in": word(at + 1, ties if counted else ZERO),
+                     "out": word(at + 2, ties if counted else ZERO)})
         word(at + 3, ZERO)
+    return rows[:areas]
+
+
+def read_head(block):
+    """The first body. Words are looked at in order, so that the counts are known to be in range
+    before a later word leans on them."""
+    word = functools.partial(head_word, block)
+    number, members, zones, areas = read_counts(word)
+    prices = [word(12 + zone, PRICE if zone < zones else ZERO) for zone in range(4)]
+    rows = read_areas(word, zones, areas, TIE)
     for place in range(48, 128):
         word(place, ZERO)
-    head["prices"] = prices[:zones]
-    head["areas"] = rows[:areas]
-    return head
+    return {"number": number, "members": members, "prices": prices[:zones], "areas": rows}
 
 
 def read_record(words):
@@ -138,17 +160,18 @@ def record_holds(record, members, areas):
                for letter, allowed in RECORD_RANGES.items())
 
 
-def records_held(blocks):
-    """The words of each record that the blocks hold, in file order."""
-    return [block[at:at + RECORD_WORDS] for block in blocks[1:]
-            for at in range(FIRST_BODY_WORD, FIRST_BODY_WORD + RECORD_WORDS * block[2], RECORD_WORDS)]
+def records_held(blocks, size=RECORD_WORDS):
+    """The words of each record that the blocks hold, in file order; `size` is how many a record has."""
+    return [block[at:at + size] for block in blocks[1:]
+            for at in range(FIRST_BODY_WORD, FIRST_BODY_WORD + size * block[2], size)]
 
 
-def read_records(held, members, areas):
+def read_records(held, members, areas, read=read_record, holds=record_holds):
+    """The records of these words; `read` and `holds` are those of the kind of file."""
     records = []
     for words in held:
-        record = read_record(words)
-        if not record_holds(record, members, areas):
+        record = read(words)
+        if not holds(record, members, areas):
             raise Refused(5, len(records))
         records.append(record)
     return records
@@ -156,9 +179,7 @@ def read_records(held, members, areas):
 
 def read_hour(data):
     """An hour as dicts, or refusals 1 to 5, each over the whole file before the next."""
-    blocks = blocks_in(data)
-    check_sums(blocks)
-    check_layout(blocks)
+    blocks = whole_blocks(data, HOURLY)
     hour = read_head(blocks[0])
     hour["records"] = read_records(records_held(blocks), hour["members"], len(hour["areas"]))
     return hour

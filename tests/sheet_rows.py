@@ -1,8 +1,9 @@
-"""The example sheet of the tests of sheets, its rows and fields, and sheets made of changed ones."""
+"""The example sheet of the tests of sheets, its rows and fields, and sheets made of changed ones: of the example, where no other is given."""
 
 import csv
 import io
 import re
+import string
 from pathlib import Path
 
 ROOT = Path(__file__).resolve().parent.parent
@@ -31,10 +32,10 @@ def sheet_of(rows, **manner):
     return text.getvalue().encode()
 
 
-def with_field(row, letter, value):
-    """The example's rows with another field."""
-    rows = rows_in(SHEET)
-    rows[row - 1][LETTERS.index(letter)] = value
+def with_field(row, letter, value, sheet=SHEET):
+    """A sheet's rows with another field."""
+    rows = rows_in(sheet)
+    rows[row - 1][string.ascii_uppercase.index(letter)] = value
     return rows
 
 
@@ -48,9 +49,9 @@ def without_units(field):
     return re.sub(r" \(.*\)", "", field)
 
 
-def reordered(titles_row, order):
-    """The example with the columns of a part in another order; the first stays, since it tells which part it is."""
-    rows, first = rows_in(SHEET), titles_row - 1
+def reordered(titles_row, order, sheet=SHEET):
+    """A sheet with the columns of a part in another order; the first stays, since it tells which part it is."""
+    rows, first = rows_in(sheet), titles_row - 1
     for number in range(first, len(rows)):
         if not rows[number]:
             break

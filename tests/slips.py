@@ -10,7 +10,7 @@ def in_one_file(*files):
     return "".join(line for text in texts for line in text.splitlines(True) if not line.startswith("from second_"))
 
 
-SECOND = in_one_file("second_file.py", "second_sums.py", "second.py")
+SECOND = in_one_file("second_file.py", "second_sums.py", "second_ten_minutes.py", "second.py")
 
 # A slip is one text changed, or several, an old one before each new one. Document 01's "Slips to catch" come first; the hours must show
 # every one.
@@ -39,8 +39,9 @@ HOUR_SLIPS = {
     "share of a negative UFE positive": ("[-size if shared < 0 else size for size in sizes]", "sizes"),
     "tie out left out": ('ties["in"] - ties["out"]', 'ties["in"]'),
     "layout before sums": (
-        "    check_sums(blocks)\n    check_layout(blocks)", "    check_layout(blocks)\n    check_sums(blocks)"),
+        "    check_sums(blocks)\n    check_layout(blocks, layout)", "    check_layout(blocks, layout)\n    check_sums(blocks)"),
     "sums without their highest bit": ("sum(block) % 2**32", "sum(block) % 2**31"),
+    "fewer records before the last block": ("range(1 if last else layout.records_in_a_block, ", "range(1, "),
     "no refusal 6": ("energy != 0 and demand(hour, area) == 0", "False"),
     "lines short by one": ("min(len(lines), len(charges)", "min(len(lines) + 1, len(charges)"),
     "charges short by one": ("min(len(lines), len(charges)", "min(len(lines), len(charges) + 1"),
@@ -48,7 +49,7 @@ HOUR_SLIPS = {
     "shares short by one": ("min(len(shares), len(deviations)) <", "min(len(shares) + 1, len(deviations)) <"),
     "deviations short by one": ("min(len(shares), len(deviations)) <", "min(len(shares), len(deviations) + 1) <"),
     "record count of the next member": ('r["member"] == member for r', 'r["member"] == member + 1 for r'),
-    "an invented record count": ('hour["members"], len(hour["records"]))\n    for', 'hour["members"], 2)\n    for'),
+    "an invented record count": ('hour["members"], len(hour["records"]))', 'hour["members"], 2)'),
 }
 
 # The shares by a bound of document 02, A4, in hours of equal remainders.
@@ -95,7 +96,8 @@ HOUR_SLIPS.update({
     "12 before 6": ("raise Refused(6, area)", "raise Refused(6, area) if any(member_demands(hour)) else Refused(12)"),
     "12 after 11": (
         "        figures = work_out(hour)\n        members, records", "        members, records",
-        "            raise Refused(11)\n", "            raise Refused(11)\n        figures = work_out(hour)\n"),
+        "            raise Refused(11)\n    except Refused as refused:\n        return Answer",
+        "            raise Refused(11)\n        figures = work_out(hour)\n    except Refused as refused:\n        return Answer"),
     "charges in the second column": ("column(charge), column(final)", "column(charge), column(charge)"),
     "finals in the first column": ("column(charge), column(final)", "column(final), column(charge)"),
     "no blank between the columns": ('b"%02d %s %s', 'b"%02d %s%s'),
@@ -161,15 +163,17 @@ HOUR_SLIPS.update({
 })
 
 # A refusal that names the last such place in place of the first.
+HEAD_GIVEN = '    return {"number": number, "members": members, "prices": prices[:zones], "areas": rows}\n\n\ndef read_record('
 HOUR_SLIPS.update({
     "last block whose sum isn't zero": (
         "for place, block in enumerate(blocks):\n        if sum", "for place, block in reversed([*enumerate(blocks)]):\n        if sum"),
     "last block that breaks the layout": (
         "for place in range(len(blocks)):\n        if not", "for place in reversed(range(len(blocks))):\n        if not"),
     "last word of the head": (
-        '    head = {"number": word(8, WORD)}', '    bad = []\n    head = {"number": word(8, WORD)}',
-        "raise Refused(4, place)", "bad.append(place)",
-        '    head["prices"] =', '    if bad:\n        raise Refused(4, bad[-1])\n    head["prices"] ='),
+        "def head_word(block, place, allowed):", "BAD = []\n\n\ndef head_word(block, place, allowed):",
+        "        raise Refused(4, place)", "        BAD.append(place)",
+        "def read_counts(word):\n", "def read_counts(word):\n    BAD.clear()\n",
+        HEAD_GIVEN, f"    if BAD:\n        raise Refused(4, BAD[-1])\n{HEAD_GIVEN}"),
     "last record": (
         "    records = []\n    for words in held", "    records, bad = [], []\n    for words in held",
         "raise Refused(5, len(records))", "bad.append(len(records))",

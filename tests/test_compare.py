@@ -4,8 +4,6 @@ tests/slips.py.
     python3 -m unittest tests/test_compare.py       # a minute
 """
 
-import contextlib
-import io
 import shutil
 import sys
 import tempfile
@@ -21,34 +19,13 @@ import programs  # noqa: E402
 import questions  # noqa: E402
 import second  # noqa: E402
 import to_write  # noqa: E402
-from scripts import load_script  # noqa: E402
+from comparing import compare, run_compare, stand_ins, without_starting  # noqa: E402
 from slips import (AMOUNT_SLIPS, HOUR_SLIPS, IMPORT_SLIPS, QUESTION_SLIPS, SCHEDULE_SLIPS, SECOND, WRITING_SLIPS, slipped,  # noqa: E402
                    wrong_program)
-
-compare = load_script(HERE / "compare")
 
 
 class Noticing(unittest.TestCase):
     """tests/compare notices a wrong program, and the hours show every slip."""
-
-    def run_compare(self, *words):
-        """tests/compare within this process: its status and what it printed."""
-        said = io.StringIO()
-        with mock.patch.object(sys, "argv", ["compare", *map(str, words)]), contextlib.redirect_stdout(said), \
-                contextlib.redirect_stderr(said):
-            status = compare.main()
-        return status, said.getvalue()
-
-    @contextlib.contextmanager
-    def stand_ins(self, **texts):
-        """A folder with the programs, each of which is the Python text under its name, or the second program."""
-        with tempfile.TemporaryDirectory() as folder:
-            for name in second.PRINTED:
-                program, text = Path(folder, name), texts.get(name, SECOND)
-                Path(folder, name + ".py").write_text(text)
-                program.write_text(f'#!/bin/sh\nexec "{sys.executable}" "$0.py" {name} "$@"\n')
-                program.chmod(0o755)
-            yield Path(folder)
 
     @staticmethod
     def two_members():
@@ -56,9 +33,8 @@ class Noticing(unittest.TestCase):
         return mock.patch.object(hours, "ROUND", [hours.honest(hours.printed_case)])
 
     def test_right_programs(self):
-        with self.stand_ins() as folder:
-            status, said = self.run_compare("--hours", 3, "--amounts", 2_500, "--programs", folder,
-                                            "--save", folder / "saved")
+        with stand_ins() as folder:
+            status, said = run_compare("--hours", 3, "--amounts", 2_500, "--programs", folder, "--save", folder / "saved")
             self.assertEqual((status, (folder / "saved").exists()), (0, False), said)
             self.assertIn("3 hours of seed 1 against the second program: every byte agreed", said)
             self.assertIn("3 questions of seed 1 against the second program: every byte agreed", said)
@@ -69,8 +45,8 @@ class Noticing(unittest.TestCase):
     def test_a_wrong_program(self):
         wrong = slipped("loads added")
         for name in ("statement", "settled"):
-            with self.stand_ins(**{name: wrong}) as folder, self.two_members():
-                status, said = self.run_compare("--hours", 3, "--programs", folder, "--save", folder / "saved")
+            with stand_ins(**{name: wrong}) as folder, self.two_members():
+                status, said = run_compare("--hours", 3, "--programs", folder, "--save", folder / "saved")
                 self.assertEqual(status, 1, said)
                 self.assertIn("---- second program wrote:", said)
                 saved = sorted((folder / "saved").glob("*.hour"))
@@ -83,9 +59,9 @@ class Noticing(unittest.TestCase):
         tie = "a tie to the later head"
         for name, slip, kind in (("explanation", "minus left out", "explanation"), ("explained", "loads added", "explained"),
                                  ("explanation", tie, "question"), ("explained", tie, "asked")):
-            with self.stand_ins(**{name: slipped(slip, QUESTION_SLIPS)}) as folder, self.two_members(), \
+            with stand_ins(**{name: slipped(slip, QUESTION_SLIPS)}) as folder, self.two_members(), \
                     mock.patch.object(questions, "ROUND", [questions.tie_of(("load", "import"), 1)]):
-                status, said = self.run_compare("--hours", 1, "--programs", folder, "--save", folder / "saved")
+                status, said = run_compare("--hours", 1, "--programs", folder, "--save", folder / "saved")
                 self.assertEqual(status, 1, said)
                 data = min((folder / "saved").glob(f"*.{kind}")).read_bytes()
                 self.assertNotEqual(len(data) % 512 == 0, name == "explanation", "a question, or a file")
@@ -93,8 +69,8 @@ class Noticing(unittest.TestCase):
     def test_a_program_that_writes_hours_wrong(self):
         wrong = slipped("word 2 of the last block ten", WRITING_SLIPS)
         for name in ("write_hour", "written"):
-            with self.stand_ins(**{name: wrong}) as folder, self.two_members():
-                status, said = self.run_compare("--hours", 4, "--programs", folder, "--save", folder / "saved")
+            with stand_ins(**{name: wrong}) as folder, self.two_members():
+                status, said = run_compare("--hours", 4, "--programs", folder, "--save", folder / "saved")
                 self.assertEqual(status, 1, said)
                 self.assertIn("bytes, from byte ", said)
                 case = min((folder / "saved").glob("*.writing"))
@@ -103,8 +79,8 @@ class Noticing(unittest.TestCase):
 
     def test_a_program_that_writes_amounts_wrong(self):
         for name in ("minus zero is read", "cut off from the left"):
-            with self.stand_ins(amounts=slipped(name, AMOUNT_SLIPS)) as folder:
-                status, said = self.run_compare("--amounts", 1_500, "--programs", folder, "--save", folder / "saved")
+            with stand_ins(amounts=slipped(name, AMOUNT_SLIPS)) as folder:
+                status, said = run_compare("--amounts", 1_500, "--programs", folder, "--save", folder / "saved")
                 self.assertEqual(status, 1, said)
                 saved = sorted((folder / "saved").iterdir())
                 self.assertTrue(saved)
@@ -115,39 +91,33 @@ class Noticing(unittest.TestCase):
     def test_a_program_that_ends_badly(self):
         for ending in ("\n    sys.exit(3)\n", "\n    print('oh', file=sys.stderr)\n"):
             wrong = dict.fromkeys(("statement", "explanation", "write_hour", "amounts"), SECOND + ending)
-            with self.stand_ins(**wrong) as folder, self.two_members():
+            with stand_ins(**wrong) as folder, self.two_members():
                 for what in ("--hours", "--amounts"):
-                    status, said = self.run_compare(what, 2, "--programs", folder, "--save", folder / "saved")
+                    status, said = run_compare(what, 2, "--programs", folder, "--save", folder / "saved")
                     self.assertEqual(status, 1, said)
 
     def test_by_hand_the_programs_are_left_out(self):
-        with self.stand_ins(statement="", write_hour="") as folder:
-            status, said = self.run_compare("--hand", "--hours", 5, "--programs", folder)
+        with stand_ins(statement="", write_hour="") as folder:
+            status, said = run_compare("--hand", "--hours", 5, "--programs", folder)
             self.assertEqual(status, 0, said)
             self.assertIn("taken apart and written again: 5", said)
 
     def test_no_programs(self):
         with tempfile.TemporaryDirectory() as folder:
-            self.assertEqual(self.run_compare("--programs", folder)[0], 2)
-
-    @staticmethod
-    def without_starting(command, data):
-        """What a right program writes, for tests of many hours."""
-        program, *lengths = command
-        return second.PRINTED[program.name](data, *([[int(length) for length in lengths]] if lengths else []))
+            self.assertEqual(run_compare("--programs", folder)[0], 2)
 
     def test_every_refusal_that_can_occur_is_seen_in_500_hours(self):
-        with self.stand_ins() as folder, mock.patch.object(programs, "run", self.without_starting):
+        with stand_ins() as folder, mock.patch.object(programs, "run", without_starting):
             for seed in range(2):
-                status, said = self.run_compare("--hand", "--hours", 500, "--amounts", 500, "--seed", seed, "--programs", folder)
+                status, said = run_compare("--hand", "--hours", 500, "--amounts", 500, "--seed", seed, "--programs", folder)
                 self.assertEqual(status, 0, said)
 
     def test_it_says_if_something_never_occurred(self):
-        with self.stand_ins() as folder, mock.patch.object(programs, "run", self.without_starting), \
+        with stand_ins() as folder, mock.patch.object(programs, "run", without_starting), \
                 mock.patch.object(hours, "ROUND", [hours.honest(hours.few_records)]), \
                 mock.patch.object(questions, "ROUND", [questions.decided_by("export", 1)]), \
                 mock.patch.object(to_write, "ROUND", [to_write.honest(10)]):
-            status, said = self.run_compare("--hand", "--hours", 500, "--programs", folder)
+            status, said = run_compare("--hand", "--hours", 500, "--programs", folder)
             self.assertEqual(status, 1)
             self.assertIn("never occurred in 500 hours: refused 1; refused 2; refused 3; refused 4; refused 5; refused 6; refused 12; "
                           "refused 14; 12, one record; 12, several members charged; 12, exact amounts that cancel; "
@@ -169,10 +139,10 @@ class Noticing(unittest.TestCase):
 
     def test_it_says_if_no_schedule_was_near_a_maximum(self):
         """Nor of another kind: no hour has records."""
-        with self.stand_ins() as folder, mock.patch.object(programs, "run", self.without_starting), \
+        with stand_ins() as folder, mock.patch.object(programs, "run", without_starting), \
                 mock.patch.object(hours, "ROUND", [hours.honest(hours.no_records)]), \
                 mock.patch.object(to_write, "ROUND", [to_write.honest(0)]):
-            status, said = self.run_compare("--hand", "--hours", 500, "--programs", folder)
+            status, said = run_compare("--hand", "--hours", 500, "--programs", folder)
         self.assertEqual(status, 1)
         scheduled = ("a load in real time", "a load by profile", "an import", "an export")
         self.assertIn("; a generator scheduled at its maximum; a generator scheduled at the highest maximum; "

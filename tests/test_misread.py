@@ -11,11 +11,12 @@ sys.path.insert(0, str(Path(__file__).resolve().parent))
 import misread  # noqa: E402
 import programs  # noqa: E402
 import second  # noqa: E402
-from slips import HOUR_SLIPS, SCHEDULE_SLIPS, WRITING_SLIPS, wrong_program  # noqa: E402
+from slips import HEAD_GIVEN, HOUR_SLIPS, SCHEDULE_SLIPS, WRITING_SLIPS, wrong_program  # noqa: E402
 
 # Each misreading, as changes of the second program; where it can be made in several places, each of them.
 LOADS_USE = 'REAL_TIME_LOAD: "SAJNO", PROFILE_LOAD: "SAJNO"'
 DELIVERED = 'delivered = (r["A"] - r["J"]) * multiplier(r["H"])'
+LAYOUT_CHECKED = "    check_layout(blocks, layout)\n"
 HEAD_READ = "    hour = read_head(blocks[0])\n"
 CENTS = "    size = int(Fraction(abs(grains), GRAINS_IN_A_CENT)"
 MISREAD = {
@@ -32,7 +33,7 @@ MISREAD = {
     "areas counted by zones": [("counted = area < areas", "counted = area < zones")],
     "an area's zone below the areas": [("range(zones) if counted", "range(areas) if counted")],
     "row 3 before row 2": [HOUR_SLIPS["layout before sums"]],
-    "row 4 before row 3": [(f"    check_layout(blocks)\n{HEAD_READ}", f"{HEAD_READ}    check_layout(blocks)\n")],
+    "row 4 before row 3": [(LAYOUT_CHECKED, f"    read_head(blocks[0])\n{LAYOUT_CHECKED}")],
     "row 5 before row 4": [(HEAD_READ, f"    read_records(records_held(blocks), 32, 8)\n{HEAD_READ}"), WRITING_SLIPS["5 before 4"]],
     "row 14 before row 5": [SCHEDULE_SLIPS["14 before 5, over all records"], SCHEDULE_SLIPS["14 before 5, record by record"]],
     "row 6 before row 14": [HOUR_SLIPS["14 after 6"]],
@@ -67,7 +68,7 @@ MISREAD = {
     "D by the scheduled energy": [('demands = [hour["records"][i]["A"]', 'demands = [hour["records"][i]["S"]')],
     "a member's demand by the scheduled energy": [HOUR_SLIPS["demand as scheduled"]],
     "an area's zone from word 19": [("        word(at + 3, ZERO)\n", '        rows[-1]["zone"] = word(at + 3, ZERO)\n')],
-    "prices reversed": [('head["prices"] = prices[:zones]', 'head["prices"] = prices[:zones][::-1]')],
+    "prices reversed": [(HEAD_GIVEN, HEAD_GIVEN.replace("[:zones]", "[:zones][::-1]"))],
     "an area's own number as its zone": [('["prices"][hour["areas"][area]["zone"]]', '["prices"][area]')],
     "a member's demand from the next member": [
         ('r["member"] == member and r["kind"] in LOADS', 'r["member"] == (member + 1) % hour["members"] and r["kind"] in LOADS'),
@@ -95,7 +96,7 @@ MISREAD.update({
 })
 for word, at in (("in", 1), ("out", 2)):
     for most in (1_000_000, 9_999_999, 10_000_001):
-        MISREAD[f"tie {word} up to {most:,}"] = [(f'"{word}": word(at + {at}, TIE', f'"{word}": word(at + {at}, range({most + 1})')]
+        MISREAD[f"tie {word} up to {most:,}"] = [(f'"{word}": word(at + {at}, ties', f'"{word}": word(at + {at}, range({most + 1})')]
 for counted, most in (("members", 32), ("zones", 4), ("areas", 8)):
     for name, narrowed in (("no", f"range({most + 1})"), (str(most - 1), f"range(1, {most})"), (str(most + 1), f"range(1, {most + 2})")):
         MISREAD[f"{name} {counted}"] = [(f"range(1, {most + 1})", narrowed)]

@@ -19,7 +19,7 @@ import programs  # noqa: E402
 import second  # noqa: E402
 import to_write  # noqa: E402
 from office_calls import (ANSWERED, CALLS, EXAMPLES, MISSING, PRINTED, REFUSED, ROOT, SEVERAL, SHEET, TROUBLE, Case,  # noqa: E402, F401
-                          answers, checked, is_refused, printed_by, refused, setUpModule, under_names, written)
+                          answers, checked, is_refused, is_ten_minutes, printed_by, refused, setUpModule, under_names, written)
 from programs import COMMAND, asked, ended  # noqa: E402
 
 
@@ -47,7 +47,7 @@ class Output(Case):
                 self.assertEqual(asked(*words, "--quiet", data=data), (REFUSED, line, ""))
 
     def test_examples(self):
-        paths = sorted(EXAMPLES.glob("*.hour"))
+        paths = sorted(path for path in EXAMPLES.glob("*.hour") if not is_ten_minutes(path.read_bytes()))
         files = [path.read_bytes() for path in paths]
         statements = [printed_by("statement", data) for data in files]
         self.assertEqual(asked("settle", *paths), (ANSWERED, under_names(paths, statements), ""))
@@ -83,13 +83,14 @@ class Output(Case):
 
 
 class ManyHours(Case):
-    """Made hours, every refusal that a file can bring about among them, against the second program."""
+    """Made hours, every refusal that a file can bring about among them, against the second program. Those that are damaged so that they
+    begin as a ten-minute file are left out: tests/test_office_ten_minutes.py has them."""
 
     @classmethod
     def setUpClass(cls):
         folder = tempfile.TemporaryDirectory()
         cls.addClassCleanup(folder.cleanup)
-        cls.files = [hours.made(5, index).data for index in range(300)]
+        cls.files = [made.data for made in (hours.made(5, index) for index in range(300)) if not is_ten_minutes(made.data)]
         cls.paths, cls.statements = written(folder.name, cls.files), [second.statement(data) for data in cls.files]
         cls.refusals = [pair for pair in zip(cls.paths, cls.statements) if is_refused(pair[1])]
 

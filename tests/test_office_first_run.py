@@ -14,7 +14,8 @@ from pathlib import Path
 
 sys.path.insert(0, str(Path(__file__).resolve().parent))
 import programs  # noqa: E402
-from office_calls import ANSWERED, CALLS, EACH_PROGRAM, PRINTED, PROGRAMS, ROOT, TROUBLE, Case, answers, setUpModule  # noqa: E402, F401
+from office_calls import (ANSWERED, CALLS, EACH_PROGRAM, PRINTED, PROGRAMS, ROOT, TEN_MINUTE_SHEET, TEN_MINUTES, TROUBLE,  # noqa: E402, F401
+                          Case, answers, printed_by, setUpModule)
 from programs import Ended, ended  # noqa: E402
 
 
@@ -100,6 +101,21 @@ class FirstRun(Case):
     def test_a_verb_that_needs_two(self):
         got = self.ended("unpack", PRINTED)
         self.assertEqual((got.status, got.printed, self.proved()), (ANSWERED, answers()["unpack"], ["check statement", "check write_hour"]))
+
+    def test_a_ten_minute_file(self):
+        """Nothing is proved that is for hourly files alone."""
+        statement, sheet, file = printed_by("ten_minutes", TEN_MINUTES.read_bytes()), TEN_MINUTE_SHEET.read_bytes(), TEN_MINUTES.read_bytes()
+        self.assert_first(self.ended("settle", TEN_MINUTES), "ten_minutes", statement)
+        for verb, given, printed in (("settle", TEN_MINUTES, statement), ("check", TEN_MINUTES, b"accepted\n"),
+                                     ("unpack", TEN_MINUTES, sheet), ("pack", TEN_MINUTE_SHEET, file)):
+            with self.subTest(verb):
+                self.assert_not_first(self.ended(verb, given), printed)
+        self.assert_not_done(self.ended("explain", "0", TEN_MINUTES), "no explanation")
+        self.assertEqual(self.proved(), [])
+
+    def test_both_kinds_in_one_call(self):
+        got = self.ended("check", TEN_MINUTES, PRINTED)
+        self.assertEqual((got.status, self.proved()), (ANSWERED, ["check ten_minutes", "check statement"]))
 
     def test_nothing_is_proved_for_what_is_not_understood(self):
         self.assertEqual(self.ended("--help").status, ANSWERED)

@@ -12,7 +12,9 @@ HERE = Path(__file__).resolve().parent
 ROOT = HERE.parent
 sys.path.insert(0, str(HERE))
 import hours  # noqa: E402
+import naming  # noqa: E402
 import second  # noqa: E402
+import ten_minutes  # noqa: E402
 from answers import answer  # noqa: E402
 from scripts import load_script  # noqa: E402
 
@@ -37,6 +39,46 @@ class Pages(unittest.TestCase):
             for figure in settled.ufe + settled.deviations + settled.shares + amounts + settled.charges + settled.finals:
                 if figure != second.UNTOUCHED:
                     self.assertIn(self.printed(figure), page, name)
+
+    def test_the_ten_minute_examples(self):
+        """What each record deviates by, each net, what it costs and what a member's come to, in the 24ths that the page counts in."""
+        make = load_script(ROOT / "examples" / "make.py")
+        page = (ROOT / "examples" / "ten-minutes.md").read_text()
+        for name, made in make.TEN_MINUTES.items():
+            data = (ROOT / "examples" / f"{name}.hour").read_bytes()
+            self.assertEqual(data, made().encode(), "python3 examples/make.py writes the hours")
+            self.assertIn(f"```\n{second.ten_minutes(data).decode()}```\n", page, name)
+            figures = self.ten_minute_figures(second.read_ten_minute_hour(data))
+            self.assertEqual([each for each in figures if self.printed(each) not in page], [], name)
+        self.assertTrue(page.endswith("```\n"))
+
+    @staticmethod
+    def ten_minute_figures(hour):
+        records, intervals = hour["records"], second.INTERVALS
+        figures = [24 * second.interval_schedule(r, interval) for r in records for interval in intervals]
+        figures += [24 * second.interval_actual(r, interval) for r in records for interval in intervals]
+        figures += [240_000 * second.interval_deviation(r, interval) for r in records for interval in intervals]
+        for member in range(hour["members"]):
+            for zone, prices in enumerate(hour["prices"]):
+                own = [r for r in records if r["member"] == member and hour["areas"][r["area"]]["zone"] == zone]
+                nets = [240_000 * second.net_deviation(own, interval) for interval in intervals]
+                figures += [*nets, *(net * second.interval_price(prices, net, interval) for net, interval in zip(nets, intervals))]
+            figures.append(24 * second.unrounded_amount(hour, member))
+        assert all(figure.denominator == 1 for figure in figures)
+        return [int(figure) for figure in figures] + second.ten_minute_charges(hour)
+
+    def test_the_ramps_of_the_ten_minute_examples(self):
+        """A record's neighbouring schedules agree, so that what the ramps add is what is left of the two ends."""
+        page = (ROOT / "examples" / "ten-minutes.md").read_text()
+        first, then = (second.read_ten_minute_hour((ROOT / "examples" / f"ten-minutes-{number}.hour").read_bytes())["records"]
+                       for number in (1, 2))
+        for one, two in zip(first[:2], then[:2]):
+            self.assertEqual((one["next"], two["before"]), (two["S"], one["S"]))
+            added = [int(24 * second.interval_schedule(r, interval) - 4 * r["S"]) for r in (one, two) for interval in (1, 6)]
+            together = (two["next"] - two["S"]) - (one["S"] - one["before"])
+            self.assertEqual(sum(added), together)
+            cells = " | ".join(self.printed(each) if each <= 0 else f"+{each}" for each in added)
+            self.assertIn(f" | {cells} | {self.printed(together)} | ", page)
 
     def test_the_example_to_write(self):
         words = (ROOT / "examples" / "printed.words").read_bytes()
@@ -101,6 +143,23 @@ class Pages(unittest.TestCase):
     def test_the_statement_of_the_format(self):
         statement = second.statement((ROOT / "examples" / "neutrality.hour").read_bytes()).decode()
         self.assertIn(f"```\n{statement}```\n", (ROOT / "docs" / "FORMAT.md").read_text())
+
+    def test_the_ten_minute_statement_of_the_format(self):
+        statement = second.ten_minutes((ROOT / "examples" / "ten-minutes-1.hour").read_bytes()).decode()
+        self.assertIn(f"```\n{statement}```\n", (ROOT / "docs" / "FORMAT.md").read_text())
+
+    def test_the_ten_minute_records_of_the_format(self):
+        """Each word of a record stands in one row, and each kind has a mark there or a zero as the maker of hours has it."""
+        section = naming.sections((ROOT / "docs" / "FORMAT.md").read_text())["The ten-minute file"]
+        table = [row for row in naming.rows(section) if "1 generator" in row]
+        spans = [[int(number) for number in row["word"].split(" to ")] for row in table]
+        words = [range(span[0], span[-1] + 1) for span in spans]
+        self.assertEqual([word for span in words for word in span], [*range(30)])
+        for kind, column in zip(ten_minutes.USED_WORDS, list(table[0])[3:]):
+            self.assertEqual(column[0], str(kind))
+            marked = [word for row, span in zip(table, words) for word in span if row[column] == "✓"]
+            self.assertEqual(marked, [0, 1, 2, *sorted(ten_minutes.USED_WORDS[kind])], column)
+            self.assertLessEqual({row[column] for row in table}, {"✓", "0"})
 
     def test_the_explanation_of_the_format(self):
         data = (ROOT / "examples" / "two-zones.hour").read_bytes()

@@ -20,6 +20,7 @@ import known  # noqa: E402
 import reasons  # noqa: E402
 import second  # noqa: E402
 import to_write  # noqa: E402
+from office_calls import is_ten_minutes  # noqa: E402
 from programs import asked  # noqa: E402
 
 ENDLESS = "/dev/zero"
@@ -371,7 +372,7 @@ class MendedAsItSays(unittest.TestCase):
     def test_made_hours(self):
         for index in range(self.COUNT):
             made = hours.made(self.SEED, index)
-            if made.expected != (0, 0):
+            if made.expected != (0, 0) and not is_ten_minutes(made.data):
                 with self.subTest(index=index, name=made.name):
                     self.mended(made.data)
         print("\nreasons: mended as the words say, by row: "

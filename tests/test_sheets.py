@@ -96,7 +96,7 @@ class ThereAndBack(unittest.TestCase):
             with self.subTest(index=index, name=made.name):
                 for delimiter in ",;" if index % 8 == 0 else ",;"[index % 2]:
                     sheet = sheets.sheet_of(made.data, delimiter)
-                    self.assertEqual(sheets.Packed(sheet).words(), words_of(made.data))
+                    self.assertEqual(sheets.Packed(sheet).hour().words(), words_of(made.data))
             hour, number = second.read_hour(made.data), made.expected[0] if made.expected else None
             reached.update(name for name, shows in SIDES.items() if shows(hour, number))
         print(f"\nsheets: {self.COUNT} there and back: " + ", ".join(f"{name}: {reached[name]}" for name in SIDES))
@@ -134,7 +134,7 @@ class ThereAndBack(unittest.TestCase):
     def test_the_examples(self):
         for name in ("printed", "two-zones", "left-over", "neutrality"):
             sheet, file = ((ROOT / "examples" / f"{name}.{what}").read_bytes() for what in ("csv", "hour"))
-            self.assertEqual((sheets.sheet_of(file), sheets.Packed(sheet).words()), (sheet, words_of(file)), name)
+            self.assertEqual((sheets.sheet_of(file), sheets.Packed(sheet).hour().words()), (sheet, words_of(file)), name)
 
     def test_what_is_not_unpacked(self):
         """A file of which a word is wrong has its refusal, and no sheet."""
@@ -195,7 +195,7 @@ class AsSpreadsheetsWriteThem(unittest.TestCase):
     """Each says the words of examples/two-zones.hour."""
 
     def assert_the_example(self, sheet):
-        self.assertEqual(sheets.Packed(sheet).words(), words_of(FILE), sheet)
+        self.assertEqual(sheets.Packed(sheet).hour().words(), words_of(FILE), sheet)
 
     def test_manners(self):
         for name, sheet in MANNERS.items():
@@ -234,7 +234,7 @@ class ThePage(unittest.TestCase):
             packed = sheets.Packed(sheet)
         except sheets.Unclear as unclear:
             return re.sub("(?<=there are kind, member, ).*", "…", str(unclear))
-        line = second.written_hour(packed.words()).decode().rstrip()
+        line = second.written_hour(packed.hour().words()).decode().rstrip()
         return f"SHEET: {line}: {packed.reason(*refusal_in(line))}"
 
     def test_the_example(self):
@@ -285,7 +285,7 @@ class NothingInvented(unittest.TestCase):
 
     def outcome(self, before, changed, row, column):
         try:
-            written = second.written_hour(sheets.Packed(sheet_of(changed)).words())
+            written = second.written_hour(sheets.Packed(sheet_of(changed)).hour().words())
         except sheets.Unclear:
             return "unclear"
         if written.startswith(b"refused"):

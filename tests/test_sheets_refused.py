@@ -37,7 +37,8 @@ def with_row(number, *fields):
 # ---- Sheets that say no hour
 
 MANY_DIGITS = "7" * 5_000
-NO_PART = "is none of hour, members, zone, area, kind"
+NO_PART = "is none of hour, ten-minute hour, members, zone, area, kind"
+NO_HOUR = "there is no row that begins with 'hour' or 'ten-minute hour'"
 RECORD_COLUMNS = ("there are kind, member, area, scheduled, actual, adjustment, ancillary, obligation, maximum, scheduled multiplier, "
                   "hour-ahead multiplier")
 
@@ -114,8 +115,9 @@ WHOLE = (
     ("the hour twice", sheet_of(with_row(3, "hour", "1400")), "row 3, column A: 'hour' is there twice"),
     ("the zones twice", sheet_of(with_row(22, "Zone", "price")), "row 22, column A: 'zone' is there twice"),
     ("the records twice", sheet_of([*rows_in(SHEET), *parts()[-1]]), "row 22, column A: 'kind' is there twice"),
+    ("no hour", sheet_of(itertools.chain(*parts()[1:])), NO_HOUR),
     *((f"no {name}", sheet_of(itertools.chain(*parts()[:at], *parts()[at + 1:])), f"there is no row that begins with '{name}'")
-      for at, name in enumerate(("hour", "members", "zone", "area", "kind"))),
+      for at, name in enumerate(("members", "zone", "area", "kind"), 1)),
     ("too many zones", sheet_of(too_many("zone", "1")), "row 9, column A (zone): 4 is above 3"),
     ("too many areas", sheet_of(too_many("area", "0", "0", "0")), "row 17, column A (area): 8 is above 7"),
     ("a zone left out", sheet_of(without_rows(5)), "row 5, column A (zone): zone 1 stands where zone 0 is due"),
@@ -130,8 +132,8 @@ WHOLE = (
     ("something behind a quote", SHEET.replace(b"load,1,0", b'"load"s,1,0', 1), "row 15: ',' expected after '\"'"),
     ("no UTF-8", SHEET.replace(b"1400", b"14\xff0"), "the sheet is no UTF-8 text: byte 7"),
     ("UTF-16", SHEET.decode().encode("utf-16"), "the sheet is no UTF-8 text: byte 0"),
-    ("nothing", b"", "there is no row that begins with 'hour'"),
-    ("a byte-order mark alone", b"\xef\xbb\xbf", "there is no row that begins with 'hour'"),
+    ("nothing", b"", NO_HOUR),
+    ("a byte-order mark alone", b"\xef\xbb\xbf", NO_HOUR),
     ("blank rows alone", b"\n\r\n,,,\n ; \n", f"row 4, column A: ';' {NO_PART}"),
     ("a long line", b"h" * 200_000 + SHEET, "row 1: field larger than field limit (131072)"),
     ("more than 1 MiB", SHEET + b"\n" * 2**20, "the sheet has more than 1048576 bytes; an hour has at most 250 records"),
@@ -196,7 +198,7 @@ class Unclear(unittest.TestCase):
 
 # ---- Sheets damaged at random
 
-NASTY = ("", "-", "0", "-1", "99999999999", "1.5", "abc", "hour", "members", "zone", "area", "kind", "load", "scheduled",
+NASTY = ("", "-", "0", "-1", "99999999999", "1.5", "abc", "hour", "ten-minute hour", "members", "zone", "area", "kind", "load", "scheduled",
          "price (cents/MWh)", ";", "\n", '"', "''", "=1+1", "\0", "\x1c", "\u0663", "\u2028", "\ufeff", "\U0001f331", "9" * 5_000)
 
 
@@ -246,10 +248,11 @@ DAMAGES = (fields_exchanged, nasty_field, rows_exchanged, bytes_changed, doubled
 
 
 class DamagedAtRandom(unittest.TestCase):
-    """Nothing but Unclear leaves Packed; and what it takes goes to the writer, whose refusal has a row in the sheet."""
+    """Nothing but Unclear leaves Packed; and what it takes goes to the writer, or as a ten-minute file to be settled: a refusal of either
+    has a row in the sheet."""
 
     COUNT = 4_000
-    SAID = r"row [0-9]+(, column [A-Z]+( \([a-z -]+\))?)?: .|the sheet |there is no row that begins with "
+    SAID = r"row [0-9]+(, column [A-Z]+( \([a-z0-9 -]+\))?)?: .|the sheet |there is no row that begins with "
 
     def test_sheets(self):
         bases = [path.read_bytes() for path in sorted((ROOT / "examples").glob("*.csv"))]
@@ -262,7 +265,7 @@ class DamagedAtRandom(unittest.TestCase):
             with self.subTest(index=index):
                 outcomes[self.outcome(sheet)] += 1
         print("\nsheets: damaged at random: " + ", ".join(f"{name}: {count}" for name, count in sorted(outcomes.items())))
-        self.assertEqual(set(outcomes), {"unclear", "refused", "written"})
+        self.assertEqual(set(outcomes), {"unclear", "refused", "written", "ten minutes, refused", "ten minutes, written"})
 
     def outcome(self, sheet):
         try:
@@ -270,11 +273,12 @@ class DamagedAtRandom(unittest.TestCase):
         except sheets.Unclear as unclear:
             self.assertRegex(str(unclear), rf"\A({self.SAID})")
             return "unclear"
-        written = second.written_hour(packed.words())
-        if not written.startswith(b"refused"):
-            return "written"
-        self.assertRegex(packed.reason(*refusal_in(written)), r"\Arow [0-9]+, column [A-Z] \([a-z -]+\): .")
-        return "refused"
+        hourly = packed.form.NAME.name == "hour"
+        printed = second.written_hour(packed.hour().words()) if hourly else second.ten_minutes(packed.hour().file())
+        if not printed.startswith(b"refused"):
+            return "written" if hourly else "ten minutes, written"
+        self.assertRegex(packed.reason(*refusal_in(printed)), r"\Arow [0-9]+, column [A-Z]+ \([a-z0-9 -]+\): .")
+        return "refused" if hourly else "ten minutes, refused"
 
 
 # ---- What the writer refuses
@@ -330,7 +334,7 @@ class RefusedByTheWriter(unittest.TestCase):
     def assert_reason(self, sheet, number, place, words):
         """The same, without starting anything."""
         packed = sheets.Packed(sheet)
-        self.assertEqual(refusal_in(second.written_hour(packed.words())), (number, place))
+        self.assertEqual(refusal_in(second.written_hour(packed.hour().words())), (number, place))
         self.assertEqual(packed.reason(number, place), words)
 
     def test_fields(self):
@@ -358,7 +362,7 @@ class RefusedByTheWriter(unittest.TestCase):
     def test_too_many_records(self):
         """The first that is one too many, also where there are many more."""
         why = "a record more than the 250 that an hour can have"
-        self.assertEqual(len(second.written_hour(sheets.Packed(sheet_of(self.of_records(250))).words())), 13_312)
+        self.assertEqual(len(second.written_hour(sheets.Packed(sheet_of(self.of_records(250))).hour().words())), 13_312)
         self.assert_refused(sheet_of(self.of_records(251)), 1, 0, f"row 264: {why}")
         self.assert_reason(sheet_of(self.of_records(5_000)), 1, 0, f"row 264: {why}")
         self.assert_reason(sheet_of(moved(self.of_records(251))), 1, 0, f"row 792: {why}")
