@@ -106,7 +106,7 @@ def full_file(rng):
 
 def full_blocks(rng):
     """A last block of four records, or of one."""
-    return random_ten_minutes(rng, 4 * rng.randint(1, 15) + rng.randint(0, 1), 3_000)
+    return random_ten_minutes(rng, 4 * rng.choice([1, rng.randint(1, 15)]) + rng.randint(0, 1), 3_000)
 
 
 def all_members(rng):
@@ -178,7 +178,7 @@ def halves_by_ramp(rng):
 
 def rounded_once(rng):
     """Parts of a cent in each zone and interval, which round otherwise alone than together."""
-    zones, members = rng.choice([2, 3, 4, 4]), rng.randint(1, 8)
+    zones, members = rng.choice([2, 3, 4, 4, 4, 4]), rng.randint(1, 8)
     prices = [[rng.choice([-1, 1]) * rng.randint(100, 499) for _ in range(12)] for _ in range(zones)]
     records = [over_plan(rng, member, zone, interval, rng.choice([1, 1, -1])) for member in range(members) for zone in range(zones)
                for interval in rng.sample(range(1, 7), 2)]

@@ -21,7 +21,8 @@ from ten_minute_hours import *  # noqa: F401, F403
 from ten_minute_hours import HONEST, random_ten_minutes
 
 MOST_CHARGES = 40
-LAST_HOURLY_RECORD = 160  # a file of 17 blocks
+LAST_HOURLY_RECORD = 160  # of a file of 17 blocks
+HOURLY_COUNTS = ((0, 0), (1, 159), (151, 160), (161, 161), (161, 250))
 
 
 # ---- Damaged hours, and files of the other kind
@@ -42,10 +43,12 @@ def two_of(pairs):
     return lambda rng: damaged(rng, rng.choice(pairs))
 
 
-def hourly_file(rng):
-    """An hourly file breaks the layout in its first block, where it isn't too long."""
-    count = rng.choice([0, 1, LAST_HOURLY_RECORD, LAST_HOURLY_RECORD + 1, 250, rng.randint(0, 250)])
-    return Made("hourly_file", hours.random_hour(rng, count, 3_000).encode(), (3 if count <= LAST_HOURLY_RECORD else 1, 0))
+def hourly_file(least, most):
+    """An hourly file of so many records breaks the layout in its first block, where it isn't too long."""
+    def make(rng):
+        count = rng.randint(least, most)
+        return Made("hourly_file", hours.random_hour(rng, count, 3_000).encode(), (3 if count <= LAST_HOURLY_RECORD else 1, 0))
+    return make
 
 
 def hourly_file_damaged(rng):
@@ -106,7 +109,7 @@ def scattered(rng):
 
 ROUND = ([hours.honest(maker) for maker in HONEST] * 4 + [alone(fault) for fault in FAULTS] + [two_of(pairs) for pairs in NEIGHBOURS] * 2
          + [two_of(pairs) for pairs in TWICE] * 2 + [make(which) for make in (sum_wrong, block_wrong) for which in hours.PLACES]
-         + [hourly_file] * 4 + [hourly_file_damaged, marked_as_hourly] + [scattered] * 3)
+         + [hourly_file(*counts) for counts in HOURLY_COUNTS] + [hourly_file_damaged, marked_as_hourly] + [scattered] * 3)
 
 
 def made(seed, index):
@@ -115,11 +118,11 @@ def made(seed, index):
 
 
 def length_for(rng, data):
-    """How many charges are lent: just enough, more, one too few, none, or any number. Where no hour can be read, any members will do."""
+    """How many charges are lent: just enough, more, one too few, none, or any number; to a refused hour none as often as not."""
     try:
         members = second.read_ten_minute_hour(data)["members"]
     except second.Refused:
-        members = rng.randint(1, second.MOST_MEMBERS)
+        return rng.choice([0, rng.randint(0, MOST_CHARGES)])
     return rng.choice([members, members, rng.randint(members, MOST_CHARGES), members - 1, members - 1, 0, rng.randint(0, MOST_CHARGES)])
 
 
