@@ -1,6 +1,7 @@
 """Ten-minute hours before they are bytes, as document 02, A7, lays them out, and makers of ones that keep the rules."""
 
-from hour_bytes import EXPORT, GENERATOR, HIGHEST, IMPORT, KINDS, LOWEST, PROFILE_LOAD, REAL_TIME_LOAD, Hour, Layout, padded
+from honest_hours import at_an_end
+from hour_bytes import EXPORT, GENERATOR, IMPORT, KINDS, PROFILE_LOAD, REAL_TIME_LOAD, Hour, Layout, padded
 
 MOST_INTERVAL_PRICE = 100_000
 MOST_INTERVAL_RECORDS = 64
@@ -120,12 +121,6 @@ def all_members(rng):
 
 
 # ---- At the edges
-
-def at_an_end(rng, letter):
-    """Mostly an end of the range, at times a step inside it."""
-    step = rng.choice([0, 0, 0, 1])
-    return rng.choice([LOWEST[letter] + step, HIGHEST[letter] - step])
-
 
 def ends_everywhere(rng):
     """Every count, price and word of a record at an end of its range."""

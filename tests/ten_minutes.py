@@ -15,6 +15,7 @@ import hours
 import second
 import to_write
 from hours import Made
+from misread import NAMES as KIND_NAMES
 from ten_minute_faults import *  # noqa: F401, F403
 from ten_minute_faults import FAULTS, NEIGHBOURS, TWICE
 from ten_minute_hours import *  # noqa: F401, F403
@@ -94,15 +95,7 @@ def some_block(rng, blocks, which):
 
 
 def scattered(rng):
-    """A few words of an honest hour changed anyhow, at times without mending the sum."""
-    blocks = random_ten_minutes(rng, rng.randint(0, 20), rng.choice([9, 3_000])).blocks()
-    for _ in range(rng.randint(1, 3)):
-        block, word = rng.choice(blocks), rng.randrange(128)
-        block[word] = rng.choice([0, 1, block[word] + 1, block[word] - 1, rng.randrange(2**32)]) % 2**32
-    if rng.random() < 0.9:
-        for block in blocks:
-            hours.mend(block)
-    return Made("scattered", hours.to_bytes(blocks), None)
+    return hours.scatter(rng, random_ten_minutes(rng, rng.randint(0, 20), rng.choice([9, 3_000])).blocks())
 
 
 # ---- The endless list
@@ -138,14 +131,11 @@ class Reached:
         number, self.place, self.charges = second.settle_ten_minutes(data)
         self.number, self.called = number, second.settle_ten_minutes(data, length).number
         self.hour = second.read_ten_minute_hour(data) if number == 0 else None
-        self.records = self.counted(data) if number in (0, 5) else 0
+        self.records = len(record_words(data)) if number in (0, 5) else 0
         self.broken = broken_words(data, self.place) if number == 5 else ()
         self.members = self.hour["members"] if self.hour else None
         self.posted = len({each["member"] for each in self.hour["records"]}) if self.hour else None
         self.nets = [nets_of(self.hour, member) for member in range(self.members)] if self.hour else []
-
-    def counted(self, data):
-        return len(second.records_held(second.blocks_in(data), second.TEN_MINUTES.record_words))
 
     def any_member(self, shows):
         """Whether a member's nets show something, of an hour that is accepted."""
@@ -159,20 +149,24 @@ def nets_of(hour, member):
     """For each zone the member's records, its six nets in kWh, and what each costs in grains."""
     zones = []
     for zone, prices in enumerate(hour["prices"]):
-        own = [r for r in hour["records"] if r["member"] == member and hour["areas"][r["area"]]["zone"] == zone]
+        own = second.records_in_zone(hour, member, zone)
         nets = [second.net_deviation(own, interval) for interval in second.INTERVALS]
         costs = [net * 10_000 * second.interval_price(prices, net, interval) for interval, net in zip(second.INTERVALS, nets)]
         zones.append((own, nets, costs))
     return zones
 
 
+def record_words(data):
+    """The words of each record of a file that keeps rows 1 to 3."""
+    return second.records_held(second.blocks_in(data), second.TEN_MINUTES.record_words)
+
+
 def broken_words(data, place):
-    """The words of a record that row 5 refuses, each of which alone breaks it; all of the kind's words where the kind is wrong."""
-    blocks = second.blocks_in(data)
-    words = second.records_held(blocks, second.TEN_MINUTES.record_words)[place]
+    """The words of a record that row 5 refuses, each of which alone breaks it; its kind alone where that is none."""
+    head, words = second.words_in(data[:second.BLOCK_BYTES]), record_words(data)[place]
     if words[0] not in second.DIRECTION:
         return (0,)
-    ranges = [range(6), range(blocks[0][9]), range(blocks[0][11]), *sum(second.interval_ranges(words[0]).values(), [])]
+    ranges = [range(6), range(head[9]), range(head[11]), *sum(second.interval_ranges(words[0]).values(), [])]
     return [at for at, (word, allowed) in enumerate(zip(words, ranges))
             if (second.signed(word) if allowed.start < 0 else word) not in allowed]
 
@@ -205,8 +199,6 @@ def deviates(kind):
     return lambda r: r["kind"] == kind and any(second.interval_deviation(r, interval) for interval in second.INTERVALS)
 
 
-KIND_NAMES = {second.GENERATOR: "a generator", second.REAL_TIME_LOAD: "a load in real time", second.PROFILE_LOAD: "a load by profile",
-              second.IMPORT: "an import", second.EXPORT: "an export"}
 HEAD_PARTS = {"the counts": range(9, 12), "the hourly prices": range(12, 16), "an area's zone": range(16, 48, 4),
               "an area's other words": [word for word in range(16, 48) if word % 4],
               "an incremental price": [word for word in range(48, 96) if word % 12 < 6],
