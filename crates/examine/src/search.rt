@@ -9,6 +9,7 @@ ghost use mathlib.Core.Option.{none};
 ghost use Prim.Native.Nat.{ℕ, _-_, _≤_, _<_};
 ghost use lib.Dec.{ltb, leb, eqb};
 ghost use Rattle.whole.specs.Below.{firstBelow};
+ghost use Rattle.rules.specs.HourFile as HourFile;
 ghost use Rattle.rules.specs.Ranges as Ranges;
 ghost use Rattle.rules.specs.Ranges.{formOf};
 ghost use Rattle.rules.specs.Refusals as Refusals;
@@ -34,6 +35,17 @@ fn word_of(source: Source, bytes: &[u8], words: &[u32], k: usize) -> u32
     match source {
         Source::File => blocks::whole_word(bytes, k),
         Source::Lists => words[k],
+    }
+}
+
+// The body of the first block, which has the head. Each layout is named where the block reader is called: handed on as a value, it makes the
+// loop over the head an instruction a word dearer.
+fn first_body(mode: Mode, file: &[u8]) -> &[u8]
+    ensures { λ r. ⌜ now r ≡ HourFile.body (formOf mode .layout) (now (file .entry)) 0 ⌝ }
+{
+    match mode {
+        Mode::Hourly => blocks::body(rules::hourly(), file, 0),
+        Mode::TenMinutes => blocks::body(rules::ten_minutes(), file, 0),
     }
 }
 
@@ -200,9 +212,8 @@ fn first_fault(mode: Mode, source: Source, file: &[u8], head: &[u32], records: &
     ensures above { λ r. ⌜ (faultAt r ≡ none
         → aboveAt r ≡ aboveIn mode (hourBy mode source (now (file .entry)) (now (head .entry)) (now (records .entry)))) ⌝ }
 {
-    let layout = rules::layout_of(mode);
-    let size = layout.words;
-    let body = blocks::body(layout, file, 0);
+    let size = rules::layout_of(mode).words;
+    let body = first_body(mode, file);
     let members = word_of(source, body, head, 1);
     let areas = word_of(source, body, head, 3);
     let n = count(mode, source, file, records);
@@ -247,8 +258,7 @@ pub fn examine_hour(
         ≡ Refusals.verdict (let h = hourBy mode source (now (file .entry)) (now (head .entry)) (now (records .entry)) in
         Refusals.wordRows (formOf mode) h ++ comparisonBy mode h) ⌝ }
 {
-    let body = blocks::body(rules::layout_of(mode), file, 0);
-    if let Found::At(w) = bad_head(mode, source, body, head) {
+    if let Found::At(w) = bad_head(mode, source, first_body(mode, file), head) {
         return Answer::BadHead(w);
     }
     match first_fault(mode, source, file, head, records) {

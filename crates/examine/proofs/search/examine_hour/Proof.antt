@@ -5,10 +5,8 @@ use mathlib.Core.Option.{none}
 use mathlib.Core.List.{List}
 use Prim.Native.Nat.{ℕ}
 use Rattle.rules.specs.declared.Found.{Found}
-use Rattle.rules.specs.declared.Layout.{Layout}
 use Rattle.rules.specs.declared.Mode.{Mode}
 use Rattle.rules.specs.Record.{Hour}
-use Rattle.rules.specs.HourFile.{body}
 use Rattle.rules.specs.Ranges.{formOf}
 use Rattle.rules.specs.Refusals.{badHead, verdict, wordRows, foundAt}
 use Rattle.rules.proofs.Faults.{fault-record, fault-nowhere}
@@ -19,15 +17,10 @@ use Rattle.examine.proofs.Compared.{above-told, nothing-told}
 use Rattle.examine.proofs.search.examine_hour.Statement.{statement}
 use Rattle.examine.proofs.search.examine_hour.Tie as tie
 
--- the first body, in the layout of the mode
-first-part : (c : tie.After-body) → let start = c .before .before .before .before .before in
-    c .body .result .now ≡ body (formOf (start .args .mode) .layout) (start .args .file .now) 0
-first-part c = c .body .ensures ∙ ap (λ (l : Layout). body l (c .before .before .before .before .before .args .file .now) 0) (c .before .layout-of .ensures)
-
 -- the head is searched
 module _ (c : tie.After-bad-head) where
   abbrev start : tie.Start
-  start = c .before .before .before .before .before .before
+  start = c .before .before .before .before .before
 
   abbrev mode : Mode
   mode = start .args .mode
@@ -38,22 +31,19 @@ module _ (c : tie.After-bad-head) where
   head-told : foundAt (c .bad-head .result) ≡ badHead (formOf mode) h
   head-told =
       let at = start .args in
-      c .bad-head .ensures (at .file .now) (at .records .now) (first-body mode (at .file .now) _ (first-part (c .before)) (at .source))
+      c .bad-head .ensures (at .file .now) (at .records .now) (first-body mode (at .file .now) _ (c .before .first-body .ensures) (at .source))
 
 -- row 4 passed: the head is whole
 head-good : (c : tie.After-enum-told) → badHead (formOf (mode (c .before .before))) (h (c .before .before)) ≡ none
 head-good c = sym (head-told (c .before .before)) ∙ ap foundAt (c .enum-told .given .1)
 
-layout-of-requires : tie.Need-layout-of-requires
-layout-of-requires c κs = tt
-
-body-requires : tie.Need-body-requires
-body-requires c κs = tt
+first-body-requires : tie.Need-first-body-requires
+first-body-requires c κs = tt
 
 bad-head-requires : tie.Need-bad-head-requires
 bad-head-requires c κs =
-    let given = c .before .before .before .before .before in
-    head-there (given .args .mode) (given .args .file .now) _ (first-part c) (given .args .source) (given .args .head .now) (given .pre)
+    let given = c .before .before .before .before in
+    head-there (given .args .mode) (given .args .file .now) _ (c .first-body .ensures) (given .args .source) (given .args .head .now) (given .pre)
 
 -- Found::At(w) = bad_head(..)
 enum-known-w : tie.Need-enum-known-w
@@ -115,8 +105,7 @@ pub examine-hour-spec : {M : Type 1} → statement M
 examine-hour-spec =
     tie.close
     (tie.spec
-    layout-of-requires
-    body-requires
+    first-body-requires
     bad-head-requires
     enum-known-w
     returns

@@ -13,7 +13,6 @@ use Rattle.whole.proofs.Search.{first-next, first-hit, first-less}
 use Rattle.rules.specs.declared.Layout.{Layout}
 use Rattle.rules.specs.declared.Mode.{Mode}
 use Rattle.rules.specs.Record.{Hour, members, areas}
-use Rattle.rules.specs.HourFile.{body}
 use Rattle.rules.specs.Ranges.{keeps, firstBroken, formOf}
 use Rattle.rules.specs.Refusals.{isBroken, badWord, badRecord, firstFault}
 use Rattle.rules.proofs.Layouts.{mode-fits, few-to-a-record}
@@ -57,7 +56,7 @@ alike : (mode : Mode) (h : Hour) (i w m a k v : ℕ) → m ≡ members h → a �
 alike mode h i w m a k v em ea ek ev = rw (em, ea, ek, ev)
 
 -- the moment at which the first body is in hand
-module _ (c : tie.After-body Inv-loop μ-loop Inv-rows μ-rows) where
+module _ (c : tie.After-first-body Inv-loop μ-loop Inv-rows μ-rows) where
   abbrev start : tie.Start Inv-loop μ-loop Inv-rows μ-rows
   start = c .before .before .before .before .before
 
@@ -79,22 +78,19 @@ module _ (c : tie.After-body Inv-loop μ-loop Inv-rows μ-rows) where
   abbrev hour : Hour
   hour = hourBy mode source file head records
 
-  first-part : c .body .result .now ≡ body (formOf mode .layout) file 0
-  first-part = c .body .ensures ∙ ap (λ (l : Layout). body l file 0) (c .before .layout-of .ensures)
-
   size-is : c .before .layout-of .result .words ≡ wordsTo mode
   size-is = ap (λ (l : Layout). l .words) (c .before .layout-of .ensures)
 
-  whole-head : HasWords 120 source (c .body .result .now) head
-  whole-head = head-there mode file (c .body .result .now) first-part source head (start .pre)
+  whole-head : HasWords 120 source (c .first-body .result .now) head
+  whole-head = head-there mode file (c .first-body .result .now) (c .first-body .ensures) source head (start .pre)
 
-  word-here : (w : ℕ) → 8 ≤ w → w < 128 → wordBy source (c .body .result .now) head (w - 8) ≡ hour .head w
+  word-here : (w : ℕ) → 8 ≤ w → w < 128 → wordBy source (c .first-body .result .now) head (w - 8) ≡ hour .head w
   word-here =
-      head-says mode source file head records (c .body .result .now) whole-head (first-body mode file (c .body .result .now) first-part source)
+      head-says mode source file head records (c .first-body .result .now) whole-head (first-body mode file (c .first-body .result .now) (c .first-body .ensures) source)
 
 -- a turn of the outer loop: its hour, and the record at which it stands
 module _ (turn : tie.At-rows Inv-loop μ-loop Inv-rows μ-rows) where
-  abbrev in-hand : tie.After-body Inv-loop μ-loop Inv-rows μ-rows
+  abbrev in-hand : tie.After-first-body Inv-loop μ-loop Inv-rows μ-rows
   in-hand = turn .before .before .before .before
 
   abbrev h : Hour
@@ -163,17 +159,17 @@ module _ (turn : tie.At-rows Inv-loop μ-loop Inv-rows μ-rows) where
 layout-of-requires : tie.Need-layout-of-requires Inv-loop μ-loop Inv-rows μ-rows
 layout-of-requires c κs = tt
 
-body-requires : tie.Need-body-requires Inv-loop μ-loop Inv-rows μ-rows
-body-requires c κs = tt
+first-body-requires : tie.Need-first-body-requires Inv-loop μ-loop Inv-rows μ-rows
+first-body-requires c κs = tt
 
 -- word_of(source, body, head, 1)
 word-of-requires : tie.Need-word-of-requires Inv-loop μ-loop Inv-rows μ-rows
-word-of-requires c κs = word-there 120 1 (source c) (c .body .result .now) (head c) (whole-head c) (omega arith)
+word-of-requires c κs = word-there 120 1 (source c) (c .first-body .result .now) (head c) (whole-head c) (omega arith)
 
 -- word_of(source, body, head, 3)
 word-of-requires-2 : tie.Need-word-of-requires-2 Inv-loop μ-loop Inv-rows μ-rows
 word-of-requires-2 c κs = let body = c .before in
-    word-there 120 3 (source body) (body .body .result .now) (head body) (whole-head body) (omega arith)
+    word-there 120 3 (source body) (body .first-body .result .now) (head body) (whole-head body) (omega arith)
 
 count-requires : tie.Need-count-requires Inv-loop μ-loop Inv-rows μ-rows
 count-requires c κs = tt
@@ -331,7 +327,7 @@ first-fault-spec =
     Inv-rows
     μ-rows
     layout-of-requires
-    body-requires
+    first-body-requires
     word-of-requires
     word-of-requires-2
     count-requires
