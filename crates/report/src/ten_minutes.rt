@@ -9,7 +9,7 @@ ghost use Rattle.printing.specs.Put.{Put};
 ghost use Rattle.report.specs.TenMinutes.{chargeLinesOf, ChargesPrintable, tenMinutesStated};
 use rules::Answer;
 
-// The most bytes that the statement of any byte string has: 39 for line 1, and 18 for each of 32 members (`sheet-fits` of `rules`).
+// No statement of a byte string has more bytes: 39 for line 1, and 18 for each of 32 members (`sheet-fits` of `rules`).
 pub const LONGEST: usize = 615;
 
 // A line a member, in order, with its charge.

@@ -1,6 +1,6 @@
 -- What program ten_minutes prints: no second result fits the contracts; the statement is put whole or not at all, and tells what it is of.
 -- Document 02, A7.
-use mathlib.Core.Path.{sym, _∙_, ap, ap₂}
+use mathlib.Core.Path.{_≡_, sym, _∙_, ap, ap₂}
 use mathlib.Core.List.{List}
 use Prim.Native.Nat.{ℕ}
 use lib.ListN.{take}
