@@ -1,4 +1,5 @@
-"""What the built programs do when they cannot read or write, document 01's figures on lengths and prices, and hours one behind the other.
+"""What the built programs do when they cannot read or write, the longest input, document 01's figures on lengths and prices, and hours one
+behind the other.
 
     python3 -m unittest tests/test_programs.py       # programs from target/bin
 
@@ -30,7 +31,7 @@ def ended_of(name, data, **streams):
 
 
 class CannotRead(unittest.TestCase):
-    NAMES = ("statement", "explanation", "write_hour")
+    NAMES = ("statement", "explanation", "write_hour", "ten_minutes")
 
     def test_a_directory_as_standard_input(self):
         for name in self.NAMES:
@@ -105,6 +106,45 @@ class CannotExplain(unittest.TestCase):
         for data in (longest + b"\0", longest + bytes(511), blocks, longest * 9):
             with self.subTest(len(data)):
                 self.assertEqual(ended_of("explanation", data), (0, b"refused 1 at 0\n", ""))
+
+
+class TenMinutes(unittest.TestCase):
+    """The statement of a ten-minute file, or the line of a refusal; and the longest file that is read."""
+
+    HELD = (ROOT / "crates" / "ten_minutes" / "stdin").read_bytes()  # the file behind a head: one block of four records
+    REFUSED = b"refused 1 at 0\n"
+
+    def of_blocks(self, count):
+        """That file with its block of records so many times over."""
+        head, held = to_write.blocks_of(self.HELD)
+        places = range(1, count + 1)
+        return known.words([head, *([*held] for _ in places)], (0, 2, count), *((place, 1, place) for place in places))
+
+    def test_standard_output_full(self):
+        for data in (self.HELD, b""):
+            with self.subTest(len(data)), opened(FULL) as (full,):
+                self.assertEqual(ended_of("ten_minutes", data, stdout=full), (0, None, "standard output: No space left on device\n"))
+
+    def test_standard_output_closed(self):
+        for data in (self.HELD, b""):
+            with self.subTest(len(data)):
+                self.assertEqual(ended_of("ten_minutes", data, closing=(1,)), (0, b"", "standard output: Bad file descriptor\n"))
+
+    def test_the_longest_input(self):
+        """8,704 bytes are read; one more, or a block more, is refused. Every member's sum is 16 times that of four records: -1.078, 3.4 and
+        23.8 cents."""
+        longest = self.of_blocks(16)
+        self.assertEqual(len(longest), 8_704)
+        self.assertEqual(ended_of("ten_minutes", longest),
+                         (0, b"hour 1501 members 3 records 64\n00          -0.17\n01          +0.54\n02          +3.81\n", ""))
+        for data in (longest + b"\0", longest + bytes(511), self.of_blocks(17), longest * 9):
+            with self.subTest(len(data)):
+                self.assertEqual(ended_of("ten_minutes", data), (0, self.REFUSED, ""))
+
+    def test_both_kinds_of_file(self):
+        """Each program refuses the other's file by its first word."""
+        self.assertEqual(ended_of("ten_minutes", PRINTED.read_bytes()), (0, b"refused 3 at 0\n", ""))
+        self.assertEqual(ended_of("statement", self.HELD), (0, b"refused 3 at 0\n", ""))
 
 
 class LengthsAndPrices(unittest.TestCase):

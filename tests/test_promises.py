@@ -67,7 +67,7 @@ def laws_of(crate, module, name, laws=LAWS):
 ENTRY_POINTS = [("pool", "", "settle"), ("pool", "", "settle_unlined"), ("writer", "", "write_hour"), ("amount", "", "write"),
                 ("amount", "", "read"), ("hour", "", "body"), ("examine", "", "examine"), ("explain", "", "explain"),
                 ("report", "statement", "put_statement"), ("report", "explanation", "put_explanation"),
-                ("report", "written", "put_written_hour")]
+                ("report", "written", "put_written_hour"), ("report", "ten_minutes", "put_ten_minutes_statement")]
 
 
 def functions_for_c():

@@ -4,8 +4,9 @@ ghost use Prim.Native.Nat.{_+_, _≤_, _<_};
 ghost use lib.IntN.{natAbs};
 ghost use lib.ListN.{length};
 ghost use Rattle.rules.specs.Refusals.{refusedAt, verdictOf};
-ghost use Rattle.rules.specs.Statement.{firstLine, column, memberLine, refusedLine};
+ghost use Rattle.rules.specs.Statement.{firstLine, column, memberLine, refusedLine, chargeLine};
 ghost use Rattle.printing.specs.Put.{Put};
+ghost use Rattle.printing.specs.Charged.{charged};
 use crate::text::put_bytes;
 use crate::text::put_count;
 use rules::Answer;
@@ -34,18 +35,35 @@ fn put_column(out: &mut [u8], at: usize, cents: i64) -> usize
     end
 }
 
+// What every line of a member begins with: two digits, a blank, the charge.
+fn put_charged(out: &mut [u8], at: usize, member: usize, charge: i64) -> usize
+    requires { ⌜ (at + 17 ≤ length (now out)) × (member < 100) × (natAbs charge ≤ 999999999999) ⌝ }
+    ensures { λ r. ⌜ Put (now (out .entry)) at (charged member charge) r (now (out .exit)) ⌝ }
+{
+    out[at] = amount::decimal::digit(member as u64 / 10);
+    out[at + 1] = amount::decimal::digit(member as u64);
+    out[at + 2] = b' ';
+    put_column(out, at + 3, charge)
+}
+
 // A member's line: two digits, a blank, the charge, a blank, the final amount.
 pub fn put_member(out: &mut [u8], at: usize, member: usize, charge: i64, final_amount: i64) -> usize
     requires { ⌜ (at + 33 ≤ length (now out)) × (member < 100) × (natAbs charge ≤ 999999999999) × (natAbs «final_amount» ≤ 999999999999) ⌝ }
     ensures { λ r. ⌜ Put (now (out .entry)) at (memberLine member charge «final_amount») r (now (out .exit)) ⌝ }
 {
-    out[at] = amount::decimal::digit(member as u64 / 10);
-    out[at + 1] = amount::decimal::digit(member as u64);
-    out[at + 2] = b' ';
-    let after_charge = put_column(out, at + 3, charge);
+    let after_charge = put_charged(out, at, member, charge);
     let after_blank = put_bytes(out, after_charge, b" ");
     let after_final = put_column(out, after_blank, final_amount);
     put_bytes(out, after_final, b"\n")
+}
+
+// A member's line of a ten-minute file, which has no finals: two digits, a blank, the charge.
+pub fn put_charge(out: &mut [u8], at: usize, member: usize, charge: i64) -> usize
+    requires { ⌜ (at + 18 ≤ length (now out)) × (member < 100) × (natAbs charge ≤ 999999999999) ⌝ }
+    ensures { λ r. ⌜ Put (now (out .entry)) at (chargeLine member charge) r (now (out .exit)) ⌝ }
+{
+    let after_charge = put_charged(out, at, member, charge);
+    put_bytes(out, after_charge, b"\n")
 }
 
 // A refusal's number and place, and nothing else. The room is for twenty digits of each.

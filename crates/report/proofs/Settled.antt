@@ -1,8 +1,7 @@
 -- What settling's promise says to the statement, where every buffer has room for every hour.
-use mathlib.Core.Path.{_≡_, refl, sym, _∙_, ap}
+use mathlib.Core.Path.{_≡_, sym, _∙_, ap}
 use mathlib.Core.List.{List}
-use Prim.Native.Nat.{ℕ, zero, suc, _≤_, _<_}
-use native.Mathlib.Nat.{le-refl}
+use Prim.Native.Nat.{ℕ, _<_}
 use native.Mathlib.Omega.{arith}
 use lib.IntN.{ℤ}
 use borrow.Author.Tests.{eqb-false}
@@ -12,7 +11,9 @@ use Rattle.rules.specs.declared.Answer.the-variants.{Accepted}
 use Rattle.rules.specs.declared.Settled.{Settled}
 use Rattle.rules.specs.Refusals.{verdictOf}
 use Rattle.rules.specs.Record.{members}
-use Rattle.rules.specs.Statement.{memberLines, acceptedLines, refusedLine, statement}
+use Rattle.rules.specs.Charge.{charge}
+use Rattle.rules.specs.Neutrality.{final}
+use Rattle.rules.specs.Statement.{memberLine, memberLines, acceptedLines, refusedLine, statement}
 use Rattle.rules.proofs.Bounds.{charge-under}
 use Rattle.rules.proofs.Neutral.{final-under}
 use Rattle.rules.proofs.Stated.{statement-accepted, statement-refused}
@@ -22,6 +23,7 @@ use Rattle.bymember.specs.Charged.{Bounded}
 use Rattle.pool.specs.Unlined.{Unlined, FitsUnlined}
 use Rattle.pool.proofs.Rooms.{Rooms, same-verdict, figured}
 use Rattle.report.specs.Stated.{memberLinesOf, Printable, Answered}
+use Rattle.report.proofs.Lines.{same-lines}
 
 -- the statement by the answer
 module _ {s : List ℕ} {a : Answer} {charges finals : List ℤ} (f : Answered s a charges finals) where
@@ -49,14 +51,9 @@ module _ {s : List ℕ} {charges finals : List ℤ} (p : Printable s charges fin
         rw (p .finals-are m there) (u-le (final-under (p .charged .kept .hour-kept) m there) (omega arith));
   }
 
-  lines-so-far : (m : ℕ) → m ≤ n → memberLinesOf charges finals m ≡ memberLines (hourIn s) m
-  unfolding memberLinesOf memberLines
-  lines-so-far zero l = refl
-  lines-so-far (suc m) l =
-      rw (lines-so-far m (omega arith), p .charged .charges-are m (omega (arith, all)), p .finals-are m (omega (arith, all)))
-
-  pub lines-are : memberLinesOf charges finals n ≡ memberLines (hourIn s) (members (hourIn s))
-  lines-are = lines-so-far n (le-refl n) ∙ ap (memberLines (hourIn s)) all
+  pub lines-are : memberLinesOf charges finals n ≡ memberLines (λ m. memberLine m (charge (hourIn s) m) (final (hourIn s) m)) (members (hourIn s))
+  lines-are = rw (← all) (same-lines _ _ n (λ m l.
+      rw (p .charged .charges-are m (omega (arith, all)), p .finals-are m (omega (arith, all)))))
 
 -- charges and finals are those that settling left
 module _ {s : List ℕ} {b after : Unlined} {r : Settled} (rooms : Rooms b) (settled : FitsUnlined s b r after) where

@@ -2,3 +2,4 @@
 pub mod Stated
 pub mod Worded
 pub mod Filing
+pub mod TenMinutes

@@ -1,7 +1,7 @@
 -- What printing a statement answers and leaves in the caller's slice, and what its steps ask.
-use Prim.Native.Nat.{ℕ, zero, suc, _≤_, _<_}
+use Prim.Native.Nat.{ℕ, _≤_, _<_}
 use mathlib.Core.Path.{_≡_}
-use mathlib.Core.List.{List, [], _++_}
+use mathlib.Core.List.{List}
 use lib.IntN.{ℤ, pos}
 use lib.ListN.{length, getD}
 use Rattle.rules.specs.declared.Answer.{Answer}
@@ -9,7 +9,7 @@ use Rattle.rules.specs.declared.Answer.the-variants.{Accepted}
 use Rattle.rules.specs.Record.{members}
 use Rattle.rules.specs.Neutrality.{final}
 use Rattle.rules.specs.Refusals.{verdictOf, verdict, hourRows}
-use Rattle.rules.specs.Statement.{memberLine, statement}
+use Rattle.rules.specs.Statement.{memberLine, memberLines, statement}
 use Rattle.rules.specs.HourFile.{hourIn}
 use Rattle.bymember.specs.Charged.{Charged}
 use Rattle.printing.specs.Shown.{Shown, shown, HasShown}
@@ -22,9 +22,8 @@ abbrev pub HasStated : (s out : List ℕ) (count : ℕ) (after : List ℕ) → T
 HasStated s out count after = HasShown 1095 (statement s) out count after
 
 -- a line for each of the first members, with these charges and finals
-unfoldable pub memberLinesOf : (charges finals : List ℤ) → ℕ → List ℕ
-memberLinesOf charges finals zero = []
-memberLinesOf charges finals (suc m) = memberLinesOf charges finals m ++ memberLine m (getD charges m (pos 0)) (getD finals m (pos 0))
+abbrev pub memberLinesOf : (charges finals : List ℤ) → ℕ → List ℕ
+memberLinesOf charges finals = memberLines (λ m. memberLine m (getD charges m (pos 0)) (getD finals m (pos 0)))
 
 -- the file keeps its ranges, and its hour's charges and finals stand in the first places
 pub record Printable (s : List ℕ) (charges finals : List ℤ) : Type 0 where

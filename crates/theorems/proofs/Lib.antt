@@ -11,4 +11,5 @@ pub mod Explaining
 pub mod SixLines
 pub mod Asked
 pub mod TenMinutes
+pub mod TenMinutesText
 pub mod Figures

@@ -5,16 +5,19 @@ use mathlib.Core.Logic.{_↔_}
 use mathlib.Core.List.{List}
 use mathlib.Core.Option.{Option}
 use Prim.Native.Nat.{ℕ, _≤_, _<_}
-use lib.IntN.{ℤ}
-use lib.ListN.{length, take}
+use lib.IntN.{ℤ, pos}
+use lib.ListN.{length, take, getD}
 use Rattle.rules.specs.Record.{hourNumber, members}
 use Rattle.rules.specs.Charge.{charge}
 use Rattle.rules.specs.Neutrality.{final}
 use Rattle.rules.specs.HourFile.{hourIn}
-use Rattle.rules.specs.Refusals.{Verdict, accepted, verdict, hourRows, Buffers}
+use Rattle.rules.specs.Ranges.{tenMinutesForm}
+use Rattle.rules.specs.Refusals.{Verdict, accepted, verdict, formRows, hourRows, Buffers}
+use Rattle.rules.specs.TenMinutes.{tenMinutesIn, tenMinutesCharge}
 use Rattle.rules.specs.Explanation.{Explanation, memberAsked, hourAsked}
 use Rattle.rules.specs.Promised.Lines.{lineAt, SaysRefused}
 use Rattle.rules.specs.Promised.Finals.{AreBytes, SameSheet, SaysCounts, Shows, ShowsOutcome}
+use Rattle.rules.specs.Promised.TenMinutes.{ShowsCharges}
 use Rattle.rules.specs.Promised.SixLines.{SaysHeads, answerTo}
 use Rattle.theorems.specs.Demanded.{ExplainsOutcome}
 
@@ -51,6 +54,23 @@ Tells file sheet other otherSheet = AreBytes file → AreBytes other → sheet �
 -- settled into buffers that hold this afterwards, then printed from the same file: the columns, read, give what settling wrote (A1)
 abbrev pub ShowsSettled : (file : List ℕ) (after : Buffers) (handed lent sheet : List ℕ) → Type 0
 ShowsSettled file after handed lent sheet = handed ≡ file → 1095 ≤ length lent → ShowsOutcome (hourIn file) after sheet
+
+-- ---- the statement of a ten-minute file
+
+-- of an accepted file the statement that was put, read, gives each charge (A7)
+abbrev pub ChargesAreReadBack : (file lent : List ℕ) (count : ℕ) (after : List ℕ) → Type 0
+ChargesAreReadBack file lent count after = 615 ≤ length lent → verdict (formRows tenMinutesForm file) ≡ accepted →
+    let h = tenMinutesIn file in ShowsCharges h (tenMinutesCharge h) (take count after)
+
+-- and its line 1 the hour number and the counts
+abbrev pub TenMinutesCountsAreRead : (file lent : List ℕ) (count : ℕ) (after : List ℕ) → Type 0
+TenMinutesCountsAreRead file lent count after = 615 ≤ length lent → AreBytes file → verdict (formRows tenMinutesForm file) ≡ accepted →
+    let h = tenMinutesIn file in SaysCounts (lineAt (take count after) 0) (hourNumber h) (members h) (h .count)
+
+-- settled into charges that hold this afterwards, then printed from the same file: the columns, read, give what settling wrote (A7)
+abbrev pub ShowsSettledCharges : (file : List ℕ) (charges : List ℤ) (handed lent sheet : List ℕ) → Type 0
+ShowsSettledCharges file charges handed lent sheet = handed ≡ file → 615 ≤ length lent →
+    ShowsCharges (tenMinutesIn file) (λ m. getD charges m (pos 0)) sheet
 
 -- ---- the explanation
 

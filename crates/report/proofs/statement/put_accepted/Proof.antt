@@ -2,7 +2,7 @@
 use native.Mathlib.Omega.{arith}
 use borrow.Author.Needs.{needs}
 use Rattle.rules.specs.Record.{hourNumber, members}
-use Rattle.rules.specs.Statement.{firstLine, acceptedLines}
+use Rattle.rules.specs.Statement.{firstLine, sheetOf}
 use Rattle.rules.proofs.Stated.{hour-number-most, first-line-most}
 use Rattle.rules.specs.HourFile.{hourIn}
 use Rattle.hour.specs.Hour.{Headed}
@@ -45,7 +45,8 @@ put-members-requires c κs =
     let s = known .before in
     let h = hourIn (s .args .file .now) in
     let kept = s .pre .0 .charged .kept .hour-kept in
-    let line = first-line-most h kept (hour-number-most (s .args .file .now) (λ i. known .shared-slice-known .given i .fits)) in
+    let line = first-line-most h (omega (arith, kept .members-most)) (omega (arith, kept .count-most))
+    (hour-number-most (s .args .file .now) (λ i. known .shared-slice-known .given i .fits)) in
     let all = head-members (headed (p .before .before)) in (
       charges-bounded (s .pre .0) all,
       finals-bounded (s .pre .0) all,
@@ -57,7 +58,7 @@ same-length : tie.Need-same-length
 same-length c = search needs
 
 returns : tie.Need-returns
-unfolding acceptedLines
+unfolding sheetOf
 returns c =
     let m = c .before .before in
     let p = m .before .before .before .before in

@@ -1,47 +1,25 @@
 -- `report::statement::put_members` meets its contract: the lines of the members passed stand one after the other.
-use Prim.Native.Nat.{ℕ, zero, suc, _+_, _-_, _*_, _≤_, _<_}
-use mathlib.Core.Path.{_≡_, refl, _∙_}
-use mathlib.Core.List.{List, _++_}
-use native.Mathlib.Numerals.{add-one}
+use Prim.Native.Nat.{ℕ, _-_, _*_, _≤_}
+use mathlib.Core.Path.{_≡_}
+use mathlib.Core.List.{List}
 use native.Mathlib.Omega.{arith}
-use mir.Syntax.{w64}
-use mir.Val.{toZ, ofZ}
 use lib.IntN.{ℤ, pos}
-use lib.ListN.{length, length-append, getD}
-use Rattle.whole.proofs.Machine.{read-back}
-use Rattle.whole.proofs.Ranges.{u-fits}
+use lib.ListN.{length, getD}
 use Rattle.rules.specs.Statement.{memberLine}
-use Rattle.rules.proofs.Stated.{member-line-length}
-use Rattle.bymember.specs.Charged.{Bounded}
+use Rattle.rules.proofs.Stated.{member-line-length, member-lines-length}
 use Rattle.printing.specs.Put.{Put}
-use Rattle.printing.proofs.Putting.{put-nothing, put-length, put-on, put-as}
+use Rattle.printing.proofs.Putting.{put-length, put-on, put-as}
 use Rattle.report.specs.Stated.{memberLinesOf}
+use Rattle.report.proofs.Lines.{put-none, next-line, held}
 use Rattle.report.proofs.statement.put_members.Statement.{statement}
 use Rattle.report.proofs.statement.put_members.Tie as tie
 
--- a number that stands at a member's place, as it is read back
-held : {numbers : List ℤ} {n : ℕ} → Bounded numbers n 999999999999 → (m : ℕ) → m < n →
-    toZ w64 (ofZ w64 (getD numbers m (pos 0))) ≡ getD numbers m (pos 0)
-held b m l = read-back (u-fits (b .small m l) tt)
-
 module _ (charges finals : List ℤ) where
-  next-line : (m : ℕ) → memberLinesOf charges finals m ++ memberLine m (getD charges m (pos 0)) (getD finals m (pos 0)) ≡
-      memberLinesOf charges finals (m + 1)
-  unfolding memberLinesOf
-  next-line m = rw (add-one m)
-
-  put-none : (o : List ℕ) (at : ℕ) → Put o at (memberLinesOf charges finals 0) at o
-  unfolding memberLinesOf
-  put-none o at = put-nothing o at
+  abbrev line : ℕ → List ℕ
+  line m = memberLine m (getD charges m (pos 0)) (getD finals m (pos 0))
 
   lines-length : (m : ℕ) → length (memberLinesOf charges finals m) ≡ 33 * m
-  unfolding memberLinesOf
-  lines-length zero = refl
-  lines-length (suc m) =
-      let charge = getD charges m (pos 0) in
-      let final = getD finals m (pos 0) in
-      length-append (memberLinesOf charges finals m) (memberLine m charge final)
-      ∙ omega (arith, lines-length m, member-line-length m charge final)
+  lines-length = member-lines-length line 33 (λ m. member-line-length m (getD charges m (pos 0)) (getD finals m (pos 0)))
 
 abbrev Inv-loop : tie.InvT-loop
 Inv-loop members charges finals out₀ at place₀ m₀ out place m = (m ≤ members) × Put out₀ at (memberLinesOf charges finals m) place out
@@ -50,7 +28,7 @@ abbrev μ-loop : tie.MeasureT-loop
 μ-loop members charges finals out₀ at place₀ m₀ out place m = members - m
 
 loop-holds : tie.Need-loop-holds Inv-loop μ-loop
-loop-holds c = let s = c .before in (omega arith, put-none (s .args .charges .now) (s .args .finals .now) (s .args .out .now) (s .args .at))
+loop-holds c = let s = c .before in (omega arith, put-none (line (s .args .charges .now) (s .args .finals .now)) (s .args .out .now) (s .args .at))
 
 -- the offset of charges[m]
 mul-put-member : tie.Need-mul-put-member Inv-loop μ-loop
@@ -89,8 +67,8 @@ loop-again : tie.Need-loop-again Inv-loop μ-loop
 loop-again c =
     let l = c .before .before .before .before .before .before .before .loop in
     let s = c .before .before .before .before .before .before .before .before .before in
-    let line = rw (held (s .pre .0) (l .m) (omega arith), held (s .pre .1) (l .m) (omega arith)) at (c .before .before .put-member .ensures) in
-    (omega arith, put-as (next-line (s .args .charges .now) (s .args .finals .now) (l .m)) (put-on (l .inv .1) line))
+    let put = rw (held (s .pre .0) (l .m) (omega arith), held (s .pre .1) (l .m) (omega arith)) at (c .before .before .put-member .ensures) in
+    (omega arith, put-as (next-line (line (s .args .charges .now) (s .args .finals .now)) (l .m)) (put-on (l .inv .1) put))
 
 -- out: &mut [u8]
 same-length : tie.Need-same-length Inv-loop μ-loop
