@@ -1,7 +1,7 @@
 -- What ten-minute settling's promise says to the statement, where the charges have room for every member.
 use mathlib.Core.Path.{_≡_, refl, sym, _∙_, ap}
 use mathlib.Core.List.{List}
-use Prim.Native.Nat.{ℕ, _^_, _≤_, _<_}
+use Prim.Native.Nat.{ℕ, _≤_, _<_}
 use native.Mathlib.Omega.{arith}
 use lib.IntN.{ℤ, pos}
 use lib.ListN.{length, getD}
@@ -10,14 +10,12 @@ use Rattle.whole.proofs.Ranges.{u-le}
 use Rattle.whole.proofs.Buffers.{getD-replacing, length-replacing}
 use Rattle.rules.specs.declared.Answer.{Answer}
 use Rattle.rules.specs.declared.Answer.the-variants.{Accepted}
-use Rattle.rules.specs.Record.{hourNumber, members}
-use Rattle.rules.specs.HourFile.{hourOf}
+use Rattle.rules.specs.Record.{members}
 use Rattle.rules.specs.Ranges.{tenMinutesForm}
 use Rattle.rules.specs.Refusals.{accepted, verdictOf, verdict, formRows}
 use Rattle.rules.specs.TenMinutes.{tenMinutesIn, tenMinutesCharge, tenMinutesRows, settleTenMinutes}
 use Rattle.rules.specs.Statement.{memberLines, chargeLine, chargedLines, refusedLine, tenMinutesStatement}
 use Rattle.rules.specs.Promised.TenMinutes.{AcceptsTenMinutes}
-use Rattle.rules.proofs.Stated as Stated
 use Rattle.rules.proofs.Rows.{last-decides-nothing}
 use Rattle.rules.proofs.IntervalsKept.{ten-minutes-file-kept}
 use Rattle.rules.proofs.IntervalBounds.{charge-under}
@@ -28,11 +26,6 @@ use Rattle.bymember.specs.Charged.{Bounded}
 use Rattle.tenminutes.proofs.Settled.{Settles}
 use Rattle.report.specs.TenMinutes.{chargeLinesOf, ChargesPrintable}
 use Rattle.report.proofs.Lines.{same-lines}
-
--- the hour's number stands where it stands in an hourly file
-pub hour-number-most : (s : List ℕ) → ((i : ℕ) → getD s i 0 < 256) → hourNumber (tenMinutesIn s) < 2 ^ 32
-unfolding hourOf
-hour-number-most s b = Stated.hour-number-most s b
 
 -- the lines of an hour's members, with its charges
 module _ {s : List ℕ} {charges : List ℤ} (p : ChargesPrintable s charges) {n : ℕ} (all : n ≡ members (tenMinutesIn s)) where

@@ -12,7 +12,7 @@ use Rattle.printing.specs.Shown.{Shown, shown}
 
 -- the statement of any byte string as a ten-minute file, in a slice with room for the longest
 abbrev pub tenMinutesStated : (s out : List ℕ) → Shown
-tenMinutesStated s out = shown 615 (tenMinutesStatement s) out
+tenMinutesStated s out = shown 614 (tenMinutesStatement s) out
 
 -- a line for each of the first members, with these charges
 abbrev pub chargeLinesOf : (charges : List ℤ) → ℕ → List ℕ

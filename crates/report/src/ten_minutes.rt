@@ -9,8 +9,8 @@ ghost use Rattle.printing.specs.Put.{Put};
 ghost use Rattle.report.specs.TenMinutes.{chargeLinesOf, ChargesPrintable, tenMinutesStated};
 use rules::Answer;
 
-// No statement of a byte string has more bytes: 39 for line 1, and 18 for each of 32 members (`sheet-fits` of `rules`).
-pub const LONGEST: usize = 615;
+// The most bytes that the statement of any byte string has: 38 for line 1, and 18 for each of 32 members (`sheet-fits` of `rules`).
+pub const LONGEST: usize = 614;
 
 // A line a member, in order, with its charge.
 fn put_charges(members: usize, charges: &[i64], out: &mut [u8], at: usize) -> usize
@@ -28,7 +28,7 @@ fn put_charges(members: usize, charges: &[i64], out: &mut [u8], at: usize) -> us
 
 // Line 1, with the hour's number and the counts as the file has them, and a line for each member.
 fn put_accepted(file: &[u8], charges: &[i64], out: &mut [u8]) -> usize
-    requires { ⌜ ChargesPrintable (now file) (now charges) × (615 ≤ length (now out)) ⌝ }
+    requires { ⌜ ChargesPrintable (now file) (now charges) × (614 ≤ length (now out)) ⌝ }
     ensures { λ r. ⌜ Put (now (out .entry)) 0 (Statement.chargedLines (tenMinutesIn (now (file .entry)))) r (now (out .exit)) ⌝ }
 {
     let hour = blocks::head_word(file, 8) as u64;
@@ -40,7 +40,7 @@ fn put_accepted(file: &[u8], charges: &[i64], out: &mut [u8]) -> usize
 
 // Settles the file in the charges lent, which have room for every member, and puts the statement of what came out.
 fn put_settled(file: &[u8], charges: &mut [i64], out: &mut [u8]) -> usize
-    requires { ⌜ (32 ≤ length (now charges)) × (615 ≤ length (now out)) ⌝ }
+    requires { ⌜ (32 ≤ length (now charges)) × (614 ≤ length (now out)) ⌝ }
     ensures { λ r. ⌜ Put (now (out .entry)) 0 (Statement.tenMinutesStatement (now (file .entry))) r (now (out .exit)) ⌝ }
 {
     let answer = tenminutes::settle(file, charges);

@@ -11,7 +11,7 @@ use Rattle.rules.specs.Record.{Hour, hourNumber, members}
 use Rattle.rules.specs.Charge.{charge}
 use Rattle.rules.specs.Neutrality.{final}
 use Rattle.rules.specs.Text.{bytes, digitByte}
-use Rattle.rules.specs.HourFile.{hourIn}
+use Rattle.rules.specs.HourFile.{hourly, hourIn}
 use Rattle.rules.specs.Refusals.{accepted, verdict, hourRows}
 use Rattle.rules.specs.Settling.{read}
 use Rattle.rules.specs.Statement.{column, memberLine, acceptedLines, statement}
@@ -107,5 +107,5 @@ module _ (s : List ℕ) (e : verdict (hourRows s) ≡ accepted) where
 
   pub counts-read : AreBytes s → SaysCounts (lineAt (statement s) 0) (hourNumber (hourIn s)) (members (hourIn s)) (hourIn s .count)
   counts-read bytes = let h = hourIn s in let kept = accepted-kept s e .hour-kept in
-      rw (statement-accepted s e) (counts-said h (line h) (text h) (cut h) (omega (arith, hour-number-most s bytes))
+      rw (statement-accepted s e) (counts-said h (line h) (text h) (cut h) (omega (arith, hour-number-most hourly s bytes))
       (omega (arith, kept .members-most)) (omega (arith, kept .count-most)))

@@ -2,7 +2,7 @@
 use mathlib.Core.Path.{_≡_, refl, sym, _∙_, ap}
 use mathlib.Core.Bool.{or-true}
 use mathlib.Core.List.{List}
-use Prim.Native.Nat.{ℕ, zero, suc, _*_, _^_, _≤_, _<_}
+use Prim.Native.Nat.{ℕ, zero, suc, _+_, _*_, _^_, _≤_, _<_}
 use native.Mathlib.Omega.{arith}
 use lib.Dec.{leb}
 use lib.IntN.{ℤ}
@@ -10,10 +10,11 @@ use lib.ListN.{length, take, getD, replicate, length-append}
 use lib.Seq.{take-all, length-take-le}
 use borrow.Author.Tests.{leb-true, leb-false, lt-ltb, le-ltb, eqb-true, eqb-false, ne-eqb}
 use Rattle.whole.proofs.Tests.{split}
+use Rattle.rules.specs.declared.Layout.{Layout}
 use Rattle.rules.specs.Record.{Hour, hourNumber, members}
 use Rattle.rules.specs.Charge.{charge}
 use Rattle.rules.specs.Neutrality.{final}
-use Rattle.rules.specs.HourFile.{lengthBad, hourOf, blockWord, hourIn}
+use Rattle.rules.specs.HourFile.{hourly, lengthBad, hourOf, blockWord, hourIn}
 use Rattle.rules.specs.Refusals.{Verdict, accepted, refusedAt, verdict, Buffers, badLength, tooShort, blockRows, formRows, fileRows}
 use Rattle.rules.specs.Refusals.{hourRows, settleRows}
 use Rattle.rules.specs.Settling.{isAccepted}
@@ -73,21 +74,22 @@ member-lines-length line width each (suc m) =
     length-append (memberLines line m) (line m) ∙ omega (arith, member-lines-length line width each m, each m)
 
 module _ (h : Hour) where
-  -- an hour number of 32 bits has at most ten digits, members have two, records three
-  pub first-line-most : members h ≤ 99 → h .count ≤ 999 → hourNumber h < 2 ^ 32 → length (firstLine (hourNumber h) (members h) (h .count)) ≤ 39
+  -- an hour number of 32 bits has at most ten digits, members have two, records one and so many more
+  pub first-line-most : (more : ℕ) → members h ≤ 99 → h .count < 10 ^ suc more → hourNumber h < 2 ^ 32 →
+      length (firstLine (hourNumber h) (members h) (h .count)) ≤ 37 + more
   unfolding firstLine
-  first-line-most few-members few-records n = simp length-append (omega (
+  first-line-most more few-members few-records n = simp length-append (omega (
     arith,
     decimal-length-at-most (hourNumber h) 9 (omega arith),
     decimal-length-at-most (members h) 1 (omega arith),
-    decimal-length-at-most (h .count) 2 (omega arith),
+    decimal-length-at-most (h .count) more few-records,
   ))
 
   pub accepted-lines-most : HourKept h → hourNumber h < 2 ^ 32 → length (acceptedLines h) ≤ 1095
   unfolding sheetOf
   accepted-lines-most kept n = rw length-append (omega (
     arith,
-    first-line-most (omega (arith, kept .members-most)) (omega (arith, kept .count-most)) n,
+    first-line-most 2 (omega (arith, kept .members-most)) (omega (arith, kept .count-most)) n,
     member-lines-length (λ m. memberLine m (charge h m) (final h m)) 33 (λ m. member-line-length m (charge h m) (final h m)) (members h),
     kept .members-most,
   ))
@@ -96,15 +98,15 @@ pub refused-line-most : (v : Verdict) → length (refusedLine v) ≤ 53
 unfolding refusedLine
 refused-line-most v = simp length-append (omega (arith, decimal-at-most-20 (v .number), decimal-at-most-20 (v .place)))
 
-pub hour-number-most : (s : List ℕ) → ((i : ℕ) → getD s i 0 < 256) → hourNumber (hourIn s) < 2 ^ 32
+pub hour-number-most : (l : Layout) (s : List ℕ) → ((i : ℕ) → getD s i 0 < 256) → hourNumber (hourOf l s) < 2 ^ 32
 unfolding hourOf blockWord
-hour-number-most s b = word-most s b 8
+hour-number-most l s b = word-most s b 8
 
 -- No statement of a byte string is longer than 1,095 bytes: 39 for line 1, and 33 for each of 32 members.
 pub statement-fits : (s : List ℕ) → ((i : ℕ) → getD s i 0 < 256) → length (statement s) ≤ 1095
 statement-fits s b = split (isAccepted (verdict (hourRows s)))
     (λ t. let a = zero-accepts (hourRows s) (hour-numbered s) (eqb-true _ _ t) in
-    rw (statement-accepted s a) (accepted-lines-most (hourIn s) (accepted-kept s a .hour-kept) (hour-number-most s b)))
+    rw (statement-accepted s a) (accepted-lines-most (hourIn s) (accepted-kept s a .hour-kept) (hour-number-most hourly s b)))
     (λ t. rw (statement-refused s (eqb-false _ _ t)) (omega (arith, refused-line-most (verdict (hourRows s)))))
 
 -- ---- of a cut input

@@ -12,7 +12,7 @@ use borrow.Author.Tests.{leb-true, leb-false, lt-ltb, ltb-true, ltb-false, eqb-t
 use Rattle.whole.proofs.Tests.{split}
 use Rattle.whole.proofs.Buffers.{getD-replacing}
 use Rattle.rules.specs.Record.{Hour, hourNumber, members}
-use Rattle.rules.specs.HourFile.{tenMinutes, lengthBad, blockWord, hourOf}
+use Rattle.rules.specs.HourFile.{tenMinutes, lengthBad}
 use Rattle.rules.specs.Ranges.{tenMinutesForm}
 use Rattle.rules.specs.Refusals.{Verdict, accepted, refusedAt, verdict, badLength, blockRows, formRows}
 use Rattle.rules.specs.Settling.{isAccepted, read}
@@ -25,8 +25,7 @@ use Rattle.rules.specs.Promised.Finals.{AreBytes, memberLineAt, chargeCo
 use Rattle.rules.specs.Promised.TenMinutes.{AcceptsTenMinutes, ShowsCharges, TenMinutesSheet}
 use Rattle.rules.proofs.PartsCut.{lacks, says-refused}
 use Rattle.rules.proofs.Rows.{accepts-when-whole, zero-accepts, form-numbered}
-use Rattle.rules.proofs.WordBytes.{word-most}
-use Rattle.rules.proofs.Stated.{column-width, member-lines-length, first-line-most, refused-line-most}
+use Rattle.rules.proofs.Stated.{column-width, member-lines-length, first-line-most, refused-line-most, hour-number-most}
 use Rattle.rules.proofs.SheetLines.{column-read, memberText, text-cut, charge-in-text, number-in-text}
 use Rattle.rules.proofs.SheetLines.{line-stands, lines-counted, nothing-behind, counts-said}
 use Rattle.rules.proofs.Told.{Small, form-small}
@@ -81,11 +80,11 @@ module _ (h : Hour) where
           (column-read (tenMinutesCharge h m) (let u = charge-under kept m in omega arith));
     }
 
-    charged-lines-most : hourNumber h < 2 ^ 32 → length (chargedLines h) ≤ 615
+    charged-lines-most : hourNumber h < 2 ^ 32 → length (chargedLines h) ≤ 614
     unfolding sheetOf
     charged-lines-most n = rw length-append (omega (
       arith,
-      first-line-most h (omega (arith, kept .members-most)) (omega (arith, kept .count-most)) n,
+      first-line-most h 1 (omega (arith, kept .members-most)) (omega (arith, kept .count-most)) n,
       member-lines-length line 18 (λ m. charge-line-length m (tenMinutesCharge h m)) (members h),
       kept .members-most,
     ))
@@ -110,15 +109,11 @@ module _ (s : List ℕ) where
   accepted-by-number : told .number ≡ 0 → told ≡ accepted
   accepted-by-number z = zero-accepts (formRows tenMinutesForm s) (form-numbered tenMinutesForm s) z
 
-  hour-number-most : AreBytes s → hourNumber (tenMinutesIn s) < 2 ^ 32
-  unfolding hourOf blockWord
-  hour-number-most b = word-most s b 8
-
-  -- No sheet of a byte string is longer than 615 bytes: 39 for line 1, and 18 for each of 32 members.
-  pub sheet-fits : AreBytes s → length (tenMinutesStatement s) ≤ 615
+  -- No sheet of a byte string is longer than 614 bytes: 38 for line 1, and 18 for each of 32 members.
+  pub sheet-fits : AreBytes s → length (tenMinutesStatement s) ≤ 614
   sheet-fits b = split (isAccepted told)
       (λ t. let a = accepted-by-number (eqb-true _ _ t) in
-      rw (sheet-accepted a) (charged-lines-most (tenMinutesIn s) (ten-minutes-kept a .hour-kept) (hour-number-most b)))
+      rw (sheet-accepted a) (charged-lines-most (tenMinutesIn s) (ten-minutes-kept a .hour-kept) (hour-number-most tenMinutes s b)))
       (λ t. rw (sheet-refused (eqb-false _ _ t)) (omega (arith, refused-line-most told)))
 
   -- ---- of a cut input
@@ -156,7 +151,7 @@ module _ (s : List ℕ) where
   counts-read : AreBytes s → told s ≡ accepted →
       SaysCounts (lineAt (tenMinutesStatement s) 0) (hourNumber (tenMinutesIn s)) (members (tenMinutesIn s)) (tenMinutesIn s .count)
   counts-read b e = let h = tenMinutesIn s in let kept = ten-minutes-kept s e .hour-kept in
-      rw (sheet-accepted s e) (counts-said h (line h) (text h) (cut h) (omega (arith, hour-number-most s b))
+      rw (sheet-accepted s e) (counts-said h (line h) (text h) (cut h) (omega (arith, hour-number-most tenMinutes s b))
       (omega (arith, kept .members-most)) (omega (arith, kept .count-most)))
 
   as-settled : (c : List ℤ) → AcceptsTenMinutes s c →

@@ -36,11 +36,11 @@ asks-nothing-put-ten-minutes-statement κs a = tt
 -- ---- what is put
 
 pub ten-minutes-statement-promises : (κs : Lfts 2) → Gives (ten-minutes.Learnt κs) (λ a x s.
-    HasShown 615 (tenMinutesStatement (now (a .0))) (now (a .1 .0)) x (now (s .1 .0)))
+    HasShown 614 (tenMinutesStatement (now (a .0))) (now (a .1 .0)) x (now (s .1 .0)))
 ten-minutes-statement-promises κs a x s p = record { count-is = p .0; out-is = p .1 }
 
 pub ten-minutes-statement-is-put : (κs : Lfts 2) → Gives (ten-minutes.Learnt κs) (λ a x s.
-    IsPut 615 (tenMinutesStatement (now (a .0))) (now (a .1 .0)) x (now (s .1 .0)))
+    IsPut 614 (tenMinutesStatement (now (a .0))) (now (a .1 .0)) x (now (s .1 .0)))
 ten-minutes-statement-is-put κs a x s p = whole-text (ten-minutes-statement-promises κs a x s p)
 
 -- read, the column of a member's line gives its charge
@@ -56,13 +56,13 @@ ten-minutes-counts-are-read κs a x s p room bytes accepts =
     rw (ten-minutes-statement-is-put κs a x s p room) (ten-minutes-sheet .counts-read (now (a .0)) bytes accepts)
 
 pub ten-minutes-statement-says-refusal : (κs : Lfts 2) → Gives (ten-minutes.Learnt κs) (λ a x s.
-    SaysRefusal 615 (now (a .0)) (verdict (formRows tenMinutesForm (now (a .0)))) (now (a .1 .0)) x (now (s .1 .0)))
+    SaysRefusal 614 (now (a .0)) (verdict (formRows tenMinutesForm (now (a .0)))) (now (a .1 .0)) x (now (s .1 .0)))
 ten-minutes-statement-says-refusal κs a x s p room bytes refused =
     rw (ten-minutes-statement-is-put κs a x s p room) (ten-minutes-sheet .refused-read (now (a .0)) bytes refused)
 
 -- a reader that stops one byte past the longest file prints what its whole input asks for
 pub cut-ten-minutes-is-put : (κs : Lfts 2) (input : List ℕ) → Gives (ten-minutes.Learnt κs) (λ a x s.
-    IsPutOfCut 8705 615 tenMinutesStatement input (now (a .0)) (now (a .1 .0)) x (now (s .1 .0)))
+    IsPutOfCut 8705 614 tenMinutesStatement input (now (a .0)) (now (a .1 .0)) x (now (s .1 .0)))
 cut-ten-minutes-is-put κs input a x s p cut room =
     ten-minutes-statement-is-put κs a x s p room ∙ ap tenMinutesStatement cut ∙ cut-sheet-same input
 

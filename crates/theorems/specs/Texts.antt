@@ -59,17 +59,17 @@ ShowsSettled file after handed lent sheet = handed ≡ file → 1095 ≤ length 
 
 -- of an accepted file the statement that was put, read, gives each charge (A7)
 abbrev pub ChargesAreReadBack : (file lent : List ℕ) (count : ℕ) (after : List ℕ) → Type 0
-ChargesAreReadBack file lent count after = 615 ≤ length lent → verdict (formRows tenMinutesForm file) ≡ accepted →
+ChargesAreReadBack file lent count after = 614 ≤ length lent → verdict (formRows tenMinutesForm file) ≡ accepted →
     let h = tenMinutesIn file in ShowsCharges h (tenMinutesCharge h) (take count after)
 
 -- and its line 1 the hour number and the counts
 abbrev pub TenMinutesCountsAreRead : (file lent : List ℕ) (count : ℕ) (after : List ℕ) → Type 0
-TenMinutesCountsAreRead file lent count after = 615 ≤ length lent → AreBytes file → verdict (formRows tenMinutesForm file) ≡ accepted →
+TenMinutesCountsAreRead file lent count after = 614 ≤ length lent → AreBytes file → verdict (formRows tenMinutesForm file) ≡ accepted →
     let h = tenMinutesIn file in SaysCounts (lineAt (take count after) 0) (hourNumber h) (members h) (h .count)
 
 -- settled into charges that hold this afterwards, then printed from the same file: the columns, read, give what settling wrote (A7)
 abbrev pub ShowsSettledCharges : (file : List ℕ) (charges : List ℤ) (handed lent sheet : List ℕ) → Type 0
-ShowsSettledCharges file charges handed lent sheet = handed ≡ file → 615 ≤ length lent →
+ShowsSettledCharges file charges handed lent sheet = handed ≡ file → 614 ≤ length lent →
     ShowsCharges (tenMinutesIn file) (λ m. getD charges m (pos 0)) sheet
 
 -- ---- the explanation

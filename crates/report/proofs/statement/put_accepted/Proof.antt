@@ -4,7 +4,7 @@ use borrow.Author.Needs.{needs}
 use Rattle.rules.specs.Record.{hourNumber, members}
 use Rattle.rules.specs.Statement.{firstLine, sheetOf}
 use Rattle.rules.proofs.Stated.{hour-number-most, first-line-most}
-use Rattle.rules.specs.HourFile.{hourIn}
+use Rattle.rules.specs.HourFile.{hourly, hourIn}
 use Rattle.hour.specs.Hour.{Headed}
 use Rattle.hour.proofs.Figures.{head-members, head-records}
 use Rattle.printing.specs.Put.{Put}
@@ -45,8 +45,8 @@ put-members-requires c κs =
     let s = known .before in
     let h = hourIn (s .args .file .now) in
     let kept = s .pre .0 .charged .kept .hour-kept in
-    let line = first-line-most h (omega (arith, kept .members-most)) (omega (arith, kept .count-most))
-    (hour-number-most (s .args .file .now) (λ i. known .shared-slice-known .given i .fits)) in
+    let line = first-line-most h 2 (omega (arith, kept .members-most)) (omega (arith, kept .count-most))
+    (hour-number-most hourly (s .args .file .now) (λ i. known .shared-slice-known .given i .fits)) in
     let all = head-members (headed (p .before .before)) in (
       charges-bounded (s .pre .0) all,
       finals-bounded (s .pre .0) all,

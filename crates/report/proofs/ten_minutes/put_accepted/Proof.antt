@@ -11,10 +11,10 @@ use Rattle.rules.specs.TenMinutes.{tenMinutesIn}
 use Rattle.rules.specs.Statement.{firstLine, sheetOf}
 use Rattle.rules.proofs.Layouts.{ten-minutes-fits}
 use Rattle.rules.proofs.Words.{record-count}
-use Rattle.rules.proofs.Stated.{first-line-most}
+use Rattle.rules.proofs.Stated.{hour-number-most, first-line-most}
 use Rattle.printing.specs.Put.{Put}
 use Rattle.printing.proofs.Putting.{put-on, put-as}
-use Rattle.report.proofs.TenMinutes.{hour-number-most, charges-bounded, lines-are}
+use Rattle.report.proofs.TenMinutes.{charges-bounded, lines-are}
 use Rattle.report.proofs.ten_minutes.put_accepted.Statement.{statement}
 use Rattle.report.proofs.ten_minutes.put_accepted.Tie as tie
 
@@ -74,8 +74,8 @@ put-charges-requires c κs =
     let r = p .before .before in
     let s = start r in
     let kept = s .pre .0 .kept .hour-kept in
-    let most = hour-number-most (file r) (λ i. membered r .before .before .before .shared-slice-known .given i .fits) in
-    let line = first-line-most (h r) (omega (arith, kept .members-most)) (omega (arith, kept .count-most)) most in (
+    let most = hour-number-most tenMinutes (file r) (λ i. membered r .before .before .before .shared-slice-known .given i .fits) in
+    let line = first-line-most (h r) 1 (omega (arith, kept .members-most)) (omega (arith, kept .count-most)) most in (
       charges-bounded (s .pre .0) (members-are r),
       omega (arith, line-1 p .next-is, p .put-first-line .kept .0, line, members-are r, kept .members-most, s .pre .1),
     )
