@@ -28,13 +28,17 @@ use Rattle.blocks.proofs.Parts.{record-part-length}
 use Rattle.examine.specs.declared.search.Source.{Source}
 use Rattle.examine.specs.declared.search.Source.the-variants.{File, Lists}
 use Rattle.examine.specs.Whole.{BlocksWhole}
-use Rattle.examine.specs.Sources.{wordsTo, hourBy, HourThere, FirstBody, wordBy, WordThere, HasWords}
+use Rattle.examine.specs.Sources.{wordsTo, hourBy, HourThere, FirstBody, wordBy, WordThere, HasWords, HasBytes}
 use Rattle.examine.specs.Sources.{fileRecord, FileRecordThere, listRecord, ListRecordThere}
 use Rattle.examine.proofs.Listed.{said-count, said-head, said-word, part-length}
 
 pub word-there : (n k : ℕ) (source : Source) (bytes words : List ℕ) → HasWords n source bytes words → k < n → WordThere source bytes words k
 word-there n k File bytes words e l = omega arith
 word-there n k Lists bytes words e l = omega arith
+
+pub bytes-there : (n : ℕ) (source : Source) (bytes words : List ℕ) → HasWords n source bytes words → HasBytes n source bytes
+bytes-there n File bytes words e = e
+bytes-there n Lists bytes words e = tt
 
 -- ---- the head
 

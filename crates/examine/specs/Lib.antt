@@ -2,3 +2,4 @@
 pub mod Whole
 pub mod Sources
 pub mod Fault
+pub mod Span

@@ -47,6 +47,11 @@ abbrev pub HasWords : ℕ → Source → (bytes words : List ℕ) → Type 0
 HasWords n File bytes words = length bytes ≡ 4 * n
 HasWords n Lists bytes words = length words ≡ n
 
+-- so many words are there as bytes, where the source names bytes
+abbrev pub HasBytes : ℕ → Source → (bytes : List ℕ) → Type 0
+HasBytes n File bytes = length bytes ≡ 4 * n
+HasBytes n Lists bytes = Unit {0}
+
 -- ---- record i
 
 -- words to a record

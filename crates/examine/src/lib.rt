@@ -11,6 +11,7 @@ use rules::Found;
 use rules::Mode;
 
 pub mod search;
+mod spans;
 
 use search::Source;
 

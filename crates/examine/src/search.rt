@@ -203,8 +203,9 @@ fn first_found(found: usize, here: bool, at: usize) -> usize
     found
 }
 
-// The search leaves all the rows at the first record, and in it the first word, that breaks a rule. On its way it keeps the first generator
-// that is scheduled above its maximum, or `n` while there is none; it counts only where no record of the whole hour breaks a rule.
+// The search leaves all the rows at the first record, and in it the first word, that breaks a rule; a word that `spans` has passed is not
+// looked at again. On its way it keeps the first generator that is scheduled above its maximum, or `n` while there is none; it counts only
+// where no record of the whole hour breaks a rule.
 fn first_fault(mode: Mode, source: Source, file: &[u8], head: &[u32], records: &[u32]) -> Fault
     requires { ⌜ HourThere mode source (now file) (now head) ⌝ }
     ensures fault { λ r. ⌜ faultAt r
@@ -225,7 +226,7 @@ fn first_fault(mode: Mode, source: Source, file: &[u8], head: &[u32], records: &
         let words = list_record(mode, source, records, i);
         let kind = word_of(source, bytes, words, 0);
         above = first_found(above, above_maximum(mode, source, bytes, words, kind), i);
-        w = 0;
+        w = crate::spans::passed(mode, source, members, areas, kind, bytes);
         while w < size {
             if record_word_bad(mode, source, bytes, words, members, areas, kind, w) {
                 break 'rows;

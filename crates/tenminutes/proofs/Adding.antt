@@ -12,13 +12,13 @@ use lib.Seq.{getD-set-same, getD-set-other}
 use borrow.Author.Tests.{lt-ltb, le-ltb, eq-eqb, ne-eqb, eqb-true, eqb-false, ltb-true, ltb-false}
 use Rattle.whole.specs.Below.{totalBelow}
 use Rattle.whole.proofs.Tests.{split, never}
-use Rattle.whole.proofs.Totals.{total-none, total-add-one}
+use Rattle.whole.proofs.Totals.{total-ext, total-none, total-add-one}
 use Rattle.rules.specs.Record.{Hour, memberOf, areaOf, zoneOf}
 use Rattle.rules.specs.Charge.{entering}
-use Rattle.rules.specs.TenMinutes.{intervalOf}
+use Rattle.rules.specs.TenMinutes.{intervalOf, netDeviation, intervalCost}
 use Rattle.rules.specs.Inner.Kept.{TenMinutesKept}
 use Rattle.rules.proofs.IntervalBounds.{net-running}
-use Rattle.tenminutes.specs.Room.{adds, NetsAfter, Spare, Added}
+use Rattle.tenminutes.specs.Room.{adds, NetsAfter, costIn, Spare, Added}
 
 -- ---- one record: six places of a zone
 
@@ -108,6 +108,19 @@ module _ {h : Hour} {m n : ℕ} {room : List ℤ} (after : NetsAfter h m n room)
       one-more z k = both-hold (eqb (memberOf h n) m) (eqb (zoneOf h (areaOf h n)) z) (totalBelow (adds h m z k) n)
           (entering (intervalOf h n k)) (eq-eqb (memberOf h n) m mine)
           ∙ sym (total-add-one (adds h m z k) n)
+
+-- what the nets of all a member's records cost
+module _ {h : Hour} {m : ℕ} {room : List ℤ} (after : NetsAfter h m (h .count) room) where
+  pub cost-is : (z k : ℕ) → z < 4 → k < 6 → costIn h room z k ≡ intervalCost h m z k
+  unfolding intervalCost netDeviation
+  cost-is z k l j = rw (after .net-is z k l j)
+
+  pub zone-cost-is : (z n : ℕ) → z < 4 → n ≤ 6 → totalBelow (costIn h room z) n ≡ totalBelow (intervalCost h m z) n
+  zone-cost-is z n l few = total-ext _ _ n (λ k j. cost-is z k l (omega arith))
+
+  pub amount-is : (n : ℕ) → n ≤ 4 →
+      totalBelow (λ z. totalBelow (costIn h room z) 6) n ≡ totalBelow (λ z. totalBelow (intervalCost h m z) 6) n
+  amount-is n few = total-ext _ _ n (λ z l. zone-cost-is z 6 (omega arith) (le-refl 6))
 
 pub none-yet : (h : Hour) (m : ℕ) → NetsAfter h m 0 (replicate 24 (pos 0))
 none-yet h m = record { places = refl; net-is = λ z k l j. zeros (6 * z + k) (omega arith) ∙ sym (total-none (adds h m z k)) }

@@ -1,3 +1,5 @@
 -- What the contracts of `tenminutes` cite beside `rules`.
 pub mod Room
+pub mod Chain
+pub mod Shared
 pub mod HandedOut

@@ -5,6 +5,7 @@ ghost use Rattle.rules.specs.TenMinutes.{settleTenMinutes};
 use rules::Answer;
 
 pub mod boundary;
+mod chain;
 mod charges;
 mod cost;
 mod interval;

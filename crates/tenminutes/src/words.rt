@@ -23,6 +23,14 @@ pub fn record(file: &[u8], i: usize) -> &[u8]
     blocks::record(rules::ten_minutes(), file, i)
 }
 
+// The member of record `i`.
+pub fn member_of(file: &[u8], i: usize) -> usize
+    requires { ⌜ TenMinutesFileKept (now file) × (i < tenMinutesIn (now file) .count) ⌝ }
+    ensures { λ r. ⌜ r ≡ Record.memberOf (tenMinutesIn (now (file .entry))) i ⌝ }
+{
+    blocks::whole_word(record(file, i), 1) as usize
+}
+
 // Word `w` of the head.
 pub fn head_word(file: &[u8], w: usize) -> u32
     requires { ⌜ TenMinutesFileKept (now file) × (8 ≤ w) × (w < 128) ⌝ }

@@ -20,7 +20,14 @@ use rules::Rule;
 
 mod ten_minutes;
 
-const ZERO: Rule = Rule::Between(0, 0);
+// Rules of a ten-minute record's words, which `examine` asks for many words at once.
+pub const ENERGY: Rule = Rule::Between(0, 100000);
+
+pub const MULTIPLIER: Rule = Rule::Between(1, 20000);
+
+pub const ADJUSTMENT: Rule = Rule::AtMostInSize(100000);
+
+pub const ZERO: Rule = Rule::Between(0, 0);
 
 // ---- whether a word keeps a rule
 

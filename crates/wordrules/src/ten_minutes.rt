@@ -8,20 +8,16 @@ ghost use Rattle.rules.specs.Record as Record;
 ghost use Rattle.rules.specs.Ranges as Ranges;
 ghost use Rattle.rules.specs.declared.Kind.the-variants as Kinds;
 ghost use Rattle.rules.specs.declared.Rule.the-variants as Rules;
+use crate::ADJUSTMENT;
+use crate::ENERGY;
+use crate::MULTIPLIER;
+use crate::ZERO;
 use crate::counts_rule;
 use crate::keeps;
 use crate::within;
 use rules::Rule;
 
-const ZERO: Rule = Rule::Between(0, 0);
-
 const PRICE: Rule = Rule::AtMostInSize(100000);
-
-const ENERGY: Rule = Rule::Between(0, 100000);
-
-const MULTIPLIER: Rule = Rule::Between(1, 20000);
-
-const ADJUSTMENT: Rule = Rule::AtMostInSize(100000);
 
 // ---- words of the head
 

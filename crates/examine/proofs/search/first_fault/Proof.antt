@@ -5,22 +5,26 @@ use mathlib.Core.Logic.{⊎-elim}
 use mathlib.Core.Bool.{Bool, true, false, not}
 use mathlib.Core.Option.{none, some}
 use mathlib.Core.List.{List}
-use Prim.Native.Nat.{ℕ, _-_, _≤_, _<_}
+use Prim.Native.Nat.{ℕ, _-_, _≤_, _<_, zero-le}
 use native.Mathlib.Omega.{arith}
 use Rattle.whole.specs.Below.{firstBelow}
-use Rattle.whole.proofs.Tests.{never-some}
-use Rattle.whole.proofs.Search.{first-next, first-hit, first-less}
+use Rattle.whole.proofs.Tests.{never-some, cond-ind}
+use Rattle.whole.proofs.Search.{first-next, first-hit, first-less, none-below}
 use Rattle.rules.specs.declared.Layout.{Layout}
 use Rattle.rules.specs.declared.Mode.{Mode}
+use Rattle.rules.specs.declared.Mode.the-variants.{Hourly, TenMinutes}
 use Rattle.rules.specs.Record.{Hour, members, areas}
 use Rattle.rules.specs.Ranges.{keeps, firstBroken, formOf}
 use Rattle.rules.specs.Refusals.{isBroken, badWord, badRecord, firstFault}
 use Rattle.rules.proofs.Layouts.{mode-fits, few-to-a-record}
 use Rattle.rules.proofs.Faults.{fault-at, no-fault}
 use Rattle.examine.specs.declared.search.Source.{Source}
+use Rattle.examine.specs.declared.search.Source.the-variants.{File, Lists}
 use Rattle.examine.specs.Sources.{wordsTo, hourBy, HourThere, wordBy, HasWords, fileRecord, listRecord}
 use Rattle.examine.specs.Fault.{aboveBy, aboveIn}
-use Rattle.examine.proofs.Sources.{word-there, head-says, head-there, first-body, words-most}
+use Rattle.examine.specs.Span.{recordKeeps, passedBy}
+use Rattle.examine.proofs.Spanned.{passed-kept}
+use Rattle.examine.proofs.Sources.{word-there, bytes-there, head-says, head-there, first-body, words-most}
 use Rattle.examine.proofs.Sources.{file-record-there, list-record-there, record-there, record-says}
 use Rattle.examine.proofs.SoFar.{placeOr, kept-on, kept-some, kept-none}
 use Rattle.examine.proofs.search.first_fault.Statement.{statement}
@@ -54,6 +58,12 @@ abbrev μ-rows : tie.MeasureT-rows
 alike : (mode : Mode) (h : Hour) (i w m a k v : ℕ) → m ≡ members h → a ≡ areas h → k ≡ h .rec i 0 → v ≡ h .rec i w →
     not (keeps (formOf mode .recordRule m a k w) v) ≡ word-bad mode h i w
 alike mode h i w m a k v em ea ek ev = rw (em, ea, ek, ev)
+
+-- spans pass no more words than a record has
+passed-most : (mode : Mode) (source : Source) (m a k : ℕ) (s : List ℕ) → passedBy mode source m a k s ≤ wordsTo mode
+passed-most Hourly source m a k s = zero-le
+passed-most TenMinutes Lists m a k s = zero-le
+passed-most TenMinutes File m a k s = cond-ind (recordKeeps m a k s) 30 0 (λ n. n ≤ 30) (λ t. omega arith) (λ t. omega arith)
 
 -- the moment at which the first body is in hand
 module _ (c : tie.After-first-body Inv-loop μ-loop Inv-rows μ-rows) where
@@ -146,6 +156,15 @@ module _ (turn : tie.At-rows Inv-loop μ-loop Inv-rows μ-rows) where
         above-told : aboveBy own kind (wordBy (source in-hand) bytes words 3) (wordBy (source in-hand) bytes words 8) ≡ above-at own h at
         above-told = rw (kind-is, says 3 (omega (arith, words-most own)), says 8 (words-most own))
 
+        -- the words that spans pass break no rule
+        none-passed : firstBelow (word-bad own h at) (passedBy own (source in-hand) (turn .before .before .before .word-of .result)
+            (turn .before .before .word-of2 .result) kind bytes) ≡ none
+        none-passed =
+            let m = turn .before .before .before .word-of .result in
+            let a = turn .before .before .word-of2 .result in
+            none-below _ _ (λ w few. sym (told w (omega (arith, passed-most own (source in-hand) m a kind bytes)))
+            ∙ ap not (passed-kept own (source in-hand) m a kind bytes words e w few))
+
         -- a word that breaks its rule, with none before it, is the first fault
         stops : (w : ℕ) → w < wordsTo own → firstBelow (word-bad own h at) w ≡ none → judged bytes words kind w ≡ true →
             firstFault (formOf own) h ≡ some (at, w)
@@ -206,13 +225,24 @@ above-maximum-requires c κs =
 first-found-requires : tie.Need-first-found-requires Inv-loop μ-loop Inv-rows μ-rows
 first-found-requires c κs = tt
 
+passed-requires : tie.Need-passed-requires Inv-loop μ-loop Inv-rows μ-rows
+passed-requires c κs =
+    let read = c .before .before in
+    let turn = read .before .before .before .before in
+    bytes-there (wordsTo (own turn)) (source (in-hand turn)) _ _ (whole-record turn _ _ 0 (read .before .before .before .rows-test .taken)
+    (read .before .before .file-record .ensures) (read .before .list-record .ensures))
+
 loop-holds : tie.Need-loop-holds Inv-loop μ-loop Inv-rows μ-rows
-unfolding firstBelow
-loop-holds c = refl
+loop-holds c =
+    let read = c .before .before .before in
+    let turn = read .before .before .before .before in
+    ap (firstBelow (word-bad (own turn) (h turn) (at turn))) (c .passed .ensures)
+    ∙ none-passed turn _ _ _ (read .before .before .before .rows-test .taken) (read .before .before .file-record .ensures)
+    (read .before .list-record .ensures) (read .word-of3 .ensures)
 
 record-word-bad-requires : tie.Need-record-word-bad-requires Inv-loop μ-loop Inv-rows μ-rows
 record-word-bad-requires c κs =
-    let read = c .before .before .before .before in
+    let read = c .before .before .before .before .before in
     let turn = read .before .before .before .before in (
       whole-record turn _ _ 0 (read .before .before .before .rows-test .taken) (read .before .before .file-record .ensures)
           (read .before .list-record .ensures),
@@ -222,7 +252,7 @@ record-word-bad-requires c κs =
 -- w += 1
 add-w : tie.Need-add-w Inv-loop μ-loop Inv-rows μ-rows
 add-w c =
-    let turn = c .before .before .before .before .before .before .before .before .before .before in
+    let turn = c .before .before .before .before .before .before .before .before .before .before .before in
     omega (arith, c .before .before .loop-test .taken, size-is (in-hand turn), few-to-a-record (mode-fits (own turn)))
 
 loop-less : tie.Need-loop-less Inv-loop μ-loop Inv-rows μ-rows
@@ -231,7 +261,7 @@ loop-less c = omega arith
 loop-again : tie.Need-loop-again Inv-loop μ-loop Inv-rows μ-rows
 loop-again c =
     let inner = c .before .before .before in
-    let read = inner .before .before .before in
+    let read = inner .before .before .before .before in
     let turn = read .before .before .before .before in
     let w = inner .loop .w in
     let here = told turn _ _ _ (read .before .before .before .rows-test .taken) (read .before .before .file-record .ensures)
@@ -250,7 +280,7 @@ rows-again : tie.Need-rows-again Inv-loop μ-loop Inv-rows μ-rows
 unfolding badWord firstBroken
 rows-again c =
     let inner = c .before in
-    let kept = inner .before in
+    let kept = inner .before .before in
     let read = kept .before .before in
     let turn = read .before .before .before .before in
     let less = read .before .before .before .rows-test .taken in
@@ -272,11 +302,11 @@ returns c =
     ⊎-elim
     (λ ran-out. absurd (omega (arith, ran-out .0 .left, c .if2 .taken)))
     (λ left.
-    let here = stops turn _ _ _ (left .0 .taken) (left .1 .ensures) (left .2 .ensures) (left .3 .ensures) (left .6 .w)
-    (omega (arith, left .7 .taken, size-is (in-hand turn)))
-    (left .6 .inv) in
-    let found = here (sym (left .8 .ensures) ∙ left .9 .taken) in
-    (sym (found ∙ ap (λ (w : ℕ). some (at turn, w)) (sym (left .10))), λ e. never-some e))
+    let here = stops turn _ _ _ (left .0 .taken) (left .1 .ensures) (left .2 .ensures) (left .3 .ensures) (left .7 .w)
+    (omega (arith, left .8 .taken, size-is (in-hand turn)))
+    (left .7 .inv) in
+    let found = here (sym (left .9 .ensures) ∙ left .10 .taken) in
+    (sym (found ∙ ap (λ (w : ℕ). some (at turn, w)) (sym (left .11))), λ e. never-some e))
     (c .before .rows-test .came)
 
 -- all records were passed: none is bad, and what was kept is what row 14 names
@@ -337,6 +367,7 @@ first-fault-spec =
     word-of-requires-3
     above-maximum-requires
     first-found-requires
+    passed-requires
     loop-holds
     record-word-bad-requires
     add-w

@@ -9,8 +9,8 @@ slice-aggregate-charge-in c = search needs
 
 charge-in-requires : tie.Need-charge-in-requires
 charge-in-requires c κs =
-    let s = c .before .before in
-    (s .pre .0, s .pre .1, s .pre .2, none-yet _ (s .args .member))
+    let s = c .before .before .before .before in
+    (s .pre .0, s .pre .1, s .pre .2, s .pre .3, none-yet _ (s .args .member))
 
 returns : tie.Need-returns
 returns c = search needs

@@ -7,9 +7,10 @@ use lib.IntN.{ℤ, pos, _*ℤ_}
 use lib.ListN.{getD}
 use lib.Signed.{ltZ}
 use borrow.Author.Needs.{sfits-of}
-use Rattle.whole.proofs.Machine.{Num, result, gives, stored, read-back}
+use Rattle.whole.specs.Signed.{Under}
+use Rattle.whole.proofs.Machine.{Num, at, result, gives, stored, read-back}
 use Rattle.rules.specs.Record.{Hour, signed}
-use Rattle.rules.specs.TenMinutes.{tenMinutesIn, incremental, decremental, intervalPrice, netDeviation, intervalCost}
+use Rattle.rules.specs.TenMinutes.{tenMinutesIn, incremental, decremental, intervalPrice, netDeviation}
 use Rattle.rules.specs.Inner.Kept.{TenMinutesKept}
 use Rattle.rules.proofs.IntervalBounds.{net-under}
 use Rattle.tenminutes.proofs.charges.interval_cost.Statement.{statement}
@@ -57,7 +58,7 @@ mul-cost-2 c = omega (arith, zone-few (c .before .before .before))
 
 -- room[6 * z + k]
 shared-slice-copy-out-cost : tie.Need-shared-slice-copy-out-cost
-shared-slice-copy-out-cost c = let s = c .before .before .before in omega (arith, zone-few s, s .pre .2, s .pre .3 .places)
+shared-slice-copy-out-cost c = let s = c .before .before .before in omega (arith, zone-few s, s .pre .2, s .pre .3 .nets .places)
 
 -- the net and both prices are read
 module _ (c : tie.After-cost-arg) where
@@ -76,9 +77,13 @@ module _ (c : tie.After-cost-arg) where
   kept : TenMinutesKept h
   kept = start .pre .0 .hour-kept
 
-  net-is : getD (start .args .room .now) (6 * z + k) (pos 0) ≡ netDeviation h (start .args .member) z k
+  abbrev inRoom : ℤ
+  inRoom = getD (start .args .room .now) (6 * z + k) (pos 0)
+
+  small : Under inRoom 6144000000000
   unfolding netDeviation
-  net-is = start .pre .3 .net-is z k (zone-few start) (start .pre .2)
+  small = let own = start .pre .3 in
+      rw (own .nets .net-is z k (zone-few start) (start .pre .2)) (net-under kept (own .member) z k (start .pre .2))
 
   up-is : c .before .before .price .result ≡ incremental h z k
   unfolding incremental
@@ -89,7 +94,7 @@ module _ (c : tie.After-cost-arg) where
   down-is = c .before .price2 .ensures ∙ ap (λ w. signed (h .head w)) (grouped 54 (12 * z) k)
 
   abbrev net : Num
-  net = result net-is (net-under kept (start .args .member) z k (start .pre .2))
+  net = at small
 
   abbrev up : Num
   up = result up-is (kept .incremental-in z k (start .pre .1) (start .pre .2))
@@ -107,7 +112,7 @@ alike : (a b c n i d r : ℤ) → r ≡ by a b c → a ≡ n → b ≡ i → c �
 alike a b c n i d r e a-is b-is c-is = rw (← a-is, ← b-is, ← c-is) e
 
 returns : tie.Need-returns
-unfolding intervalCost intervalPrice
+unfolding intervalPrice
 returns c = let read = c .before in
     read-back (sfits-of (c .cost .ok))
     ∙ alike _ _ _ _ _ _ _ (c .cost .ensures) (stored (net read) tt) (stored (up read) tt) (stored (down read) tt)

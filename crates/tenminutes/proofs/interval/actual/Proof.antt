@@ -30,13 +30,13 @@ enum-told-3 : tie.Need-enum-told-3
 enum-told-3 c = c .match .keys3
 
 mul-result-3 : tie.Need-mul-result-3
-mul-result-3 c = fits (reading (c .before .before)) tt
+mul-result-3 c = fits (reading (c .before .before .before .before)) tt
 
 enum-told-4 : tie.Need-enum-told-4
 enum-told-4 c = c .match .keys4
 
 mul-result-4 : tie.Need-mul-result-4
-mul-result-4 c = fits (hour (c .before .before)) tt
+mul-result-4 c = fits (hour (c .before .before .before .before)) tt
 
 enum-told-5 : tie.Need-enum-told-5
 enum-told-5 c = c .match .keys5
@@ -57,10 +57,10 @@ returns-2 : tie.Need-returns-2
 returns-2 c = rw (c .enum-told2 .given .1) (stored (own (c .before .before)) tt)
 
 returns-3 : tie.Need-returns-3
-returns-3 c = rw (c .enum-told3 .given .1) (stored (reading (c .before .before)) tt)
+returns-3 c = rw (c .before .before .enum-told3 .given .1) (stored (reading (c .before .before .before .before)) tt)
 
 returns-4 : tie.Need-returns-4
-returns-4 c = rw (c .enum-told4 .given .1) (stored (hour (c .before .before)) tt)
+returns-4 c = rw (c .before .before .enum-told4 .given .1) (stored (hour (c .before .before .before .before)) tt)
 
 returns-5 : tie.Need-returns-5
 returns-5 c = rw (c .enum-told5 .given .1) (stored (own (c .before .before)) tt)

@@ -4,33 +4,39 @@ use Prim.Native.Nat.{_+_}
 use native.Mathlib.Omega.{arith}
 use lib.IntN.{pos}
 use borrow.Author.Needs.{sfits-of}
-use Rattle.whole.proofs.Machine.{Num, #, result, _:*_, fits, stored, read-back}
+use Rattle.whole.proofs.Machine.{Num, #, at0, result, _:*_, fits, stored, back, read-back}
 use Rattle.whole.proofs.Ranges.{upto-pos, u-upto}
-use Rattle.rules.specs.Record.{kindOf}
 use Rattle.rules.specs.HourFile.{word}
-use Rattle.rules.specs.TenMinutes.{kindIn, intervalEntry}
+use Rattle.rules.specs.TenMinutes.{intervalEntry, scheduledIn, rampPart, actualIn}
+use Rattle.tenminutes.specs.declared.interval.Shared.{Shared}
 use Rattle.tenminutes.proofs.interval.entry.Statement.{statement}
 use Rattle.tenminutes.proofs.interval.entry.Tie as tie
 
-whole-word-requires : tie.Need-whole-word-requires
-whole-word-requires c κs = omega arith
+-- 8 + k
+add-number : tie.Need-add-number
+add-number c = omega arith
 
-kind-of-requires : tie.Need-kind-of-requires
-kind-of-requires c κs = tt
+number-requires : tie.Need-number-requires
+number-requires c κs = omega arith
 
--- the kind is that of the record
-module _ (c : tie.After-kind-of) where
+-- the interval's own actual is read
+module _ (c : tie.After-number) where
   abbrev start : tie.Start
-  start = c .before .before .before
+  start = c .before .before
 
-  kind-is : c .kind-of .result ≡ kindIn (word (start .args .words .now))
-  kind-is = c .kind-of .ensures ∙ ap kindOf (c .before .whole-word .ensures)
+  own-is : back (c .number .result) ≡ pos (word (start .args .words .now) (8 + start .args .k))
+  own-is = read-back (sfits-of (c .number .ok)) ∙ c .number .ensures
 
-actual-in-requires : tie.Need-actual-in-requires
-actual-in-requires c κs = let s = start c in (s .pre .0, s .pre .1, kind-is c, s .pre .2)
+actual-requires : tie.Need-actual-requires
+actual-requires c κs = let s = start c in let kept = s .pre .1 in rw (s .pre .3, own-is c) (
+  upto-pos _ _ (kept .this-most),
+  upto-pos _ _ (kept .actuals-most 0 (omega arith)),
+  upto-pos _ _ (kept .actuals-most _ (s .pre .2)),
+)
 
-scheduled-in-requires : tie.Need-scheduled-in-requires
-scheduled-in-requires c κs = let s = start (c .before) in (s .pre .0, s .pre .1, kind-is (c .before))
+scheduled-requires : tie.Need-scheduled-requires
+scheduled-requires c κs = let s = start (c .before) in let kept = s .pre .1 in
+    rw (s .pre .3) (upto-pos _ _ (kept .this-most), upto-pos _ _ (kept .before-most), upto-pos _ _ (kept .next-most))
 
 -- 14 + k
 add-adjustment : tie.Need-add-adjustment
@@ -40,60 +46,53 @@ adjustment-requires : tie.Need-adjustment-requires
 adjustment-requires c κs = let s = start (c .before .before) in (omega arith, s .pre .1 .adjustments-in _ (s .pre .2))
 
 -- 20 + k
-add-number : tie.Need-add-number
-add-number c = omega arith
-
-number-requires : tie.Need-number-requires
-number-requires c κs = omega arith
-
-abbrev ancillary : tie.After-number → Num
-ancillary c = let s = start (c .before .before .before .before) in
-    # (pos 24) :* result (c .number .ensures) (u-upto (upto-pos (word (s .args .words .now) (20 + s .args .k)) 100000 (s .pre .1 .ancillary-most _ (s .pre .2))))
-
-mul-t11 : tie.Need-mul-t11
-mul-t11 c = fits (ancillary c) tt
+add-number-2 : tie.Need-add-number-2
+add-number-2 c = omega arith
 
 number-requires-2 : tie.Need-number-requires-2
 number-requires-2 c κs = omega arith
 
-number-requires-3 : tie.Need-number-requires-3
-number-requires-3 c κs = omega arith
+abbrev ancillary : tie.After-number2 → Num
+ancillary c = let s = start (c .before .before .before .before) in
+    # (pos 24) :* result (c .number2 .ensures) (u-upto (upto-pos (word (s .args .words .now) (20 + s .args .k)) 100000 (s .pre .1 .ancillary-most _ (s .pre .2))))
+
+mul-t11 : tie.Need-mul-t11
+mul-t11 c = fits (ancillary c) tt
 
 -- each letter names the moment when it was made, the last first
 returns : tie.Need-returns
-unfolding intervalEntry
+unfolding intervalEntry scheduledIn rampPart actualIn
 returns c =
-    let f = c .before in
-    let n = f .before in
+    let n = c .before in
     let j = n .before in
     let s = j .before in
     let a = s .before in
-    let metered = read-back (sfits-of (a .actual-in .ok)) ∙ a .actual-in .ensures in
+    let began = start (a .before) in
+    let shared-is = began .pre .3 in
+    let metered = read-back (sfits-of (a .actual .ok)) ∙ (rw (shared-is, own-is (a .before)) at (a .actual .ensures)) in
     λ k. record {
-      kind = kind-is (a .before) k;
-      S = (read-back (sfits-of (s .scheduled-in .ok)) ∙ s .scheduled-in .ensures) k;
+      kind = ap (λ (r : Shared). r .kind) shared-is k;
+      S = (read-back (sfits-of (s .scheduled .ok)) ∙ (rw (shared-is) at (s .scheduled .ensures))) k;
       A = metered k;
       J = (read-back (sfits-of (j .adjustment .ok)) ∙ j .adjustment .ensures) k;
       N = stored (ancillary n) tt k;
       O = pos 0;
       M = metered k;
-      F = (read-back (sfits-of (f .number2 .ok)) ∙ f .number2 .ensures) k;
-      H = (read-back (sfits-of (c .number3 .ok)) ∙ c .number3 .ensures) k;
+      F = (ap (λ (r : Shared). back (r .f)) shared-is ∙ read-back (fits (at0 (upto-pos _ _ (began .pre .1 .F-most))) tt)) k;
+      H = (ap (λ (r : Shared). back (r .h)) shared-is ∙ read-back (fits (at0 (upto-pos _ _ (began .pre .1 .H-most))) tt)) k;
     }
 
 pub entry-spec : {M : Type 1} → statement M
 entry-spec =
     tie.close
     (tie.spec
-    whole-word-requires
-    kind-of-requires
-    actual-in-requires
-    scheduled-in-requires
-    add-adjustment
-    adjustment-requires
     add-number
     number-requires
-    mul-t11
+    actual-requires
+    scheduled-requires
+    add-adjustment
+    adjustment-requires
+    add-number-2
     number-requires-2
-    number-requires-3
+    mul-t11
     returns)

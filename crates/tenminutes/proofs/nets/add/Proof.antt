@@ -15,11 +15,14 @@ use Rattle.tenminutes.proofs.nets.add.Statement.{statement}
 use Rattle.tenminutes.proofs.nets.add.Tie as tie
 
 abbrev Inv-loop : tie.InvT-loop
-Inv-loop words zone room₀ first k₀ room k =
+Inv-loop words zone room₀ first shared k₀ room k =
     (k ≤ 6) × Added (λ j. entering (intervalEntry (word words) j)) zone k room₀ room
 
 abbrev μ-loop : tie.MeasureT-loop
-μ-loop words zone room₀ first k₀ room k = 6 - k
+μ-loop words zone room₀ first shared k₀ room k = 6 - k
+
+shared-in-requires : tie.Need-shared-in-requires Inv-loop μ-loop
+shared-in-requires c κs = c .before .pre .0
 
 -- 6 * zone
 mul-first : tie.Need-mul-first Inv-loop μ-loop
@@ -33,7 +36,7 @@ module _ (c : tie.In-loop Inv-loop μ-loop) where
   at = c .before
 
   abbrev start : tie.Start Inv-loop μ-loop
-  start = at .before .before
+  start = at .before .before .before
 
   abbrev k : ℕ
   k = at .loop .k
@@ -48,7 +51,7 @@ module _ (c : tie.In-loop Inv-loop μ-loop) where
   inside = omega (arith, few, at .loop .inv .1 .same-length, start .pre .3 .places)
 
 deviation-requires : tie.Need-deviation-requires Inv-loop μ-loop
-deviation-requires c κs = let s = start c in (s .pre .0, s .pre .1, omega arith)
+deviation-requires c κs = let s = start c in (s .pre .0, s .pre .1, omega arith, at c .before .shared-in .ensures)
 
 -- the deviation is worked
 module _ (c : tie.After-deviation Inv-loop μ-loop) where
@@ -110,6 +113,7 @@ add-spec =
     Inv-loop
     μ-loop
     mul-first
+    shared-in-requires
     loop-holds
     deviation-requires
     add-room
