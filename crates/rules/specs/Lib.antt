@@ -12,10 +12,10 @@ pub mod HourWords
 pub mod Ranges
 pub mod Refusals
 pub mod Settling
+pub mod TenMinutes
 pub mod Statement
 pub mod Explanation
 pub mod RawHour
-pub mod TenMinutes
 pub mod Promised
 pub mod Figures
 pub mod Inner

@@ -205,6 +205,7 @@ chargesStated =
     ∷ tenMinutesStatement (firstTen 1 (tenHead 100001 1) ++ otherTen 1 4 0 unknownTen) is bytes "refused 4 at 48\n"
     -- the largest sum that a member can have
     ∷ chargeLine 31 (negℤ (pos 15360000000)) is bytes "31  -153600000.00\n"
+    ∷ chargeLine 9 (pos 0) is bytes "09          +0.00\n"
     ∷ []
 
 pub record EveryIntervalRight : Type 0 where

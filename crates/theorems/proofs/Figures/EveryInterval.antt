@@ -37,6 +37,6 @@ every-interval-right = record {
   of-records = (refl, (refl, (refl, (refl, (refl, (refl, (refl, (refl, (refl, (refl, (refl, tt)))))))))));
   of-the-head = (refl, (refl, (refl, (refl, (refl, (refl, (refl, (refl, (refl, (refl, (refl, (refl, (refl, (refl, (refl, (refl, tt))))))))))))))));
   settled = refl;
-  stated = (refl, (refl, (refl, tt)));
+  stated = (refl, (refl, (refl, (refl, tt))));
   refused = (refl, (refl, (refl, (refl, (refl, (refl, (refl, (refl, (refl, tt)))))))));
 }
