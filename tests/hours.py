@@ -47,8 +47,11 @@ two_faults = two_of(PAIRS)
 
 
 def scattered(rng):
+    return scatter(rng, random_hour(rng, rng.randint(0, 40), rng.choice([9, 3_000])).blocks())
+
+
+def scatter(rng, blocks):
     """A few words of an honest hour changed anyhow, at times without mending the sum."""
-    blocks = random_hour(rng, rng.randint(0, 40), rng.choice([9, 3_000])).blocks()
     for _ in range(rng.randint(1, 3)):
         block, word = rng.choice(blocks), rng.choice([rng.randrange(128), rng.randrange(48)])
         block[word] = rng.choice([0, 1, block[word] + 1, block[word] - 1, rng.randrange(2**32)]) % 2**32

@@ -121,11 +121,16 @@ def interval_price(prices, net, interval):
     return prices["decremental" if net < 0 else "incremental"][interval - 1]
 
 
+def records_in_zone(hour, member, zone):
+    """A member's records in the areas of a zone."""
+    return [r for r in hour["records"] if r["member"] == member and hour["areas"][r["area"]]["zone"] == zone]
+
+
 def unrounded_amount(hour, member):
     """A member's sum over all zones and intervals, in grains and exact fractions of them."""
     amount = Fraction(0)
     for zone, prices in enumerate(hour["prices"]):
-        own = [r for r in hour["records"] if r["member"] == member and hour["areas"][r["area"]]["zone"] == zone]
+        own = records_in_zone(hour, member, zone)
         for interval in INTERVALS:
             net = net_deviation(own, interval)
             amount += net * UNITS_IN_A_KWH * interval_price(prices, net, interval)

@@ -5,10 +5,11 @@ import itertools
 
 from faults import (COUNTS, LAYOUT_FAULTS, LENGTH_FAULTS, LONE_FAULTS, SUM_FAULTS, area_past_areas, fourth_word_of_an_area,
                     last_word_of_the_head, none_of, too_many, wrong_zone)
-from faulty_records import PLACES, place_of, put_in_record, spoil_record, unwanted, wrong_area, wrong_kind, wrong_kind_twice, wrong_member
+from faulty_records import (PLACES, place_of, put_in_record, spoil_record, unwanted, wrong_area, wrong_kind, wrong_kind_twice,
+                            wrong_member)
 from hour_bytes import HIGHEST, LOWEST, PROFILE_LOAD
-from ten_minute_hours import (ACTUALS, ADJUSTMENTS, FIRST_PRICE_WORD, FORECAST, HOUR_AHEAD, LETTER_AT, MOST_INTERVAL_PRICE, PAST_PRICES, REST,
-                              USED_WORDS)
+from ten_minute_hours import (ACTUALS, ADJUSTMENTS, FIRST_PRICE_WORD, FORECAST, HOUR_AHEAD, LETTER_AT, MOST_INTERVAL_PRICE, PAST_PRICES,
+                              REST, USED_WORDS)
 
 
 # ---- The head

@@ -1,6 +1,7 @@
 """Ten-minute hours before they are bytes, as document 02, A7, lays them out, and makers of ones that keep the rules."""
 
-from hour_bytes import EXPORT, GENERATOR, HIGHEST, IMPORT, KINDS, LOWEST, PROFILE_LOAD, REAL_TIME_LOAD, Hour, Layout, padded
+from honest_hours import at_an_end
+from hour_bytes import EXPORT, GENERATOR, IMPORT, KINDS, PROFILE_LOAD, REAL_TIME_LOAD, Hour, Layout, padded
 
 MOST_INTERVAL_PRICE = 100_000
 MOST_INTERVAL_RECORDS = 64
@@ -106,7 +107,7 @@ def full_file(rng):
 
 def full_blocks(rng):
     """A last block of four records, or of one."""
-    return random_ten_minutes(rng, 4 * rng.randint(1, 15) + rng.randint(0, 1), 3_000)
+    return random_ten_minutes(rng, 4 * rng.choice([1, rng.randint(1, 15)]) + rng.randint(0, 1), 3_000)
 
 
 def all_members(rng):
@@ -120,12 +121,6 @@ def all_members(rng):
 
 
 # ---- At the edges
-
-def at_an_end(rng, letter):
-    """Mostly an end of the range, at times a step inside it."""
-    step = rng.choice([0, 0, 0, 1])
-    return rng.choice([LOWEST[letter] + step, HIGHEST[letter] - step])
-
 
 def ends_everywhere(rng):
     """Every count, price and word of a record at an end of its range."""
@@ -178,7 +173,7 @@ def halves_by_ramp(rng):
 
 def rounded_once(rng):
     """Parts of a cent in each zone and interval, which round otherwise alone than together."""
-    zones, members = rng.choice([2, 3, 4, 4]), rng.randint(1, 8)
+    zones, members = rng.choice([2, 3, 4, 4, 4, 4]), rng.randint(1, 8)
     prices = [[rng.choice([-1, 1]) * rng.randint(100, 499) for _ in range(12)] for _ in range(zones)]
     records = [over_plan(rng, member, zone, interval, rng.choice([1, 1, -1])) for member in range(members) for zone in range(zones)
                for interval in rng.sample(range(1, 7), 2)]

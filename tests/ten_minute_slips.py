@@ -96,9 +96,9 @@ SLIPS = {
 # ---- Nets, prices and rounding
 
 SIGN = '"decremental" if net < 0 else "incremental"'
-PRICED = "[interval - 1]\n\n\ndef unrounded_amount"
+PRICED = "[interval - 1]\n\n\ndef records_in_zone"
 OWN = 'r["member"] == member and hour["areas"][r["area"]]["zone"] == zone]'
-OF_OWN = f'        own = [r for r in hour["records"] if {OWN}\n'
+OF_OWN = "        own = records_in_zone(hour, member, zone)\n"
 COSTS = "            net = net_deviation(own, interval)\n" \
         "            amount += net * UNITS_IN_A_KWH * interval_price(prices, net, interval)\n"
 ONCE = "cents(unrounded_amount(hour, member)) for member"
@@ -130,7 +130,7 @@ SLIPS.update({
          "                amount += net * UNITS_IN_A_KWH * interval_price(prices, net, interval)\n"), ["net-of-zero", "net-over-areas"]),
     "the net of an area": Misread(
         (OF_OWN, "      for area in range(8):\n"
-         f'        own = [r for r in hour["records"] if r["area"] == area and {OWN}\n'), ["net-over-areas"]),
+         '        own = [r for r in records_in_zone(hour, member, zone) if r["area"] == area]\n'), ["net-over-areas"]),
     "the net of all zones": Misread(
         (OWN, 'r["member"] == member and zone == 0]'), ["net-by-zone", "zone-of-the-area"]),
     "the net of all members": Misread((OWN, OWN.replace('r["member"] == member and ', "")), ["net-by-member", "member-without-records"]),

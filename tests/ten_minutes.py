@@ -15,13 +15,15 @@ import hours
 import second
 import to_write
 from hours import Made
+from misread import NAMES as KIND_NAMES
 from ten_minute_faults import *  # noqa: F401, F403
 from ten_minute_faults import FAULTS, NEIGHBOURS, TWICE
 from ten_minute_hours import *  # noqa: F401, F403
 from ten_minute_hours import HONEST, random_ten_minutes
 
 MOST_CHARGES = 40
-LAST_HOURLY_RECORD = 160  # a file of 17 blocks
+LAST_HOURLY_RECORD = 160  # of a file of 17 blocks
+HOURLY_COUNTS = ((0, 0), (1, 159), (151, 160), (161, 161), (161, 250))
 
 
 # ---- Damaged hours, and files of the other kind
@@ -42,10 +44,12 @@ def two_of(pairs):
     return lambda rng: damaged(rng, rng.choice(pairs))
 
 
-def hourly_file(rng):
-    """An hourly file breaks the layout in its first block, where it isn't too long."""
-    count = rng.choice([0, 1, LAST_HOURLY_RECORD, LAST_HOURLY_RECORD + 1, 250, rng.randint(0, 250)])
-    return Made("hourly_file", hours.random_hour(rng, count, 3_000).encode(), (3 if count <= LAST_HOURLY_RECORD else 1, 0))
+def hourly_file(least, most):
+    """An hourly file of so many records breaks the layout in its first block, where it isn't too long."""
+    def make(rng):
+        count = rng.randint(least, most)
+        return Made("hourly_file", hours.random_hour(rng, count, 3_000).encode(), (3 if count <= LAST_HOURLY_RECORD else 1, 0))
+    return make
 
 
 def hourly_file_damaged(rng):
@@ -91,22 +95,14 @@ def some_block(rng, blocks, which):
 
 
 def scattered(rng):
-    """A few words of an honest hour changed anyhow, at times without mending the sum."""
-    blocks = random_ten_minutes(rng, rng.randint(0, 20), rng.choice([9, 3_000])).blocks()
-    for _ in range(rng.randint(1, 3)):
-        block, word = rng.choice(blocks), rng.randrange(128)
-        block[word] = rng.choice([0, 1, block[word] + 1, block[word] - 1, rng.randrange(2**32)]) % 2**32
-    if rng.random() < 0.9:
-        for block in blocks:
-            hours.mend(block)
-    return Made("scattered", hours.to_bytes(blocks), None)
+    return hours.scatter(rng, random_ten_minutes(rng, rng.randint(0, 20), rng.choice([9, 3_000])).blocks())
 
 
 # ---- The endless list
 
 ROUND = ([hours.honest(maker) for maker in HONEST] * 4 + [alone(fault) for fault in FAULTS] + [two_of(pairs) for pairs in NEIGHBOURS] * 2
          + [two_of(pairs) for pairs in TWICE] * 2 + [make(which) for make in (sum_wrong, block_wrong) for which in hours.PLACES]
-         + [hourly_file] * 4 + [hourly_file_damaged, marked_as_hourly] + [scattered] * 3)
+         + [hourly_file(*counts) for counts in HOURLY_COUNTS] + [hourly_file_damaged, marked_as_hourly] + [scattered] * 3)
 
 
 def made(seed, index):
@@ -115,11 +111,11 @@ def made(seed, index):
 
 
 def length_for(rng, data):
-    """How many charges are lent: just enough, more, one too few, none, or any number. Where no hour can be read, any members will do."""
+    """How many charges are lent: just enough, more, one too few, none, or any number; to a refused hour none as often as not."""
     try:
         members = second.read_ten_minute_hour(data)["members"]
     except second.Refused:
-        members = rng.randint(1, second.MOST_MEMBERS)
+        return rng.choice([0, rng.randint(0, MOST_CHARGES)])
     return rng.choice([members, members, rng.randint(members, MOST_CHARGES), members - 1, members - 1, 0, rng.randint(0, MOST_CHARGES)])
 
 
@@ -135,14 +131,11 @@ class Reached:
         number, self.place, self.charges = second.settle_ten_minutes(data)
         self.number, self.called = number, second.settle_ten_minutes(data, length).number
         self.hour = second.read_ten_minute_hour(data) if number == 0 else None
-        self.records = self.counted(data) if number in (0, 5) else 0
+        self.records = len(record_words(data)) if number in (0, 5) else 0
         self.broken = broken_words(data, self.place) if number == 5 else ()
         self.members = self.hour["members"] if self.hour else None
         self.posted = len({each["member"] for each in self.hour["records"]}) if self.hour else None
         self.nets = [nets_of(self.hour, member) for member in range(self.members)] if self.hour else []
-
-    def counted(self, data):
-        return len(second.records_held(second.blocks_in(data), second.TEN_MINUTES.record_words))
 
     def any_member(self, shows):
         """Whether a member's nets show something, of an hour that is accepted."""
@@ -156,20 +149,24 @@ def nets_of(hour, member):
     """For each zone the member's records, its six nets in kWh, and what each costs in grains."""
     zones = []
     for zone, prices in enumerate(hour["prices"]):
-        own = [r for r in hour["records"] if r["member"] == member and hour["areas"][r["area"]]["zone"] == zone]
+        own = second.records_in_zone(hour, member, zone)
         nets = [second.net_deviation(own, interval) for interval in second.INTERVALS]
         costs = [net * 10_000 * second.interval_price(prices, net, interval) for interval, net in zip(second.INTERVALS, nets)]
         zones.append((own, nets, costs))
     return zones
 
 
+def record_words(data):
+    """The words of each record of a file that keeps rows 1 to 3."""
+    return second.records_held(second.blocks_in(data), second.TEN_MINUTES.record_words)
+
+
 def broken_words(data, place):
-    """The words of a record that row 5 refuses, each of which alone breaks it; all of the kind's words where the kind is wrong."""
-    blocks = second.blocks_in(data)
-    words = second.records_held(blocks, second.TEN_MINUTES.record_words)[place]
+    """The words of a record that row 5 refuses, each of which alone breaks it; its kind alone where that is none."""
+    head, words = second.words_in(data[:second.BLOCK_BYTES]), record_words(data)[place]
     if words[0] not in second.DIRECTION:
         return (0,)
-    ranges = [range(6), range(blocks[0][9]), range(blocks[0][11]), *sum(second.interval_ranges(words[0]).values(), [])]
+    ranges = [range(6), range(head[9]), range(head[11]), *sum(second.interval_ranges(words[0]).values(), [])]
     return [at for at, (word, allowed) in enumerate(zip(words, ranges))
             if (second.signed(word) if allowed.start < 0 else word) not in allowed]
 
@@ -202,8 +199,6 @@ def deviates(kind):
     return lambda r: r["kind"] == kind and any(second.interval_deviation(r, interval) for interval in second.INTERVALS)
 
 
-KIND_NAMES = {second.GENERATOR: "a generator", second.REAL_TIME_LOAD: "a load in real time", second.PROFILE_LOAD: "a load by profile",
-              second.IMPORT: "an import", second.EXPORT: "an export"}
 HEAD_PARTS = {"the counts": range(9, 12), "the hourly prices": range(12, 16), "an area's zone": range(16, 48, 4),
               "an area's other words": [word for word in range(16, 48) if word % 4],
               "an incremental price": [word for word in range(48, 96) if word % 12 < 6],

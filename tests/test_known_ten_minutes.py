@@ -50,9 +50,8 @@ class Answers(unittest.TestCase):
                     self.assertEqual(second.statement(case.data), REFUSED_BY_HOURLY)
 
     def test_of_the_proved_programs(self):
-        folder = programs.made("archive")
         ten_minutes, statement = programs.command("ten_minutes"), programs.command("statement")
-        charged = programs.command("charged", folder)
+        charged = programs.command("charged", programs.made("archive"))
         for case in known.cases():
             with self.subTest(case.name):
                 calls = (programs.run([*charged, str(length)], case.data) for length in lengths(case))
