@@ -1,5 +1,5 @@
-/* file.h: how an hour file is laid out (document 01, "The hour file"), and what finds its faults; what it shares with a ten-minute file takes
-   the form of file (ten_minutes.h has the other). */
+/* file.h: how an hour file is laid out (document 01, "The hour file"), and what finds its faults. What a ten-minute file has in common with
+   it takes the form of file; ten_minutes.h has the other form. */
 #ifndef FILE_H
 #define FILE_H
 

@@ -1,5 +1,5 @@
-/* ten_minutes.c: ten-minute settlement by hand (document 02, A7). The records of a member are chained, so that there is room for one member's
-   nets at a time, as in the archive. */
+/* ten_minutes.c: ten-minute settlement by hand (document 02, A7). The records of a member are chained, so that room for one member's nets
+   is enough, as in the archive. */
 #include "ten_minutes.h"
 
 #include <string.h>
