@@ -2,8 +2,6 @@
    is enough, as in the archive. */
 #include "ten_minutes.h"
 
-#include <string.h>
-
 #include "settle.h"
 
 enum { MOST_ENERGY = 100000, MOST_CHANGE = 100000, MOST_MULTIPLIER = 20000, MOST_PRICE = 100000 };
@@ -192,8 +190,7 @@ void exact_amounts(const uint8_t *file, size_t file_length, int64_t *amounts)
         last[member] = (uint8_t)at;
     }
     for (size_t member = 0; member < members; member++) {
-        int64_t nets[INTERVALS * MOST_ZONES];
-        memset(nets, 0, INTERVALS * zones * sizeof *nets);
+        int64_t nets[INTERVALS * MOST_ZONES] = { 0 };
         for (size_t at = last[member]; at != 0; at = before[at]) {
             const uint8_t *record = ten_minute_record(file, at - 1);
             add_deviations(record, nets + INTERVALS * zone_of(file, record));
