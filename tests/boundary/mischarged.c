@@ -39,7 +39,7 @@ static sneupelaar_answer eleven_before_five(ARGUMENTS)
     return answer;
 }
 
-/* As many blocks as an hour file may have: what is past the seventeenth is let go. */
+/* A file of more than 17 blocks taken for its first 17. */
 static sneupelaar_answer longer_taken(ARGUMENTS)
 {
     size_t most = TEN_MINUTE_BLOCKS * BLOCK_BYTES;
