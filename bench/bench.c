@@ -1,8 +1,9 @@
 /* bench.c: what the bench counts.
      bench FOLDER WHAT WHO ROUNDS   WHAT: full (writes that hour of the folder, taken apart, once a round), write, read (1,000 amounts a
                                     round), explained- before an hour of the folder (explains a member of it once a round), or another
-                                    hour of the folder, which is settled once a round; WHO: rattle (the archive) or hand. Prints a sum of
-                                    what was answered, which both have alike
+                                    hour of the folder, which is settled once a round, as a ten-minute file where its name begins with
+                                    ten-minutes-; WHO: rattle (the archive) or hand. Prints a sum of what was answered, which both have
+                                    alike
      bench FOLDER WHAT WHO stack    prints how many bytes of stack a round takes */
 #include <stdio.h>
 #include <stdlib.h>
@@ -12,7 +13,7 @@
 #include "paint.h"
 
 enum { AMOUNTS = 1000, WIDTH = 14, MEMBER = 7 };
-static const char explained[] = "explained-";
+static const char explained[] = "explained-", ten_minutes[] = "ten-minutes-";
 
 static uint8_t file[SNEUPELAAR_MOST_BYTES];
 static size_t file_length;
@@ -64,13 +65,20 @@ static void take_apart(void)
 }
 
 /* Every function of the archive and its twin by hand is called from the same text. */
-#define ROUNDS_OF(who, settle, explain, write_hour, write, read)                                                                  \
+#define ROUNDS_OF(who, settle, settle_ten_minutes, explain, write_hour, write, read)                                              \
     static void settle_##who(void)                                                                                                \
     {                                                                                                                             \
-        sneupelaar_settled settled = settle(file, file_length, lines, SNEUPELAAR_MOST_MEMBERS, charges, SNEUPELAAR_MOST_MEMBERS, \
+        sneupelaar_settled settled = settle(file, file_length, lines, SNEUPELAAR_MOST_MEMBERS, charges, SNEUPELAAR_MOST_MEMBERS,  \
             finals, SNEUPELAAR_MOST_MEMBERS, shares, SNEUPELAAR_MOST_RECORDS, deviations, SNEUPELAAR_MOST_RECORDS);               \
         sum += 1000 * settled.number + settled.place;                                                                             \
         sum += (uint64_t)(charges[0] + finals[1] + shares[49] + deviations[59] + lines[7].amount);                                \
+    }                                                                                                                             \
+    static void settle_ten_minutes_##who(void)                                                                                    \
+    {                                                                                                                             \
+        sneupelaar_answer answer = settle_ten_minutes(file, file_length, charges, SNEUPELAAR_MOST_MEMBERS);                       \
+        sum += 1000 * answer.number + answer.place;                                                                               \
+        for (size_t member = 0; member < SNEUPELAAR_MOST_MEMBERS; member++)                                                       \
+            sum += (uint64_t)charges[member] << member;                                                                           \
     }                                                                                                                             \
     static void explain_##who(void)                                                                                               \
     {                                                                                                                             \
@@ -96,22 +104,30 @@ static void take_apart(void)
             sum += (uint64_t)read(texts[at], WIDTH).amount;                                                                       \
     }
 
-ROUNDS_OF(rattle, sneupelaar_settle, sneupelaar_explain, sneupelaar_write_hour, sneupelaar_write, sneupelaar_read)
-ROUNDS_OF(hand, hand_settle, hand_explain, hand_write_hour, hand_write, hand_read)
+ROUNDS_OF(rattle, sneupelaar_settle, sneupelaar_settle_ten_minutes, sneupelaar_explain, sneupelaar_write_hour, sneupelaar_write,
+    sneupelaar_read)
+ROUNDS_OF(hand, hand_settle, hand_settle_ten_minutes, hand_explain, hand_write_hour, hand_write, hand_read)
 
 typedef void round_of(void);
+
+static int begins(const char *what, const char *with)
+{
+    size_t length = strlen(with);
+    return strlen(what) > length && memcmp(what, with, length) == 0;
+}
 
 /* The hour that an explanation is about; NULL where nothing is to be explained. */
 static const char *hour_explained(const char *what)
 {
-    size_t length = strlen(explained);
-    return strlen(what) > length && memcmp(what, explained, length) == 0 ? what + length : NULL;
+    return begins(what, explained) ? what + strlen(explained) : NULL;
 }
 
 static round_of *chosen(const char *what, int rattle)
 {
     if (hour_explained(what) != NULL)
         return rattle ? explain_rattle : explain_hand;
+    if (begins(what, ten_minutes))
+        return rattle ? settle_ten_minutes_rattle : settle_ten_minutes_hand;
     if (strcmp(what, "full") == 0)
         return rattle ? write_hour_rattle : write_hour_hand;
     if (strcmp(what, "write") == 0)

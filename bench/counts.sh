@@ -30,7 +30,7 @@ counts_ready() {
 
 counts_build() {
     local bench=$counts_made/$1 source objects=()
-    local sources=("$2" "$counts_hand"/{file,settle,explain,write_hour,amount}.c)
+    local sources=("$2" "$counts_hand"/{file,settle,ten_minutes,explain,write_hour,amount}.c)
     shift 2
     mkdir -p "$bench"
     for source in "${sources[@]}"; do

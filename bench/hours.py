@@ -1,11 +1,12 @@
 """Makes the hours that the bench settles and writes:   hours.py FOLDER
 
-worst.hour            250 loads in one area, and 249 units left over: the most that there can be
-ordinary.hour         8 members, 2 zones, 2 areas, 60 records of all kinds
-refused.hour          250 records, the last of which is one past a range: refusal 5 at record 249
-full.hour             250 records of all kinds
-loads-N-left-U.hour   N loads in one area, the first N of the same 250, and U units left over
-halved.hour           250 loads in one area: for the UFE and for N the bound is halved as often as it can be
+worst.hour                250 loads in one area, and 249 units left over: the most that there can be
+ordinary.hour             8 members, 2 zones, 2 areas, 60 records of all kinds
+refused.hour              250 records, the last of which is one past a range: refusal 5 at record 249
+full.hour                 250 records of all kinds
+loads-N-left-U.hour       N loads in one area, the first N of the same 250, and U units left over
+halved.hour               250 loads in one area: for the UFE and for N the bound is halved as often as it can be
+ten-minutes-N-of-M.hour   a ten-minute hour: N records of all kinds, of M members, in 4 zones
 The numbers come from a fixed seed, so that every run takes the same bytes.
 """
 
@@ -19,9 +20,13 @@ sys.dont_write_bytecode = True
 sys.path.insert(0, str(Path(__file__).resolve().parent.parent / "tests"))
 import hours  # noqa: E402
 import second  # noqa: E402
+import ten_minutes  # noqa: E402
 
 # Loads and units left over: more loads with half as many units, and more units left of as many loads.
 GROWING = ((25, 12), (50, 25), (100, 50), (150, 75), (200, 100), (250, 125), (250, 0), (250, 1), (250, 25), (250, 225), (250, 249))
+
+# Records and members of ten-minute hours: as many as there can be of both, one member's, and more members than records.
+TEN_MINUTES = ((64, 32), (63, 1), (5, 19))
 
 
 def some(rng, letter):
@@ -129,6 +134,16 @@ def refused():
     return hour
 
 
+def ten_minute_hour(count, members):
+    """So many records, of the members in turn and in areas of all zones; the prices differ in every interval."""
+    rng = random.Random(5)
+    records = [ten_minutes.interval_record(hours.KINDS[at % 5], at % members, rng.randrange(8)) for at in range(count)]
+    for each in records:
+        each["words"] = {word: some(rng, ten_minutes.LETTER_AT[word]) for word in ten_minutes.USED_WORDS[each["kind"]]}
+    prices = [[rng.randint(-5_000, 10_000) for _ in range(12)] for _ in range(4)]
+    return ten_minutes.TenMinuteHour(5, members, prices, [area % 4 for area in range(8)], records)
+
+
 def main(folder):
     made = {make.__name__: make() for make in (worst, ordinary, refused, full, halved)}
     made.update((f"loads-{count}-left-{left}", loads(count, left)) for count, left in GROWING)
@@ -136,6 +151,10 @@ def main(folder):
         data = hour.encode()
         assert second.settle(data)[:2] == ((5, 249) if name == "refused" else (0, 0)), name
         (Path(folder) / f"{name}.hour").write_bytes(data)
+    for count, members in TEN_MINUTES:
+        data = ten_minute_hour(count, members).encode()
+        assert second.settle_ten_minutes(data).number == 0, (count, members)
+        (Path(folder) / f"ten-minutes-{count}-of-{members}.hour").write_bytes(data)
 
 
 if __name__ == "__main__":

@@ -36,17 +36,23 @@ extern "C" {
  *
  *   number  given by                     what is wrong                                                        place
  *        1  settle, explain              the file's length: 0, no multiple of 512, or more than 13,312        0
+ *        1  settle_ten_minutes           the file's length: 0, no multiple of 512, or more than 8,704         0
  *        1  write_hour                   a length: no head of 120 words, no whole records, or more than 250   0
- *        2  settle, explain              the 128 words of a block don't add up to 0 modulo 2^32               the first such block
- *        3  settle, explain              words 0 to 6 of a block, or something after its last record          the first such block
- *        4  settle, explain, write_hour  a word of the head is out of its range                               the first such word, 9 to 127
- *        5  settle, explain, write_hour  a record's kind, member, area or another word is out of its range    the first such record
+ *        2  settle, settle_ten_minutes,  the 128 words of a block don't add up to 0 modulo 2^32               the first such block
+ *           explain
+ *        3  settle, settle_ten_minutes,  words 0 to 6 of a block, or something after its last record          the first such block
+ *           explain
+ *        4  settle, settle_ten_minutes,  a word of the head is out of its range                               the first such word, 9 to 127
+ *           explain, write_hour
+ *        5  settle, settle_ten_minutes,  a record's kind, member, area or another word is out of its range    the first such record
+ *           explain, write_hour
  *        6  settle, explain              an area has unaccounted for energy (UFE) and no demand for it        the first such area
  *        7  settle, explain              a member's exact amount is beyond 4*10^18 grains                     the first such member
  *        8  write                        the amount is beyond 999,999,999,999 cents in size                   0
  *        9  write                        the field is shorter than the amount's text                          0
  *       10  read                         the field is not an amount's text                                    0
- *       11  settle, write_hour           a buffer is too short for the hour                                   0
+ *       11  settle, settle_ten_minutes,  a buffer is too short for the hour                                   0
+ *           write_hour
  *       12  settle, explain              nobody has demand, and the sum of all charges isn't 0                0
  *       13  explain                      the member's number isn't below the hour's members                   0
  *       14  settle, explain, write_hour  a generator's scheduled energy is above its maximum                  the first such record

@@ -7,7 +7,7 @@
 #include <stdio.h>
 #include <stdlib.h>
 
-#include "input.h"
+#include "hour.h"
 #include "sneupelaar.h"
 
 enum { ACCEPTED = 0, REFUSED = 1, FAILED = 2 };

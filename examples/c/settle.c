@@ -6,28 +6,10 @@
 #include <stdint.h>
 #include <stdio.h>
 
-#include "input.h"
+#include "hour.h"
 #include "sneupelaar.h"
 
 enum { ACCEPTED = 0, REFUSED = 1, FAILED = 2 };
-
-/* The hour's members are word 9 of its first block, lowest byte first: the second word of that block's body. */
-static size_t members(const uint8_t *file, size_t length)
-{
-    sneupelaar_part head = sneupelaar_body(file, length, 0);
-    const uint8_t *word = file + head.from + 4;
-    return word[0] + ((size_t)word[1] << 8) + ((size_t)word[2] << 16) + ((size_t)word[3] << 24);
-}
-
-static void print_cents(const char *name, int64_t cents)
-{
-    uint8_t field[14];
-    sneupelaar_answer written = sneupelaar_write(cents, field, sizeof field);
-    if (written.number == 0)
-        printf(" %s %.*s", name, (int)sizeof field, (const char *)field);
-    else
-        printf(" %s refused %llu", name, (unsigned long long)written.number);
-}
 
 static void print_member(size_t member, sneupelaar_line line, int64_t charge, int64_t final)
 {

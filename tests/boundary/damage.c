@@ -1,4 +1,5 @@
-/* damage.c: hours spoiled: bits, counts, ranges left by one, schedules above a maximum, blocks and lengths that are wrong. */
+/* damage.c: hours of either form spoiled: bits, counts, ranges left by one, schedules above a maximum, words that a kind doesn't use,
+   blocks and lengths that are wrong. */
 #include <string.h>
 
 #include "chance.h"
@@ -29,7 +30,8 @@ static void spoil_front(hour_file *hour)
 /* A block's count of records, with the records as they were. */
 static void spoil_count(hour_file *hour)
 {
-    static const uint32_t counts[] = { 0, 1, 9, 10, 11, 12, 0x80000000, 0xFFFFFFFF };
+    const uint32_t full = (uint32_t)hour->form->block_records;
+    const uint32_t counts[] = { 0, 1, full - 1, full, full + 1, full + 2, 0x80000000, 0xFFFFFFFF };
     size_t block = below(blocks_of(hour));
     hour->words[BLOCK_WORDS * block + 2] = counts[below(sizeof counts / sizeof *counts)];
     mend_sum(hour, block);
@@ -52,7 +54,8 @@ static uint32_t past_an_end(void)
 
 static void spoil_head(hour_file *hour)
 {
-    size_t at = once_in(4) ? BODY_WORD + below(BLOCK_WORDS - BODY_WORD) : MEMBERS + below(4 * MOST_AREAS + 7);
+    size_t past = is_hourly(hour) ? FIRST_AREA + AREA_WORDS * MOST_AREAS : FIRST_PRICE + ZONE_PRICES * MOST_ZONES;
+    size_t at = once_in(4) ? BODY_WORD + below(BLOCK_WORDS - BODY_WORD) : MEMBERS + below(past - MEMBERS);
     hour->words[at] = past_an_end();
     mend_sum(hour, 0);
 }
@@ -62,8 +65,9 @@ static void spoil_record(hour_file *hour)
     if (hour->records == 0 || blocks_of(hour) < 2)
         return;
     size_t block = 1 + below(blocks_of(hour) - 1);
-    size_t held = block < blocks_of(hour) - 1 ? BLOCK_RECORDS : hour->records - BLOCK_RECORDS * (block - 1);
-    uint32_t *words = hour->words + BLOCK_WORDS * block + BODY_WORD + RECORD_WORDS * below(held), at = below(RECORD_WORDS);
+    size_t full = hour->form->block_records, record = full * (block - 1);
+    record += below(block < blocks_of(hour) - 1 ? full : hour->records - record);
+    uint32_t *words = record_words(hour, record), at = below(hour->form->record_words);
     words[at] = at == MEMBER ? (uint32_t)hour->members : at == AREA ? hour->words[AREAS] : past_an_end();
     mend_sum(hour, block);
 }
@@ -89,6 +93,29 @@ static void spoil_import(hour_file *hour)
     uint32_t *words = record_words(hour, record);
     words[ACTUAL] = once_in(2) ? words[SCHEDULED] : past_an_end();
     mend_sum(hour, 1 + record / BLOCK_RECORDS);
+}
+
+/* A word that the kind of a ten-minute record doesn't use. */
+static void spoil_unused(hour_file *hour)
+{
+    if (hour->records == 0)
+        return;
+    size_t record = below(hour->records), at = SCHEDULED;
+    uint32_t *words = record_words(hour, record);
+    while (kind_uses(words[KIND], at))
+        at = SCHEDULED + below(TEN_MINUTE_RECORD_WORDS - SCHEDULED);
+    words[at] = once_in(2) ? words[SCHEDULED] : past_an_end();
+    mend_sum(hour, 1 + record / ten_minute.block_records);
+}
+
+/* The marks of an hour file, in the first block or in all of them. */
+static void mark_as_hourly(hour_file *hour)
+{
+    size_t marked = once_in(4) ? 1 : blocks_of(hour);
+    for (size_t block = 0; block < marked; block++) {
+        hour->words[BLOCK_WORDS * block] = block == 0 ? hourly.first_mark : hourly.other_mark;
+        mend_sum(hour, block);
+    }
 }
 
 /* A generator scheduled above its maximum, by one or by anything that its range allows. */
@@ -128,17 +155,24 @@ static void swap_blocks(hour_file *hour)
 static void spoil_length(hour_file *hour)
 {
     size_t bytes = hour->bytes;
-    size_t lengths[] = { 0, bytes - 1, bytes + 1, below(bytes), bytes - BLOCK_BYTES, bytes + BLOCK_BYTES, MADE_BLOCKS * BLOCK_BYTES };
+    size_t lengths[] = { 0, bytes - 1, bytes + 1, below(bytes), bytes - BLOCK_BYTES, bytes + BLOCK_BYTES,
+        (hour->form->most_blocks + 1) * BLOCK_BYTES };
     size_t length = lengths[below(sizeof lengths / sizeof *lengths)];
     hour->bytes = length > sizeof hour->words ? sizeof hour->words : length;
 }
 
+typedef void damage(hour_file *);
+
 void damage_hour(hour_file *hour)
 {
-    static void (*const damages[])(hour_file *) = {
+    static damage *const of_hourly[] = {
         flip_bit, spoil_front, spoil_count, spoil_zeros, spoil_head, spoil_record, spoil_import, spoil_schedules, swap_blocks
     };
-    enum { DAMAGES = sizeof damages / sizeof *damages };
+    static damage *const of_ten_minute[] = {
+        flip_bit, spoil_front, spoil_count, spoil_zeros, spoil_head, spoil_record, spoil_unused, mark_as_hourly, swap_blocks
+    };
+    enum { DAMAGES = sizeof of_hourly / sizeof *of_hourly };
+    damage *const *damages = is_hourly(hour) ? of_hourly : of_ten_minute;
     damages[below(DAMAGES)](hour);
     if (once_in(4))
         damages[below(DAMAGES)](hour);

@@ -4,9 +4,7 @@
 #include <string.h>
 
 #include "chance.h"
-
-/* How large the numbers of an hour are. */
-static enum { SMALL, USUAL, WIDE, ENDS, MANNERS } manner;
+#include "numbers.h"
 
 /* Who takes something: a load in every area, mostly; whoever it falls to; or nobody, with every area in balance, so that row 12 is all
    that can be broken. */
@@ -15,32 +13,9 @@ static enum { EVERY_AREA, ANYBODY, NOBODY } takers;
 /* Whether a kind uses words 3 to 10 of a record: bit 0 is word 3. */
 static const unsigned uses[] = { [GENERATOR] = 0xFF, [REAL_TIME_LOAD] = 0x1F, [PROFILE_LOAD] = 0x1F, [IMPORT] = 0xCD, [EXPORT] = 0x07 };
 
-static int64_t up_to(int64_t most, int64_t low, int64_t high)
-{
-    int64_t number = between(0, most);
-    if (low < 0 && once_in(2))
-        number = -number;
-    return number < low ? low : number > high ? high : number;
-}
-
-/* A number in a range, as the hour's manner has it. */
-static uint32_t number(int64_t low, int64_t high)
-{
-    switch (manner) {
-    case SMALL:
-        return (uint32_t)up_to(9, low, high);
-    case USUAL:
-        return (uint32_t)up_to(5000, low, high);
-    case ENDS:
-        return (uint32_t)(once_in(2) ? low + once_in(4) : high - once_in(4));
-    default:
-        return (uint32_t)between(low, high);
-    }
-}
-
 uint32_t *record_words(hour_file *hour, size_t record)
 {
-    return hour->words + BLOCK_WORDS * (1 + record / BLOCK_RECORDS) + BODY_WORD + RECORD_WORDS * (record % BLOCK_RECORDS);
+    return hour->words + record_word(hour->form, record);
 }
 
 static void make_head(hour_file *hour, size_t zones, size_t areas)
@@ -115,17 +90,17 @@ static void make_records(hour_file *hour, size_t areas)
     }
 }
 
-static void make_blocks(hour_file *hour)
+void make_blocks(hour_file *hour)
 {
-    size_t others = (hour->records + BLOCK_RECORDS - 1) / BLOCK_RECORDS;
+    size_t in_block = hour->form->block_records, others = (hour->records + in_block - 1) / in_block;
     hour->bytes = BLOCK_BYTES * (1 + others);
-    hour->words[0] = 1;
+    hour->words[0] = hour->form->first_mark;
     hour->words[OTHER_BLOCKS] = (uint32_t)others;
     for (size_t block = 1; block <= others; block++) {
         uint32_t *words = hour->words + BLOCK_WORDS * block;
-        words[0] = 2;
+        words[0] = hour->form->other_mark;
         words[1] = (uint32_t)block;
-        words[2] = (uint32_t)(block < others ? BLOCK_RECORDS : hour->records - BLOCK_RECORDS * (others - 1));
+        words[2] = (uint32_t)(block < others ? in_block : hour->records - in_block * (others - 1));
     }
     for (size_t block = 0; block <= others; block++)
         mend_sum(hour, block);
@@ -142,7 +117,8 @@ void mend_sum(hour_file *hour, size_t block)
 void make_hour(hour_file *hour)
 {
     memset(hour, 0, sizeof *hour);
-    manner = below(MANNERS);
+    hour->form = &hourly;
+    choose_manner();
     hour->members = 1 + below(MOST_MEMBERS);
     hour->records = once_in(8) ? below(MOST_RECORDS + 1) : below(31);
     if (once_in(50))

@@ -48,6 +48,14 @@ static void lie_settling(const hour_file *hour)
     sneupelaar_settle(file, hour->bytes, lines, members, charges, members, finals, members, shares, records, deviations, records);
 }
 
+static void lie_ten_minutes(const hour_file *hour)
+{
+    const uint8_t *file = lent("intervals", 1, hour->bytes, hour->words);
+    int64_t *charges = lent("charged", 8, hour->members, NULL);
+    standing.function = "sneupelaar_settle_ten_minutes";
+    sneupelaar_settle_ten_minutes(file, hour->bytes, charges, hour->members);
+}
+
 static void lie_explaining(const hour_file *hour)
 {
     const uint8_t *file = lent("explained", 1, hour->bytes, hour->words);
@@ -80,7 +88,7 @@ static void lie_field(void)
 
 void lie(const char *buffer, const char *where)
 {
-    static hour_file hour;
+    static hour_file hour, ten_minute_hour;
     lying = buffer;
     at_side = strcmp(where, "front") == 0 ? FRONT : BACK;
     chance_start(standing.seed, 0);
@@ -89,5 +97,7 @@ void lie(const char *buffer, const char *where)
     lie_explaining(&hour);
     lie_writing_hour(&hour);
     lie_field();
+    make_ten_minute_hour(&ten_minute_hour);
+    lie_ten_minutes(&ten_minute_hour);
     printf("not caught: %s at the %s\n", buffer, where);
 }

@@ -5,15 +5,18 @@
 
 #include "sneupelaar.h"
 
-/* How often each number was answered by settling, by explaining, by writing an hour, and by writing and reading an amount, and how often
-   the block reader was asked. */
+/* How often each number was answered by settling, by ten-minute settling, by explaining, by writing an hour, and by writing and reading an
+   amount, and how often the block reader was asked. */
 enum { NUMBERS = 15 };
 extern struct seen {
-    unsigned long settled[NUMBERS], explained[NUMBERS], hours_written[NUMBERS], written[NUMBERS], read[NUMBERS], bodies;
+    unsigned long settled[NUMBERS], ten_minutes[NUMBERS], explained[NUMBERS], hours_written[NUMBERS], written[NUMBERS], read[NUMBERS];
+    unsigned long bodies;
 } seen;
 
 typedef sneupelaar_settled settle_function(const uint8_t *, size_t, sneupelaar_line *, size_t, int64_t *, size_t, int64_t *, size_t,
     int64_t *, size_t, int64_t *, size_t);
+
+typedef sneupelaar_answer settle_ten_minutes_function(const uint8_t *, size_t, int64_t *, size_t);
 
 typedef sneupelaar_explained explain_function(const uint8_t *, size_t, uint32_t);
 
@@ -28,6 +31,9 @@ typedef sneupelaar_part body_function(const uint8_t *, size_t, size_t);
 /* Settling, by sneupelaar_settle or what stands in for it; the hour's file is then asked for each of its bodies, by sneupelaar_body or what
    stands in for it. */
 void try_settling(settle_function *settle, body_function *body);
+
+/* Ten-minute settling, by sneupelaar_settle_ten_minutes or what stands in for it. */
+void try_ten_minutes(settle_ten_minutes_function *settle);
 
 /* Explaining, by sneupelaar_explain or what stands in for it. */
 void try_explaining(explain_function *explain);
@@ -45,6 +51,8 @@ void lie(const char *buffer, const char *side);
 
 /* An archive that answers wrongly or writes where it should not: the comparison must find it. Null where there is no such fault. */
 settle_function *spoiled(const char *how);
+settle_ten_minutes_function *mischarged(const char *how);
+settle_ten_minutes_function *missummed(const char *how);
 explain_function *misexplained(const char *how);
 write_hour_function *miswritten(const char *how);
 write_function *miswritten_amount(const char *how);

@@ -1,4 +1,4 @@
-/* file.c: the block reader, and refusals 1 to 5 and 14. */
+/* file.c: the block reader, and refusals 1 to 5 and 14; 1 to 3 of either form of file. */
 #include "file.h"
 
 /* The words that keep a range, in one comparison: moved up by `up` modulo 2^32 they are at most `most`. */
@@ -29,15 +29,15 @@ static int keeps(uint32_t value, range within)
     return value + within.up <= within.most;
 }
 
-static int length_bad(size_t file_length)
+static int length_bad(const layout *form, size_t file_length)
 {
-    return file_length == 0 || file_length % BLOCK_BYTES != 0 || file_length > MOST_BLOCKS * BLOCK_BYTES;
+    return file_length == 0 || file_length % BLOCK_BYTES != 0 || file_length > form->most_blocks * BLOCK_BYTES;
 }
 
 sneupelaar_part hand_body(const uint8_t *file, size_t file_length, size_t block)
 {
     (void)file;
-    if (length_bad(file_length) || block >= file_length / BLOCK_BYTES)
+    if (length_bad(&hourly, file_length) || block >= file_length / BLOCK_BYTES)
         return (sneupelaar_part){ 0, 0 };
     return (sneupelaar_part){ BLOCK_BYTES * block + 4 * BODY_WORD, BLOCK_BYTES - 4 * BODY_WORD };
 }
@@ -59,30 +59,40 @@ static int zeros(const uint8_t *block, size_t from, size_t to)
 }
 
 /* Row 3 of one block of so many. */
-static int block_bad(const uint8_t *block, size_t position, size_t blocks)
+static int block_bad(const layout *form, const uint8_t *block, size_t position, size_t blocks)
 {
     uint32_t third = word(block, 2);
     if (word(block, 1) != position || !zeros(block, 3, 7))
         return 1;
     if (position == 0)
-        return word(block, 0) != 1 || third != blocks - 1;
-    if (word(block, 0) != 2 || third == 0 || third > BLOCK_RECORDS || (third < BLOCK_RECORDS && position != blocks - 1))
+        return word(block, 0) != form->first_mark || third != blocks - 1;
+    if (word(block, 0) != form->other_mark || third == 0 || third > form->block_records
+        || (third < form->block_records && position != blocks - 1))
         return 1;
-    return !zeros(block, BODY_WORD + RECORD_WORDS * third, BLOCK_WORDS);
+    return !zeros(block, BODY_WORD + form->record_words * third, BLOCK_WORDS);
 }
 
-/* A word of the first body by its place in the block. */
-static uint32_t head_word(const uint8_t *head, size_t at)
+sneupelaar_answer examine_blocks(const layout *form, const uint8_t *file, size_t file_length)
 {
-    return word(head, at - BODY_WORD);
+    if (length_bad(form, file_length))
+        return (sneupelaar_answer){ 1, 0 };
+    size_t blocks = file_length / BLOCK_BYTES;
+    for (size_t block = 0; block < blocks; block++)
+        if (sum_bad(block_at(file, block)))
+            return (sneupelaar_answer){ 2, block };
+    for (size_t block = 0; block < blocks; block++)
+        if (block_bad(form, block_at(file, block), block, blocks))
+            return (sneupelaar_answer){ 3, block };
+    return (sneupelaar_answer){ 0, 0 };
 }
 
-/* The first word from `at` on that is not zero, or `to`. */
-static size_t first_not_zero(const uint8_t *head, size_t at, size_t to)
+size_t bad_count_word(const uint8_t *head)
 {
-    while (at < to && head_word(head, at) == 0)
-        at++;
-    return at;
+    if (!keeps(head_word(head, MEMBERS), (range)RANGE(1, MOST_MEMBERS)))
+        return MEMBERS;
+    if (!keeps(head_word(head, ZONES), (range)RANGE(1, MOST_ZONES)))
+        return ZONES;
+    return keeps(head_word(head, AREAS), (range)RANGE(1, MOST_AREAS)) ? AREAS + 1 : AREAS;
 }
 
 /* The first word of an area that breaks its range, or the next area's first. */
@@ -101,16 +111,13 @@ static size_t bad_area_word(const uint8_t *head, size_t at, uint32_t zones)
 static size_t bad_head_word(const uint8_t *head)
 {
     uint32_t zones = head_word(head, ZONES), areas = head_word(head, AREAS);
-    if (!keeps(head_word(head, MEMBERS), (range)RANGE(1, MOST_MEMBERS)))
-        return MEMBERS;
-    if (!keeps(zones, (range)RANGE(1, MOST_ZONES)))
-        return ZONES;
-    if (!keeps(areas, (range)RANGE(1, MOST_AREAS)))
-        return AREAS;
+    size_t found = bad_count_word(head);
+    if (found <= AREAS)
+        return found;
     for (size_t zone = 0; zone < zones; zone++)
         if (!keeps(head_word(head, PRICES + zone), price))
             return PRICES + zone;
-    size_t found = first_not_zero(head, PRICES + zones, FIRST_AREA);
+    found = first_not_zero(head, PRICES + zones, FIRST_AREA);
     if (found < FIRST_AREA)
         return found;
     size_t end = FIRST_AREA + AREA_WORDS * areas;
@@ -144,15 +151,9 @@ static size_t first_above(const uint8_t *records, size_t count)
 
 sneupelaar_answer examine(const uint8_t *file, size_t file_length)
 {
-    if (length_bad(file_length))
-        return (sneupelaar_answer){ 1, 0 };
-    size_t blocks = file_length / BLOCK_BYTES;
-    for (size_t block = 0; block < blocks; block++)
-        if (sum_bad(block_at(file, block)))
-            return (sneupelaar_answer){ 2, block };
-    for (size_t block = 0; block < blocks; block++)
-        if (block_bad(block_at(file, block), block, blocks))
-            return (sneupelaar_answer){ 3, block };
+    sneupelaar_answer examined = examine_blocks(&hourly, file, file_length);
+    if (examined.number != 0)
+        return examined;
     size_t bad = bad_head_word(file + 4 * BODY_WORD);
     if (bad < BLOCK_WORDS)
         return (sneupelaar_answer){ 4, bad };
@@ -161,7 +162,7 @@ sneupelaar_answer examine(const uint8_t *file, size_t file_length)
     for (size_t record = 0; record < records; record++)
         if (record_bad(record_at(file, record), members, areas))
             return (sneupelaar_answer){ 5, record };
-    for (size_t block = 1; block < blocks; block++) {
+    for (size_t block = 1; block < file_length / BLOCK_BYTES; block++) {
         size_t held = word(block_at(file, block), 2), above = first_above(block_at(file, block) + 4 * BODY_WORD, held);
         if (above < held)
             return (sneupelaar_answer){ 14, BLOCK_RECORDS * (block - 1) + above };

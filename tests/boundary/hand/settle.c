@@ -130,7 +130,7 @@ static void post(const uint8_t *file, size_t records, figures *out)
 
 int64_t cents(int64_t grains)
 {
-    return (grains + (grains < 0 ? -CENT / 2 : CENT / 2)) / CENT;
+    return nearest(grains, CENT);
 }
 
 /* Charges, their sum N, and all demand. */

@@ -25,7 +25,13 @@ static inline int64_t price_of(const uint8_t *file, size_t area)
     return (int32_t)word(file, PRICES + word(file, FIRST_AREA + AREA_WORDS * area));
 }
 
-/* Grains to the nearest cent, halves away from zero. */
+/* An amount to the nearest cent, halves away from zero; a cent is so much of what the amount is in. */
+static inline int64_t nearest(int64_t amount, int64_t cent)
+{
+    return (amount + (amount < 0 ? -cent / 2 : cent / 2)) / cent;
+}
+
+/* Grains to the nearest cent. */
 int64_t cents(int64_t grains);
 
 /* The figures of an hour, or the first of refusals 1 to 5, 14, 6, 7 and 12. */
