@@ -1,7 +1,7 @@
 /* The settlement library for programs in C and C++: link target/libsneupelaar.a, which tools/archive proves and makes.
  *
  * Every function takes every input: any bytes, any numbers, any lengths. What it answers and what every buffer holds afterwards is proved
- * in crates/sneupelaar, crates/explain and crates/tenminutes for each of them. That rests on what a call lends:
+ * in crates/sneupelaar, crates/explain, crates/writer and crates/tenminutes for each of them. That rests on what a call lends:
  *   - A pointer and its length lend so many bytes or elements, which are readable, writable where the pointer isn't const, and aligned as
  *     C asks. With length 0 nothing is read or written, and the pointer may be null.
  *   - Buffers that one call lends don't overlap, and nothing else writes them while it runs.
@@ -58,7 +58,8 @@ extern "C" {
  *       14  settle, explain, write_hour  a generator's scheduled energy is above its maximum                  the first such record
  *
  * Settling looks for 1 to 5 in this order, then for 14, 6 and 7, each over the whole file, then for 12, then for 11; explaining for 1 to 5,
- * 14, 6, 7, 12, then 13; writing an hour for 1, 4, 5, 14, then 11; writing an amount for 8, then 9. The first found is answered.
+ * 14, 6, 7, 12, then 13; ten-minute settling for 1 to 5, then 11; writing an hour for 1, 4, 5, 14, then 11; writing an amount for 8, then
+ * 9. The first found is answered.
  * Blocks, words of the head's block, records, areas and members count from 0. docs/FORMAT.md has the file's and the text's form. */
 
 /* A member's line. 16 bytes: amount at 0, records at 8, then 4 that are padding. */

@@ -26,6 +26,11 @@ use Rattle.examine.specs.declared.search.Source.the-variants.{File, List
 use Rattle.examine.specs.Sources.{wordBy}
 use Rattle.examine.specs.Span.{brokenAt, spanKeeps, kindKeeps, recordKeeps, passedBy}
 
+-- one more word that keeps its rule
+infixl 40 _▸_
+abbrev _▸_ : {A B : Type 0} → A → B → A × B
+a ▸ b = (a, b)
+
 nowhere : (o : Option ℕ) → not (isBroken o) ≡ true → o ≡ none
 nowhere none e = refl
 nowhere (some i) e = never e refl
@@ -68,88 +73,13 @@ module _ (members areas : ℕ) (s : List ℕ) where
       let from8 = in-span energy s 8 14 (third .1) in
       let from14 = in-span adjustment s 14 20 (common .adjustments) in
       let from20 = in-span energy s 20 26 (last .1) in
-      let from26 = in-span unused s 26 30 (common .rest) in (
-        (
-          (
-            (
-              (
-                (
-                  (
-                    (
-                      (
-                        (
-                          (
-                            (
-                              (
-                                (
-                                  (
-                                    (
-                                      (
-                                        (
-                                          (
-                                            (
-                                              (
-                                                (
-                                                  (
-                                                    (
-                                                      (
-                                                        (
-                                                          (
-                                                            (((tt, common .kind-known), less-kept members (word s 1) (common .member-there)), less-kept areas (word s 2) (common .area-there)),
-                                                            from3 3 refl refl,
-                                                          ),
-                                                          from4 4 refl refl,
-                                                        ),
-                                                        from4 5 refl refl,
-                                                      ),
-                                                      from6 6 refl refl,
-                                                    ),
-                                                    from6 7 refl refl,
-                                                  ),
-                                                  from8 8 refl refl,
-                                                ),
-                                                from8 9 refl refl,
-                                              ),
-                                              from8 10 refl refl,
-                                            ),
-                                            from8 11 refl refl,
-                                          ),
-                                          from8 12 refl refl,
-                                        ),
-                                        from8 13 refl refl,
-                                      ),
-                                      from14 14 refl refl,
-                                    ),
-                                    from14 15 refl refl,
-                                  ),
-                                  from14 16 refl refl,
-                                ),
-                                from14 17 refl refl,
-                              ),
-                              from14 18 refl refl,
-                            ),
-                            from14 19 refl refl,
-                          ),
-                          from20 20 refl refl,
-                        ),
-                        from20 21 refl refl,
-                      ),
-                      from20 22 refl refl,
-                    ),
-                    from20 23 refl refl,
-                  ),
-                  from20 24 refl refl,
-                ),
-                from20 25 refl refl,
-              ),
-              from26 26 refl refl,
-            ),
-            from26 27 refl refl,
-          ),
-          from26 28 refl refl,
-        ),
-        from26 29 refl refl,
-      )
+      let from26 = in-span unused s 26 30 (common .rest) in
+      tt ▸ common .kind-known ▸ less-kept members (word s 1) (common .member-there) ▸ less-kept areas (word s 2) (common .area-there)
+      ▸ from3 3 refl refl ▸ from4 4 refl refl ▸ from4 5 refl refl ▸ from6 6 refl refl ▸ from6 7 refl refl ▸ from8 8 refl refl
+      ▸ from8 9 refl refl ▸ from8 10 refl refl ▸ from8 11 refl refl ▸ from8 12 refl refl ▸ from8 13 refl refl ▸ from14 14 refl refl
+      ▸ from14 15 refl refl ▸ from14 16 refl refl ▸ from14 17 refl refl ▸ from14 18 refl refl ▸ from14 19 refl refl ▸ from20 20 refl refl
+      ▸ from20 21 refl refl ▸ from20 22 refl refl ▸ from20 23 refl refl ▸ from20 24 refl refl ▸ from20 25 refl refl ▸ from26 26 refl refl
+      ▸ from26 27 refl refl ▸ from26 28 refl refl ▸ from26 29 refl refl
 
   real-time-each : Common → kindKeeps RealTimeLoad s ≡ true → EachBelow (Kept RealTimeLoad) 30
   unfolding kindKeeps tenMinutesRulesOf
@@ -163,88 +93,13 @@ module _ (members areas : ℕ) (s : List ℕ) where
       let from8 = in-span energy s 8 14 (third .1) in
       let from14 = in-span adjustment s 14 20 (common .adjustments) in
       let from20 = in-span energy s 20 26 (last .1) in
-      let from26 = in-span unused s 26 30 (common .rest) in (
-        (
-          (
-            (
-              (
-                (
-                  (
-                    (
-                      (
-                        (
-                          (
-                            (
-                              (
-                                (
-                                  (
-                                    (
-                                      (
-                                        (
-                                          (
-                                            (
-                                              (
-                                                (
-                                                  (
-                                                    (
-                                                      (
-                                                        (
-                                                          (
-                                                            (((tt, common .kind-known), less-kept members (word s 1) (common .member-there)), less-kept areas (word s 2) (common .area-there)),
-                                                            from3 3 refl refl,
-                                                          ),
-                                                          from4 4 refl refl,
-                                                        ),
-                                                        from4 5 refl refl,
-                                                      ),
-                                                      from6 6 refl refl,
-                                                    ),
-                                                    from6 7 refl refl,
-                                                  ),
-                                                  from8 8 refl refl,
-                                                ),
-                                                from8 9 refl refl,
-                                              ),
-                                              from8 10 refl refl,
-                                            ),
-                                            from8 11 refl refl,
-                                          ),
-                                          from8 12 refl refl,
-                                        ),
-                                        from8 13 refl refl,
-                                      ),
-                                      from14 14 refl refl,
-                                    ),
-                                    from14 15 refl refl,
-                                  ),
-                                  from14 16 refl refl,
-                                ),
-                                from14 17 refl refl,
-                              ),
-                              from14 18 refl refl,
-                            ),
-                            from14 19 refl refl,
-                          ),
-                          from20 20 refl refl,
-                        ),
-                        from20 21 refl refl,
-                      ),
-                      from20 22 refl refl,
-                    ),
-                    from20 23 refl refl,
-                  ),
-                  from20 24 refl refl,
-                ),
-                from20 25 refl refl,
-              ),
-              from26 26 refl refl,
-            ),
-            from26 27 refl refl,
-          ),
-          from26 28 refl refl,
-        ),
-        from26 29 refl refl,
-      )
+      let from26 = in-span unused s 26 30 (common .rest) in
+      tt ▸ common .kind-known ▸ less-kept members (word s 1) (common .member-there) ▸ less-kept areas (word s 2) (common .area-there)
+      ▸ from3 3 refl refl ▸ from4 4 refl refl ▸ from4 5 refl refl ▸ from6 6 refl refl ▸ from6 7 refl refl ▸ from8 8 refl refl
+      ▸ from8 9 refl refl ▸ from8 10 refl refl ▸ from8 11 refl refl ▸ from8 12 refl refl ▸ from8 13 refl refl ▸ from14 14 refl refl
+      ▸ from14 15 refl refl ▸ from14 16 refl refl ▸ from14 17 refl refl ▸ from14 18 refl refl ▸ from14 19 refl refl ▸ from20 20 refl refl
+      ▸ from20 21 refl refl ▸ from20 22 refl refl ▸ from20 23 refl refl ▸ from20 24 refl refl ▸ from20 25 refl refl ▸ from26 26 refl refl
+      ▸ from26 27 refl refl ▸ from26 28 refl refl ▸ from26 29 refl refl
 
   profile-each : Common → kindKeeps ProfileLoad s ≡ true → EachBelow (Kept ProfileLoad) 30
   unfolding kindKeeps tenMinutesRulesOf
@@ -258,88 +113,13 @@ module _ (members areas : ℕ) (s : List ℕ) where
       let from9 = in-span unused s 9 14 (third .1) in
       let from14 = in-span adjustment s 14 20 (common .adjustments) in
       let from20 = in-span energy s 20 26 (last .1) in
-      let from26 = in-span unused s 26 30 (common .rest) in (
-        (
-          (
-            (
-              (
-                (
-                  (
-                    (
-                      (
-                        (
-                          (
-                            (
-                              (
-                                (
-                                  (
-                                    (
-                                      (
-                                        (
-                                          (
-                                            (
-                                              (
-                                                (
-                                                  (
-                                                    (
-                                                      (
-                                                        (
-                                                          (
-                                                            (((tt, common .kind-known), less-kept members (word s 1) (common .member-there)), less-kept areas (word s 2) (common .area-there)),
-                                                            from3 3 refl refl,
-                                                          ),
-                                                          from4 4 refl refl,
-                                                        ),
-                                                        from4 5 refl refl,
-                                                      ),
-                                                      from4 6 refl refl,
-                                                    ),
-                                                    from4 7 refl refl,
-                                                  ),
-                                                  from8 8 refl refl,
-                                                ),
-                                                from9 9 refl refl,
-                                              ),
-                                              from9 10 refl refl,
-                                            ),
-                                            from9 11 refl refl,
-                                          ),
-                                          from9 12 refl refl,
-                                        ),
-                                        from9 13 refl refl,
-                                      ),
-                                      from14 14 refl refl,
-                                    ),
-                                    from14 15 refl refl,
-                                  ),
-                                  from14 16 refl refl,
-                                ),
-                                from14 17 refl refl,
-                              ),
-                              from14 18 refl refl,
-                            ),
-                            from14 19 refl refl,
-                          ),
-                          from20 20 refl refl,
-                        ),
-                        from20 21 refl refl,
-                      ),
-                      from20 22 refl refl,
-                    ),
-                    from20 23 refl refl,
-                  ),
-                  from20 24 refl refl,
-                ),
-                from20 25 refl refl,
-              ),
-              from26 26 refl refl,
-            ),
-            from26 27 refl refl,
-          ),
-          from26 28 refl refl,
-        ),
-        from26 29 refl refl,
-      )
+      let from26 = in-span unused s 26 30 (common .rest) in
+      tt ▸ common .kind-known ▸ less-kept members (word s 1) (common .member-there) ▸ less-kept areas (word s 2) (common .area-there)
+      ▸ from3 3 refl refl ▸ from4 4 refl refl ▸ from4 5 refl refl ▸ from4 6 refl refl ▸ from4 7 refl refl ▸ from8 8 refl refl
+      ▸ from9 9 refl refl ▸ from9 10 refl refl ▸ from9 11 refl refl ▸ from9 12 refl refl ▸ from9 13 refl refl ▸ from14 14 refl refl
+      ▸ from14 15 refl refl ▸ from14 16 refl refl ▸ from14 17 refl refl ▸ from14 18 refl refl ▸ from14 19 refl refl ▸ from20 20 refl refl
+      ▸ from20 21 refl refl ▸ from20 22 refl refl ▸ from20 23 refl refl ▸ from20 24 refl refl ▸ from20 25 refl refl ▸ from26 26 refl refl
+      ▸ from26 27 refl refl ▸ from26 28 refl refl ▸ from26 29 refl refl
 
   import-each : Common → kindKeeps Import s ≡ true → EachBelow (Kept Import) 30
   unfolding kindKeeps tenMinutesRulesOf
@@ -353,88 +133,13 @@ module _ (members areas : ℕ) (s : List ℕ) where
       let from8 = in-span unused s 8 14 (third .1) in
       let from14 = in-span adjustment s 14 20 (common .adjustments) in
       let from20 = in-span energy s 20 26 (last .1) in
-      let from26 = in-span unused s 26 30 (common .rest) in (
-        (
-          (
-            (
-              (
-                (
-                  (
-                    (
-                      (
-                        (
-                          (
-                            (
-                              (
-                                (
-                                  (
-                                    (
-                                      (
-                                        (
-                                          (
-                                            (
-                                              (
-                                                (
-                                                  (
-                                                    (
-                                                      (
-                                                        (
-                                                          (
-                                                            (((tt, common .kind-known), less-kept members (word s 1) (common .member-there)), less-kept areas (word s 2) (common .area-there)),
-                                                            from3 3 refl refl,
-                                                          ),
-                                                          from4 4 refl refl,
-                                                        ),
-                                                        from4 5 refl refl,
-                                                      ),
-                                                      from6 6 refl refl,
-                                                    ),
-                                                    from6 7 refl refl,
-                                                  ),
-                                                  from8 8 refl refl,
-                                                ),
-                                                from8 9 refl refl,
-                                              ),
-                                              from8 10 refl refl,
-                                            ),
-                                            from8 11 refl refl,
-                                          ),
-                                          from8 12 refl refl,
-                                        ),
-                                        from8 13 refl refl,
-                                      ),
-                                      from14 14 refl refl,
-                                    ),
-                                    from14 15 refl refl,
-                                  ),
-                                  from14 16 refl refl,
-                                ),
-                                from14 17 refl refl,
-                              ),
-                              from14 18 refl refl,
-                            ),
-                            from14 19 refl refl,
-                          ),
-                          from20 20 refl refl,
-                        ),
-                        from20 21 refl refl,
-                      ),
-                      from20 22 refl refl,
-                    ),
-                    from20 23 refl refl,
-                  ),
-                  from20 24 refl refl,
-                ),
-                from20 25 refl refl,
-              ),
-              from26 26 refl refl,
-            ),
-            from26 27 refl refl,
-          ),
-          from26 28 refl refl,
-        ),
-        from26 29 refl refl,
-      )
+      let from26 = in-span unused s 26 30 (common .rest) in
+      tt ▸ common .kind-known ▸ less-kept members (word s 1) (common .member-there) ▸ less-kept areas (word s 2) (common .area-there)
+      ▸ from3 3 refl refl ▸ from4 4 refl refl ▸ from4 5 refl refl ▸ from6 6 refl refl ▸ from6 7 refl refl ▸ from8 8 refl refl
+      ▸ from8 9 refl refl ▸ from8 10 refl refl ▸ from8 11 refl refl ▸ from8 12 refl refl ▸ from8 13 refl refl ▸ from14 14 refl refl
+      ▸ from14 15 refl refl ▸ from14 16 refl refl ▸ from14 17 refl refl ▸ from14 18 refl refl ▸ from14 19 refl refl ▸ from20 20 refl refl
+      ▸ from20 21 refl refl ▸ from20 22 refl refl ▸ from20 23 refl refl ▸ from20 24 refl refl ▸ from20 25 refl refl ▸ from26 26 refl refl
+      ▸ from26 27 refl refl ▸ from26 28 refl refl ▸ from26 29 refl refl
 
   export-each : Common → kindKeeps Export s ≡ true → EachBelow (Kept Export) 30
   unfolding kindKeeps tenMinutesRulesOf
@@ -446,88 +151,13 @@ module _ (members areas : ℕ) (s : List ℕ) where
       let from8 = in-span energy s 8 14 (two .1) in
       let from14 = in-span adjustment s 14 20 (common .adjustments) in
       let from20 = in-span unused s 20 26 (last .1) in
-      let from26 = in-span unused s 26 30 (common .rest) in (
-        (
-          (
-            (
-              (
-                (
-                  (
-                    (
-                      (
-                        (
-                          (
-                            (
-                              (
-                                (
-                                  (
-                                    (
-                                      (
-                                        (
-                                          (
-                                            (
-                                              (
-                                                (
-                                                  (
-                                                    (
-                                                      (
-                                                        (
-                                                          (
-                                                            (((tt, common .kind-known), less-kept members (word s 1) (common .member-there)), less-kept areas (word s 2) (common .area-there)),
-                                                            from3 3 refl refl,
-                                                          ),
-                                                          from4 4 refl refl,
-                                                        ),
-                                                        from4 5 refl refl,
-                                                      ),
-                                                      from4 6 refl refl,
-                                                    ),
-                                                    from4 7 refl refl,
-                                                  ),
-                                                  from8 8 refl refl,
-                                                ),
-                                                from8 9 refl refl,
-                                              ),
-                                              from8 10 refl refl,
-                                            ),
-                                            from8 11 refl refl,
-                                          ),
-                                          from8 12 refl refl,
-                                        ),
-                                        from8 13 refl refl,
-                                      ),
-                                      from14 14 refl refl,
-                                    ),
-                                    from14 15 refl refl,
-                                  ),
-                                  from14 16 refl refl,
-                                ),
-                                from14 17 refl refl,
-                              ),
-                              from14 18 refl refl,
-                            ),
-                            from14 19 refl refl,
-                          ),
-                          from20 20 refl refl,
-                        ),
-                        from20 21 refl refl,
-                      ),
-                      from20 22 refl refl,
-                    ),
-                    from20 23 refl refl,
-                  ),
-                  from20 24 refl refl,
-                ),
-                from20 25 refl refl,
-              ),
-              from26 26 refl refl,
-            ),
-            from26 27 refl refl,
-          ),
-          from26 28 refl refl,
-        ),
-        from26 29 refl refl,
-      )
+      let from26 = in-span unused s 26 30 (common .rest) in
+      tt ▸ common .kind-known ▸ less-kept members (word s 1) (common .member-there) ▸ less-kept areas (word s 2) (common .area-there)
+      ▸ from3 3 refl refl ▸ from4 4 refl refl ▸ from4 5 refl refl ▸ from4 6 refl refl ▸ from4 7 refl refl ▸ from8 8 refl refl
+      ▸ from8 9 refl refl ▸ from8 10 refl refl ▸ from8 11 refl refl ▸ from8 12 refl refl ▸ from8 13 refl refl ▸ from14 14 refl refl
+      ▸ from14 15 refl refl ▸ from14 16 refl refl ▸ from14 17 refl refl ▸ from14 18 refl refl ▸ from14 19 refl refl ▸ from20 20 refl refl
+      ▸ from20 21 refl refl ▸ from20 22 refl refl ▸ from20 23 refl refl ▸ from20 24 refl refl ▸ from20 25 refl refl ▸ from26 26 refl refl
+      ▸ from26 27 refl refl ▸ from26 28 refl refl ▸ from26 29 refl refl
 
   each : Common → (K : Kind) → kindKeeps K s ≡ true → EachBelow (Kept K) 30
   unfolding kindKeeps
