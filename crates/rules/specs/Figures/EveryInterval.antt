@@ -14,7 +14,7 @@ use Rattle.rules.specs.HourWords.{hourFrom}
 use Rattle.rules.specs.Ranges.{keeps, tenMinutesHeadRule, tenMinutesForm}
 use Rattle.rules.specs.Refusals.{accepted, refusedAt, badHead, badWord}
 use Rattle.rules.specs.Text.{bytes}
-use Rattle.rules.specs.TenMinutes.{settleTenMinutes}
+use Rattle.rules.specs.TenMinutes.{tenMinutesAmount, tenMinutesIn, settleTenMinutes}
 use Rattle.rules.specs.Statement.{chargeLine, tenMinutesStatement}
 use Rattle.rules.specs.Figures.Cases.{Case, _is_, AllRight}
 use Rattle.rules.specs.Figures.Files.{block, sealed, first, plainHead}
@@ -214,5 +214,7 @@ pub record EveryIntervalRight : Type 0 where
   -- the engine that follows its ramp is charged nothing, and neither is a member without records
   pub settled : settleTenMinutes everyInterval (usedCharges 5)
       ≡ record { verdict = accepted; charges = pos 0 ∷ pos 162 ∷ negℤ (pos 1) ∷ pos 0 ∷ pos 9 ∷ [] }
+  -- and before they are rounded
+  pub unrounded : valuesBelow (tenMinutesAmount (tenMinutesIn everyInterval)) 4 ≡ pos 0 ∷ pos 38976000000 ∷ negℤ (pos 212800000) ∷ pos 0 ∷ []
   pub refused : AllRight tenRefusals
   pub stated : AllRight chargesStated

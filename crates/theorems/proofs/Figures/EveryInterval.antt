@@ -37,6 +37,7 @@ every-interval-right = record {
   of-records = (refl, (refl, (refl, (refl, (refl, (refl, (refl, (refl, (refl, (refl, (refl, tt)))))))))));
   of-the-head = (refl, (refl, (refl, (refl, (refl, (refl, (refl, (refl, (refl, (refl, (refl, (refl, (refl, (refl, (refl, (refl, tt))))))))))))))));
   settled = refl;
+  unrounded = refl;
   stated = (refl, (refl, (refl, (refl, tt))));
   refused = (refl, (refl, (refl, (refl, (refl, (refl, (refl, (refl, (refl, tt)))))))));
 }
