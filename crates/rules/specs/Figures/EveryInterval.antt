@@ -14,7 +14,7 @@ use Rattle.rules.specs.HourWords.{hourFrom}
 use Rattle.rules.specs.Ranges.{keeps, tenMinutesHeadRule, tenMinutesForm}
 use Rattle.rules.specs.Refusals.{accepted, refusedAt, badHead, badWord}
 use Rattle.rules.specs.Text.{bytes}
-use Rattle.rules.specs.TenMinutes.{tenMinutesAmount, tenMinutesIn, settleTenMinutes}
+use Rattle.rules.specs.TenMinutes.{intervalPrice, tenMinutesAmount, tenMinutesIn, settleTenMinutes}
 use Rattle.rules.specs.Statement.{chargeLine, tenMinutesStatement}
 use Rattle.rules.specs.Figures.Cases.{Case, _is_, AllRight}
 use Rattle.rules.specs.Figures.Files.{block, sealed, first, plainHead}
@@ -159,6 +159,14 @@ everyInterval = firstTen 2 risingPrices
 abbrev pub usedCharges : ℕ → List ℤ
 usedCharges n = replicate n (pos 9)
 
+-- the least net above zero, the least below it, and zero, in the last zone
+unfoldable pub leastNets : List Case
+leastNets = let price = intervalPrice (hourFrom tenMinutes risingPrices []) 1 4 in
+    price (pos 1) is pos 3400
+    ∷ price (negℤ (pos 1)) is pos 200
+    ∷ price (pos 0) is pos 0
+    ∷ []
+
 -- ---- refusals
 
 -- 11: four members, for three places. 4: the first price, if it is too high, and the last word, if it isn't zero
@@ -216,5 +224,6 @@ pub record EveryIntervalRight : Type 0 where
       ≡ record { verdict = accepted; charges = pos 0 ∷ pos 162 ∷ negℤ (pos 1) ∷ pos 0 ∷ pos 9 ∷ [] }
   -- and before they are rounded
   pub unrounded : valuesBelow (tenMinutesAmount (tenMinutesIn everyInterval)) 4 ≡ pos 0 ∷ pos 38976000000 ∷ negℤ (pos 212800000) ∷ pos 0 ∷ []
+  pub priced : AllRight leastNets
   pub refused : AllRight tenRefusals
   pub stated : AllRight chargesStated

@@ -29,7 +29,7 @@ unfolding Below.sumBelow Below.totalBelow Below.valuesBelow Below.replacingFirst
     Refusals.wordRows Refusals.formRows Ten.rampPart Ten.scheduledIn Ten.actualIn Ten.intervalEntry Ten.intervalOf Ten.incremental
     Ten.decremental Ten.intervalPrice Ten.netDeviation Ten.intervalCost Ten.tenMinutesAmount Ten.tenMinutesCharge Ten.tenMinutesRows
     Ten.settleTenMinutes wordBytes sealed Limits.faults Limits.ownPlaces Figures.intervalsFault Figures.intervalLimits
-    Figures.pricesFault Figures.fullPrices Figures.priceLimits Figures.everyInterval Figures.tenRefusals Figures.chargesStated
+    Figures.pricesFault Figures.fullPrices Figures.priceLimits Figures.everyInterval Figures.tenRefusals Figures.chargesStated Figures.leastNets
     Text.digitsUpTo Text.decimal Text.amountText Text.amountField Refusals.outOfRange Refusals.tooNarrow Refusals.writeAmountRows
     Settling.write Statement.firstLine Statement.column Statement.memberLines Statement.sheetOf Statement.refusedLine Statement.chargeLine
     Statement.tenMinutesStatement
@@ -38,6 +38,7 @@ every-interval-right = record {
   of-the-head = (refl, (refl, (refl, (refl, (refl, (refl, (refl, (refl, (refl, (refl, (refl, (refl, (refl, (refl, (refl, (refl, tt))))))))))))))));
   settled = refl;
   unrounded = refl;
+  priced = (refl, (refl, (refl, tt)));
   stated = (refl, (refl, (refl, (refl, tt))));
   refused = (refl, (refl, (refl, (refl, (refl, (refl, (refl, (refl, (refl, tt)))))))));
 }
