@@ -138,9 +138,9 @@ firstTen others body = sealed (3 ∷ 0 ∷ others ∷ 0 ∷ 0 ∷ 0 ∷ 0 ∷ bo
 abbrev pub otherTen : (position count six : ℕ) → List ℕ → List ℕ
 otherTen position count six records = sealed (4 ∷ position ∷ count ∷ 0 ∷ 0 ∷ 0 ∷ six ∷ records)
 
--- four members; area 0 in zone 1, area 1 in zone 0; zone 0 at 5,000 and 4,000, zone 1 at prices that rise, from below zero
+-- four members; area 0 in zone 2, area 1 in zone 0; zone 0 at 5,000 and 4,000, zone 2 at prices that rise, from below zero
 abbrev pub risingPrices : List ℕ
-risingPrices = 7 ∷ 4 ∷ 2 ∷ 2 ∷ replicate 4 0 ++ 1 ∷ 0 ∷ 0 ∷ 0 ∷ 0 ∷ replicate 27 0 ++ times6 5000 ++ times6 4000
+risingPrices = 7 ∷ 4 ∷ 3 ∷ 2 ∷ replicate 4 0 ++ 2 ∷ 0 ∷ 0 ∷ 0 ∷ 0 ∷ replicate 27 0 ++ times6 5000 ++ times6 4000 ++ times6 1111 ++ times6 2222
     ++ 3000 ∷ 3100 ∷ 3200 ∷ 3300 ∷ 3400 ∷ 3500 ∷ 4294967096 ∷ 4294967196 ∷ 0 ∷ 100 ∷ 200 ∷ 300 ∷ []
 
 unfoldable pub everyInterval : List ℕ
@@ -161,7 +161,7 @@ usedCharges n = replicate n (pos 9)
 
 -- the least net above zero, the least below it, and zero, in the last zone
 unfoldable pub leastNets : List Case
-leastNets = let price = intervalPrice (hourFrom tenMinutes risingPrices []) 1 4 in
+leastNets = let price = intervalPrice (hourFrom tenMinutes risingPrices []) 2 4 in
     price (pos 1) is pos 3400
     ∷ price (negℤ (pos 1)) is pos 200
     ∷ price (pos 0) is pos 0
