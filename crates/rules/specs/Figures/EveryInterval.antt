@@ -123,6 +123,10 @@ priceLimits =
     ∷ valuesBelow (λ k. keeps (tenMinutesHeadRule 1 1 (17 + k)) 1) 31 is replicate 31 false
     ∷ valuesBelow (λ k. keeps (tenMinutesHeadRule 1 1 (48 + k)) 1) 12 is replicate 12 true
     ∷ valuesBelow (λ k. keeps (tenMinutesHeadRule 1 1 (60 + k)) 1) 68 is replicate 68 false
+    -- with two zones, the zones of the areas past one, and past seven
+    ∷ valuesBelow (λ k. keeps (tenMinutesHeadRule 2 1 (17 + k)) 1) 31 is replicate 31 false
+    ∷ keeps (tenMinutesHeadRule 2 7 40) 1 is true
+    ∷ valuesBelow (λ k. keeps (tenMinutesHeadRule 2 7 (41 + k)) 1) 7 is replicate 7 false
     -- 17 blocks are a length, 18 aren't
     ∷ lengthBad tenMinutes (replicate 8704 0) is false
     ∷ lengthBad tenMinutes (replicate 9216 0) is true

@@ -35,7 +35,7 @@ unfolding Below.sumBelow Below.totalBelow Below.valuesBelow Below.replacingFirst
     Statement.tenMinutesStatement
 every-interval-right = record {
   of-records = (refl, (refl, (refl, (refl, (refl, (refl, (refl, (refl, (refl, (refl, (refl, tt)))))))))));
-  of-the-head = (refl, (refl, (refl, (refl, (refl, (refl, (refl, (refl, (refl, (refl, (refl, (refl, (refl, (refl, (refl, (refl, tt))))))))))))))));
+  of-the-head = (refl, (refl, (refl, (refl, (refl, (refl, (refl, (refl, (refl, (refl, (refl, (refl, (refl, (refl, (refl, (refl, (refl, (refl, (refl, tt)))))))))))))))))));
   settled = refl;
   unrounded = refl;
   priced = (refl, (refl, (refl, tt)));
