@@ -2,13 +2,11 @@
 // charge from its line. No deviation and no share is worked here: the caller has them. A line is moved whole; its sums are `formula`'s.
 // The module `neutrality` goes on from the charges. What lends a line stands here, at the root, as tools/walk needs it.
 ghost use mathlib.Core.Path.{_≡_};
-ghost use Prim.Native.Nat.{ℕ, _≤_, _<_};
+ghost use Prim.Native.Nat.{_≤_, _<_};
 ghost use lib.ListN.{length, getD};
 ghost use Rattle.whole.specs.Below.{replacingFirst};
-ghost use Rattle.whole.specs.Signed.{Under};
 ghost use Rattle.rules.specs.Record as Record;
 ghost use Rattle.rules.specs.Charge as Charge;
-ghost use Rattle.rules.specs.Refusals.{mostGrains};
 ghost use Rattle.rules.specs.Settling as Settling;
 ghost use Rattle.rules.specs.Inner.Posting as Posting;
 ghost use Rattle.formula.specs.Room.{LineRoom};
@@ -72,8 +70,7 @@ pub fn put_lines(file: &[u8], head: Head, deviations: &[i64], shares: &[i64], li
 
 // The first `n` members' charges, from their lines; the places past them are unchanged.
 pub fn put_charges(lines: &[Line], n: usize, charges: &mut [i64])
-    requires { ⌜ (n ≤ length (now lines)) × (n ≤ length (now charges))
-        × ((m : ℕ) → m < n → Under (getD (now lines) m Settling.emptyLine .amount) mostGrains) ⌝ }
+    requires { ⌜ (n ≤ length (now lines)) × (n ≤ length (now charges)) ⌝ }
     ensures { λ _. ⌜ now (charges .exit)
         ≡ replacingFirst (λ m. Charge.cents (getD (now (lines .entry)) m Settling.emptyLine .amount)) n (now (charges .entry)) ⌝ }
 {

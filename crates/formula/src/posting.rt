@@ -1,9 +1,7 @@
 // What a posting does, by value: the hour's tally and a member's line go in and come back with one record more. And a line's grains in
 // cents. No file and no buffer is read or written here.
 ghost use mathlib.Core.Path.{_≡_};
-ghost use Rattle.whole.specs.Signed.{Under};
 ghost use Rattle.rules.specs.Charge as Charge;
-ghost use Rattle.rules.specs.Refusals.{mostGrains};
 ghost use Rattle.rules.specs.Settling as Settling;
 ghost use Rattle.rules.specs.Inner.Posting as Posting;
 ghost use Rattle.formula.specs.Room.{TallyRoom, LineRoom};
@@ -53,21 +51,15 @@ pub fn line_with(l: Line, grains: i64) -> Line
     }
 }
 
-// Grains to the nearest cent, halves away from zero: half a cent away from zero first, since `/` goes toward it.
+// Grains to the nearest cent: half a cent is 5,000,000 grains.
 pub fn cents(grains: i64) -> i64
-    requires { ⌜ Under grains mostGrains ⌝ }
     ensures { λ r. ⌜ r ≡ Charge.cents grains ⌝ }
 {
-    if grains < 0 {
-        (grains - 5000000) / 10000000
-    } else {
-        (grains + 5000000) / 10000000
-    }
+    crate::rounding::cents_of(grains, 5000000)
 }
 
 // A member's charge: its line's grains in cents.
 pub fn charge_of(l: Line) -> i64
-    requires { ⌜ Under (l .amount) mostGrains ⌝ }
     ensures { λ r. ⌜ r ≡ Charge.cents (l .amount) ⌝ }
 {
     cents(l.amount)

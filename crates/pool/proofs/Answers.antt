@@ -10,8 +10,6 @@ use lib.IntN.{ℤ, pos}
 use lib.ListN.{length, getD}
 use lib.Dec.{ltb}
 use Rattle.whole.specs.Below.{replacingFirst}
-use Rattle.whole.specs.Signed.{Under}
-use Rattle.whole.proofs.Ranges.{u-le}
 use Rattle.whole.proofs.Buffers.{replacing-ext, getD-replacing, length-replacing}
 use Rattle.rules.specs.declared.Answer.{Answer}
 use Rattle.rules.specs.declared.Answer.the-variants.{Accepted, BadArea, TooShort, NoDemand}
@@ -21,7 +19,7 @@ use Rattle.rules.specs.Record.{Hour, members, entryOf}
 use Rattle.rules.specs.Deviation.{deviation}
 use Rattle.rules.specs.Charge.{shareOf, cents, charge}
 use Rattle.rules.specs.Neutrality.{final}
-use Rattle.rules.specs.Refusals.{row, accepted, verdictOf, verdict, placeZeroIf, Buffers, mostGrains, badArea, noDemand, tooShort}
+use Rattle.rules.specs.Refusals.{row, accepted, verdictOf, verdict, placeZeroIf, Buffers, badArea, noDemand, tooShort}
 use Rattle.rules.specs.Refusals.{sumRows, fileRows, settleRows}
 use Rattle.rules.specs.Settling.{lineOf, filled, ufeFigures, noFigures, settle, emptyLine}
 use Rattle.rules.specs.Inner.Posting.{linesAfter}
@@ -30,7 +28,7 @@ use Rattle.rules.specs.Inner.Kept.{FileKept}
 use Rattle.rules.proofs.Rows.{file-decides, file-passed, one-answer}
 use Rattle.rules.proofs.Rows.{settle-verdict, settle-whole, settle-changes-nothing, settle-fills}
 use Rattle.rules.proofs.Kept.{passed-kept}
-use Rattle.rules.proofs.Bounds.{amount-under, row-7-never}
+use Rattle.rules.proofs.Bounds.{row-7-never}
 use Rattle.rules.proofs.Demands.{Room, buffers-room}
 use Rattle.rules.proofs.Posting.{lines-are}
 use Rattle.hour.specs.declared.Head.{Head}
@@ -156,13 +154,7 @@ module _ (s : List ℕ) (b : Buffers) where
           line-at : (m : ℕ) → m < members h → getD lines m emptyLine ≡ lineOf h m
           line-at m l = rw lines-written (getD-replacing (lineOf h) (members h) (b .lines) m emptyLine l)
 
-          -- no line is too large for cents
-          line-small : (m : ℕ) → m < n → Under (getD lines m emptyLine .amount) mostGrains
-          unfolding lineOf
-          line-small m l = rw (line-at m (omega (arith, all))) (u-le (amount-under (kept .hour-kept) m) (omega arith))
-
           pub can-put-charges : (n ≤ length lines) × (n ≤ length (b .charges))
-              × ((m : ℕ) → m < n → Under (getD lines m emptyLine .amount) mostGrains)
           can-put-charges = (
             omega (
               arith,
@@ -172,7 +164,6 @@ module _ (s : List ℕ) (b : Buffers) where
               length-replacing (lineOf h) (members h) (b .lines) (room .lines-room),
             ),
             omega (arith, all, room .charges-room),
-            line-small,
           )
 
           charge-at : (m : ℕ) → m < members h → cents (getD lines m emptyLine .amount) ≡ charge h m

@@ -17,18 +17,18 @@ use Rattle.whole.proofs.Ranges.{_u+_, _u-_, _u*_, u-neg, u-lit, u-more, u-le, u
 use Rattle.whole.proofs.Sums.{sum-mono, sum-prefix, sum-at, sum-add, sum-mul, sum-const, sum-by}
 use Rattle.whole.proofs.Totals.{total-under, total-within}
 use Rattle.whole.proofs.Search.{none-below}
-use Rattle.whole.proofs.Division.{nearest-under}
 use Rattle.rules.specs.declared.Kind.{Kind}
 use Rattle.rules.specs.declared.Kind.the-variants.{Generator, RealTimeLoad, ProfileLoad, Import, Export, Unknown}
 use Rattle.rules.specs.Record.{Hour, Entry, members, areas, price, zoneOf, tieIn, tieOut, memberOf, areaOf, entryOf, isLoad}
 use Rattle.rules.specs.Deviation.{unitsPerKWh, generatorUnavailable, generatorDeviation, loadUnavailable, loadDeviation}
 use Rattle.rules.specs.Deviation.{importDeviation, exportDeviation, deviationAs, deviation}
 use Rattle.rules.specs.Ufe.{inArea, ufe, demand}
-use Rattle.rules.specs.Charge.{enteringAs, entering, nearestCent, cents, shareOf, grains, amount, charge}
+use Rattle.rules.specs.Charge.{enteringAs, entering, shareOf, grains, amount, cents, charge}
 use Rattle.rules.specs.Inner.Posting.{accountedAs, accounted}
 use Rattle.rules.specs.Refusals.{mostGrains, badAmount}
 use Rattle.rules.specs.Inner.Kept.{EntryKept, EntryRoom, IntervalKept, HourKept}
 use Rattle.rules.proofs.Tariff.{ufe-by-record}
+use Rattle.rules.proofs.Rounding.{cents-under}
 use Rattle.rules.proofs.Fair.{share-sizes-at-most}
 
 -- ---- a record
@@ -292,5 +292,5 @@ module _ {h : Hour} (kept : HourKept h) where
 
   -- No charge is over 280,000,000,000 cents in size.
   pub charge-under : (m : ℕ) → Under (charge h m) 280000000000
-  unfolding charge cents nearestCent
-  charge-under m = nearest-under (amount h m) 5000000 2800000000000000000 (omega arith) (amount-under m)
+  unfolding charge cents
+  charge-under m = cents-under 10000000 280000000000 (omega arith) (amount h m) (amount-under m)

@@ -5,18 +5,19 @@ use mathlib.Core.Logic.{_↔_}
 use mathlib.Core.Bool.{true, false, _&&_, and-false}
 use mathlib.Core.Option.{Option, none, some}
 use mathlib.Core.List.{List}
-use Prim.Native.Nat.{ℕ, zero, suc, _+_, _/_, _<_}
+use Prim.Native.Nat.{ℕ, zero, suc, _+_, _<_}
 use native.Mathlib.Omega.{arith}
 use lib.Dec.{ltb, eqb}
-use lib.IntN.{ℤ, pos, negsuc, negℤ, natAbs, _+ℤ_}
-use lib.Signed.{ltZ, _≤ℤ_, _<ℤ_, ltZ-no, clashℤ}
-use borrow.Author.Tests.{ltb-true, ltb-false, lt-ltb, eqb-true, eqb-false}
+use lib.IntN.{ℤ, pos, negsuc, natAbs, _+ℤ_}
+use lib.Signed.{ltZ, _≤ℤ_, ltZ-no, clashℤ}
+use borrow.Author.Tests.{ltb-true, ltb-false, eqb-true, eqb-false}
 use Rattle.whole.specs.Below.{totalBelow}
 use Rattle.whole.proofs.Tests.{split, never, neither}
-use Rattle.whole.proofs.Linear.{zr, all5, lt↑, abs-zero}
-use Rattle.rules.specs.Charge.{nearestCent, cents}
+use Rattle.whole.proofs.Linear.{zr, all5, abs-zero}
+use Rattle.rules.specs.Charge.{grainsPerCent, cents}
 use Rattle.rules.specs.Explanation.{headAt, sameSign, decidedBy}
 use Rattle.rules.specs.Promised.Deciding.{Decides}
+use Rattle.rules.proofs.Rounding.{by-sign}
 use Rattle.rules.proofs.Shares.{found, none-waits}
 
 -- ---- signs
@@ -48,20 +49,6 @@ none-above = all5 _ (λ a b c d e. simp zr (omega arith))
 none-below-zero : (a b c d e : ℤ) → pos 0 ≤ℤ a → pos 0 ≤ℤ b → pos 0 ≤ℤ c → pos 0 ≤ℤ d → pos 0 ≤ℤ e →
     pos 0 ≤ℤ (pos 0 +ℤ a +ℤ b +ℤ c +ℤ d +ℤ e)
 none-below-zero = all5 _ (λ a b c d e. simp zr (omega arith))
-
-minus-below : (k : ℕ) → (negℤ (pos k) ≡ pos 0 → ⊥) → ltZ (negℤ (pos k)) (pos 0) ≡ true
-minus-below zero n = absurd (n refl)
-minus-below (suc k) n = refl
-
--- a charge other than zero has the sign of the amount that it is rounded from
-amounts-sign : {X : Type 0} (g : ℤ) → (cents g ≡ pos 0 → ⊥) →
-    (pos 0 <ℤ g → ltZ (pos 0) (cents g) ≡ true → X) → (g <ℤ pos 0 → ltZ (cents g) (pos 0) ≡ true → X) → X
-unfolding cents nearestCent
-amounts-sign (pos n) other above below =
-    let some-cents : 0 < (n + 5000000) / 10000000 = split (eqb ((n + 5000000) / 10000000) 0)
-    (λ t. absurd (other (ap pos (eqb-true _ _ t)))) (λ t. omega (arith, eqb-false ((n + 5000000) / 10000000) 0 t)) in
-    above (lt↑ (omega arith)) (lt-ltb 0 ((n + 5000000) / 10000000) some-cents)
-amounts-sign (negsuc n) other above below = below (lt↑ (omega arith)) (minus-below ((suc n + 5000000) / 10000000) other)
 
 -- ---- the head that decided
 
@@ -101,10 +88,10 @@ either-one (some k) n = (k, refl)
 module _ (hs : List ℤ) (amount : ℤ) (add-up : totalBelow (headAt hs) 5 ≡ amount) where
   -- if no head had the amount's sign, their sum would not have it either
   some-head : (cents amount ≡ pos 0 → ⊥) → decidedBy (cents amount) hs ≡ none → ⊥
-  unfolding totalBelow
+  unfolding totalBelow cents
   some-head other e =
       let without = none-has-sign (cents amount) hs e in
-      amounts-sign amount other
+      by-sign grainsPerCent amount (λ z. absurd (other z))
       (λ more above.
       let at : (k : ℕ) → k < 5 → headAt hs k ≤ℤ pos 0 = λ k l. above-only (cents amount) (headAt hs k) above (without k l) in
       clashℤ more (subst (λ (z : ℤ). z ≤ℤ pos 0) add-up

@@ -17,15 +17,15 @@ use Rattle.whole.proofs.Ranges.{_u+_, _u*_, u-lit, u-le, abs-with-sign}
 use Rattle.whole.proofs.Sums.{sum-ext, sum-mul, product-but}
 use Rattle.whole.proofs.Totals.{total-ext, total-add, total-neg, total-sub, total-mul, total-times, total-swap, total-pick, total-within}
 use Rattle.whole.proofs.Totals.{total-under, total-with-sign, own-sign, sign-of-zero}
-use Rattle.whole.proofs.Division.{nearest-half}
 use Rattle.rules.specs.declared.Kind.{Kind}
 use Rattle.rules.specs.declared.Kind.the-variants.{Generator, RealTimeLoad, ProfileLoad, Import, Export, Unknown}
 use Rattle.rules.specs.Record.{Hour, Entry, members, areas, price, memberOf, areaOf, entryOf, isGenerator, isLoad, isImport, isExport}
 use Rattle.rules.specs.Deviation.{generatorDeviation, loadDeviation, importDeviation, exportDeviation, deviation, deviationAs}
 use Rattle.rules.specs.Ufe.{inArea, areaSum, ufe, demand, areaDemand}
 use Rattle.rules.specs.Share.{allDemand, shareSize, share}
-use Rattle.rules.specs.Charge.{entering, enteringAs, nearestCent, cents, shareOf, grains, amount, charge, poolTotal}
+use Rattle.rules.specs.Charge.{entering, enteringAs, shareOf, grains, amount, charge, poolTotal}
 use Rattle.rules.specs.Promised.Demands.{rankedShare, nonZeroT, allT, otherT, exactFraction, unrounded, loadPrices, Fair}
+use Rattle.rules.proofs.Rounding.{half-cent}
 use Rattle.rules.proofs.Shares.{ranked, nothing-for-others, nothing-without-demand, sizes-add-up-to, sizes-at-most, size-near}
 
 pub record Sound (h : Hour) : Type 0 where
@@ -114,10 +114,6 @@ module _ (h : Hour) (ok : Sound h) where
       ∙ own-sign (ufe h a)
 
 -- ---- the pool: the amounts of all members and the totals of all areas are the same grains
-
-half-cent : (g : ℤ) → Under (cents g *ℤ pos 10000000 -ℤ g) 5000000
-unfolding cents nearestCent
-half-cent g = nearest-half g 5000000 (omega arith)
 
 -- a record's part of the four sums of deviations: it is in that of its own kind alone
 enters-by-kind : (b : Bool) (k : Kind) (r : Entry) →

@@ -15,16 +15,16 @@ use Rattle.whole.proofs.Linear.{zr, all2, all3, all4, all5, all6}
 use Rattle.whole.proofs.Ranges.{_u+_, _u*_, u-neg, u-more, u-le, u-upto, u-apart, upto-mul, u-zero, u-cond, u-picked}
 use Rattle.whole.proofs.Sums.{sum-prefix, sum-mul, sum-const, sum-by}
 use Rattle.whole.proofs.Totals.{total-under, total-within}
-use Rattle.whole.proofs.Division.{nearest-under}
 use Rattle.rules.specs.declared.Kind.{Kind}
 use Rattle.rules.specs.declared.Kind.the-variants.{Generator, RealTimeLoad, ProfileLoad, Import, Export, Unknown}
 use Rattle.rules.specs.Record.{Hour, Entry, zones, zoneOf, memberOf, areaOf}
 use Rattle.rules.specs.Deviation.{unitsPerKWh, generatorUnavailable, generatorDeviation, loadUnavailable, loadDeviation}
 use Rattle.rules.specs.Deviation.{importDeviation, exportDeviation, deviationAs, deviation}
-use Rattle.rules.specs.Charge.{enteringAs, entering, nearestCent}
+use Rattle.rules.specs.Charge.{enteringAs, entering}
 use Rattle.rules.specs.TenMinutes.{intervalOf, intervalPrice, netDeviation, intervalCost}
 use Rattle.rules.specs.TenMinutes.{tenMinutesAmount, tenMinutesCharge}
 use Rattle.rules.specs.Inner.Kept.{IntervalKept, TenMinutesKept}
+use Rattle.rules.proofs.Rounding.{cents-under}
 use Rattle.rules.proofs.Bounds.{units-under}
 
 -- ---- an interval of a record
@@ -160,5 +160,5 @@ module _ {h : Hour} (kept : TenMinutesKept h) where
 
   -- No charge is over 15,360,000,000 cents in size.
   pub charge-under : (m : ℕ) → Under (tenMinutesCharge h m) 15360000000
-  unfolding tenMinutesCharge nearestCent
-  charge-under m = nearest-under (tenMinutesAmount h m) 120000000 3686400000000000000 (omega arith) (amount-under m)
+  unfolding tenMinutesCharge
+  charge-under m = cents-under 240000000 15360000000 (omega arith) (tenMinutesAmount h m) (amount-under m)

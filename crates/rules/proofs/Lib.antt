@@ -1,5 +1,5 @@
 -- The theorems about the definitions: figures first, then forms of the sums, then what each demand rests on, then the demands. Figures of
--- whole files stand in the crate `theorems`.
+-- whole files stand in `hourfigures` and `tenfigures`.
 pub mod Starred
 pub mod MissingBlock
 pub mod Unwritten

@@ -1,5 +1,5 @@
 -- A file that tells of a block which isn't there has 3, computed: no law says which of 2 and 3 is the sums' and which the layout's. All
--- refusals of settling are computed in the crate `theorems`.
+-- refusals of settling are computed in the crate `hourfigures`.
 use mathlib.Core.Path.{_≡_, refl}
 use mathlib.Core.Option.{orElse}
 use Rattle.whole.specs.Below

@@ -1,6 +1,6 @@
 -- The neutrality amount: the shares of N add up to it, and the finals to nothing; of an hour that keeps its ranges, what the members demand
 -- and how large N and the finals are. Document 02, A1.
-use Prim.Native.Nat.{ℕ, _+_, _*_, _/_, _≤_, _<_, zero-le}
+use Prim.Native.Nat.{ℕ, _+_, _*_, _≤_, _<_, zero-le}
 use native.Mathlib.Nat.{le-refl, le-trans}
 use native.Mathlib.Omega.{arith}
 use mathlib.Core.Path.{_≡_, refl, sym, _∙_, ap, ap₂}
@@ -11,18 +11,18 @@ use Rattle.whole.specs.Below.{sumBelow, totalBelow}
 use Rattle.whole.specs.Signed.{Under, withSignOf}
 use Rattle.whole.proofs.Tests.{cond-both, cond-ind}
 use Rattle.whole.proofs.Linear.{zr, all1, all2}
-use Rattle.whole.proofs.Ranges.{_u-_, u-lit, u-le, u-picked, abs-with-sign, u-with-sign}
+use Rattle.whole.proofs.Ranges.{_u-_, u-lit, u-le, u-picked, u-with-sign}
 use Rattle.whole.proofs.Sums.{sum-ext, sum-mono, sum-prefix, sum-at, sum-add, sum-mul, sum-const, sum-by}
 use Rattle.whole.proofs.Totals.{total-ext, total-sub, total-within, total-with-sign, own-sign, sign-of-zero}
-use Rattle.whole.proofs.Division.{nearest-within}
-use Rattle.rules.specs.Record.{Hour, members, areas, memberOf, areaOf, entry, entryOf, isLoad}
+use Rattle.rules.specs.Record.{Hour, members, areas, memberOf, areaOf, entryOf, isLoad}
 use Rattle.rules.specs.Ufe.{inArea, demand, areaDemand}
 use Rattle.rules.specs.Share.{allDemand, shareSize, share, rankedSize}
-use Rattle.rules.specs.Charge.{nearestCent, cents, grains, amount, charge}
+use Rattle.rules.specs.Charge.{grains, amount, charge}
 use Rattle.rules.specs.Neutrality.{everyMember, memberDemand, hourDemand, neutrality, neutralityShare, final}
 use Rattle.rules.specs.Promised.Finals.{Neutral}
 use Rattle.rules.specs.Inner.Kept.{HourKept}
 use Rattle.rules.specs.Inner.Posting.{demandBy, demandOf}
+use Rattle.rules.proofs.Rounding.{half-a-cent-more}
 use Rattle.rules.proofs.Shares.{ranked, nothing-without-demand, size-at-most, sizes-add-up-to, size-near}
 use Rattle.rules.proofs.Fair.{near-with-sign}
 use Rattle.rules.proofs.Bounds.{all-grains-most, charge-under}
@@ -168,17 +168,16 @@ module _ {h : Hour} (kept : HourKept h) where
     all-grains-most kept,
   )
 
-  half-a-cent-more : (m : ℕ) → natAbs (charge h m) * 10000000 ≤ natAbs (amount h m) + 5000000
-  unfolding charge cents nearestCent
-  half-a-cent-more m = rw (abs-with-sign (amount h m) ((natAbs (amount h m) + 5000000) / 10000000))
-      (nearest-within (natAbs (amount h m)) 5000000 (omega arith) .0)
+  charge-most : (m : ℕ) → natAbs (charge h m) * 10000000 ≤ natAbs (amount h m) + 5000000
+  unfolding charge
+  charge-most m = half-a-cent-more (amount h m)
 
   -- N, and every running sum of charges, is at most 280,000,000,016 cents in size.
   pub charges-running : (n : ℕ) → n ≤ members h → Under (totalBelow (charge h) n) 280000000016
   charges-running n l = u-le (total-within (charge h) (λ m. natAbs (charge h m)) n (λ m k. u-lit (charge h m))) (omega (
     arith,
     sum-mul (λ m. natAbs (charge h m)) 10000000 n,
-    sum-mono (λ m. natAbs (charge h m) * 10000000) (λ m. natAbs (amount h m) + 5000000) n (λ m k. half-a-cent-more m),
+    sum-mono (λ m. natAbs (charge h m) * 10000000) (λ m. natAbs (amount h m) + 5000000) n (λ m k. charge-most m),
     sum-add (λ m. natAbs (amount h m)) (λ m. 5000000) n,
     sum-const 5000000 n,
     sum-prefix (λ m. natAbs (amount h m)) n (members h) l,

@@ -16,4 +16,4 @@ pub starred-right : StarredRight
 unfolding starred valuesBelow sumBelow minℤ maxℤ signed kindOf actual entry generatorUnavailable generatorDeviation loadUnavailable
     loadDeviation importDeviation exportDeviation deviation better firstLargest isAt handedOut allDemand wholePart remainder unitsLeft
     shareSize share nearestCent cents digitsUpTo decimal amountText amountField verdict outOfRange tooNarrow writeAmountRows write
-starred-right = (refl, (refl, (refl, (refl, (refl, (refl, (refl, (refl, (refl, (refl, (refl, (refl, (refl, (refl, (refl, tt)))))))))))))))
+starred-right = (refl, (refl, (refl, (refl, (refl, (refl, (refl, (refl, (refl, (refl, (refl, (refl, (refl, (refl, (refl, (refl, (refl, (refl, (refl, tt)))))))))))))))))))

@@ -1,9 +1,9 @@
 -- From shares to cents: a record's share, a member's exact amount in grains, its charge, the pool's total.
--- Document 01, "The sums", shares to charge; 003, D 2.1 and D 2.2.
-use Prim.Native.Nat.{ℕ, _+_, _/_}
-use mathlib.Core.Bool.{cond}
+-- Document 01, "The sums", shares to charge; document 02, A8; 003, D 2.1 and D 2.2.
+use Prim.Native.Nat.{ℕ, _+_, _*_, _/_, _%_}
+use mathlib.Core.Bool.{Bool, cond, _&&_, _||_}
 use lib.IntN.{ℤ, pos, negℤ, natAbs, _+ℤ_, _-ℤ_, _*ℤ_}
-use lib.Dec.{eqb}
+use lib.Dec.{ltb, eqb}
 use Rattle.whole.specs.Below.{countBelow, totalBelow}
 use Rattle.whole.specs.Signed.{withSignOf}
 use Rattle.rules.specs.declared.Kind.{Kind}
@@ -29,9 +29,17 @@ entering r = enteringAs (r .kind) (deviation r)
 abbrev pub grainsPerCent : ℕ
 grainsPerCent = 10000000
 
--- "Charge in cents": a size to the nearest cent, of so many parts each, halves away from zero
+abbrev pub isOdd : ℕ → Bool
+isOdd n = eqb (n % 2) 1
+
+-- "Round halves to the even cent" (document 02, A8). One cent more than the whole cents is due where over half a cent is left, of so many parts
+-- a cent, or half a cent behind an odd number
+abbrev pub oneMore : (parts whole left : ℕ) → Bool
+oneMore parts whole left = ltb parts (2 * left) || (eqb (2 * left) parts && isOdd whole)
+
+-- "Charge in cents": a size to the nearest cent
 unfoldable pub nearestCent : (parts size : ℕ) → ℕ
-nearestCent parts size = (size + parts / 2) / parts
+nearestCent parts size = let whole = size / parts in cond (oneMore parts whole (size % parts)) (whole + 1) whole
 
 -- a number of such parts, in cents
 abbrev pub centsOf : (parts : ℕ) → ℤ → ℤ

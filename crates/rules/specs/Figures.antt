@@ -12,3 +12,4 @@ pub mod Unwritten
 pub mod EveryKind
 pub mod FiveHeads
 pub mod EveryInterval
+pub mod HalfCents

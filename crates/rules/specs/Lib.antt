@@ -1,5 +1,5 @@
 -- Documents 01 and 02 as definitions, in the order in which a reader wants them; then what is promised of them, and figures. What is stated
--- here is proved in proofs/; but the figures of whole files are proved in the crate `theorems`, which takes three times as long.
+-- here is proved in proofs/; but the figures of whole files are proved in `hourfigures` and `tenfigures`, which take longer than that.
 pub mod Record
 pub mod Deviation
 pub mod Ufe

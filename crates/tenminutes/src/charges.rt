@@ -52,7 +52,7 @@ fn amount(file: &[u8], zones: usize, room: &[i64]) -> i64
     sum
 }
 
-// A member's charge, with an empty room lent for its nets.
+// A member's charge, with an empty room lent for its nets: half a cent is 120,000,000 24ths of grains.
 fn charge_in(
     file: &[u8],
     member: usize,
@@ -66,7 +66,7 @@ fn charge_in(
     ensures { λ r. ⌜ r ≡ tenMinutesCharge (tenMinutesIn (now (file .entry))) member ⌝ }
 {
     crate::nets::put_nets(file, member, firsts, nexts, room);
-    crate::cost::cents(amount(file, zones, room))
+    formula::rounding::cents_of(amount(file, zones, room), 120000000)
 }
 
 // The same, with a room of its own.

@@ -1,10 +1,9 @@
-// What a net deviation costs, and a sum of such costs in cents.
+// What a net deviation costs.
 ghost use mathlib.Core.Path.{_≡_};
 ghost use mathlib.Core.Bool.{cond};
 ghost use lib.IntN.{pos, _*ℤ_};
 ghost use lib.Signed.{ltZ};
 ghost use Rattle.whole.specs.Signed.{Under};
-ghost use Rattle.rules.specs.Charge as Charge;
 
 // The decremental price if the net is below zero, the incremental if above; zero costs nothing.
 pub fn cost(net: i64, incremental: i64, decremental: i64) -> i64
@@ -15,16 +14,4 @@ pub fn cost(net: i64, incremental: i64, decremental: i64) -> i64
         return net * decremental;
     }
     net * incremental
-}
-
-// 24ths of grains to the nearest cent, halves away from zero.
-pub fn cents(parts: i64) -> i64
-    requires { ⌜ Under parts 3686400000000000000 ⌝ }
-    ensures { λ r. ⌜ r ≡ Charge.centsOf 240000000 parts ⌝ }
-{
-    if parts < 0 {
-        (parts - 120000000) / 240000000
-    } else {
-        (parts + 120000000) / 240000000
-    }
 }

@@ -1,5 +1,5 @@
--- For each public function, crate by crate: no second result fits its contract; what the contracts of the entry points give, and that they
--- ask nothing; and figures of whole files.
+-- For each public function, crate by crate: no second result fits its contract; and what the contracts of the entry points give, and that
+-- they ask nothing.
 pub mod Laws
 pub mod Values
 pub mod Blocks
@@ -12,4 +12,3 @@ pub mod SixLines
 pub mod Asked
 pub mod TenMinutes
 pub mod TenMinutesText
-pub mod Figures

@@ -23,6 +23,7 @@ use Rattle.formula.proofs.posting.empty_tally.Reads as empty-tally
 use Rattle.formula.proofs.posting.tallied.Reads as tallied
 use Rattle.formula.proofs.posting.empty_line.Reads as empty-line
 use Rattle.formula.proofs.posting.line_with.Reads as line-with
+use Rattle.formula.proofs.rounding.cents_of.Reads as cents-of
 use Rattle.formula.proofs.posting.cents.Reads as cents
 use Rattle.formula.proofs.posting.charge_of.Reads as charge-of
 use Rattle.byarea.proofs.area_without_demand.Reads as area-without-demand
@@ -93,6 +94,9 @@ one-empty-line κs a x y s t = agree
 
 pub one-line-with : (κs : Lfts 0) → OneResult (line-with.Learnt κs)
 one-line-with κs a x y s t = agree
+
+pub one-cents-of : (κs : Lfts 0) → OneResult (cents-of.Learnt κs)
+one-cents-of κs a x y s t = agree
 
 pub one-cents : (κs : Lfts 0) → OneResult (cents.Learnt κs)
 one-cents κs a x y s t = agree

@@ -1,12 +1,8 @@
-// Charges: grains to the nearest cent, halves away from zero.
-ghost use Rattle.rules.specs.Refusals.{mostGrains};
-ghost use Rattle.whole.specs.Signed.{Under};
+// Charges: grains to the nearest cent, halves to the even one.
 use streams::print;
 use streams::print_signed;
 
-fn show(grains: i64)
-    requires { ⌜ Under grains mostGrains ⌝ }
-{
+fn show(grains: i64) {
     print(b"grains ");
     print_signed(grains);
     print(b": ");
@@ -21,5 +17,8 @@ pub fn show_charges() {
     show(-5000000);
     show(14999999);
     show(-14999999);
+    show(15000000);
     show(-15000000);
+    show(25000000);
+    show(-25000000);
 }

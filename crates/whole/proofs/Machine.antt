@@ -6,6 +6,7 @@
 --     fits, stored   of a `Num`: the need of the operation that makes it, and that what is stored is the number meant
 --     element-fits   an element of an array fits
 --     OneLess        what is computed of the size of any number below zero, also of the least, which no `Num` is
+--     quotient, rest of any number by any natural: these are each a `Num`
 use mathlib.Core.Path.{_≡_, refl, sym, _∙_, ap, ap₂, subst}
 use Prim.Native.Nat.{ℕ, zero, suc, _+_, _-_, _*_, _<_}
 use mathlib.Core.Bool.{Bool, true, false, not, _&&_}
@@ -26,7 +27,7 @@ use denote.Signed.{SInt}
 use Rattle.whole.specs.Signed.{Under, Upto}
 use borrow.Author.Tests.{ltb-true, le-ltb, eq-eqb, ne-eqb, eqb-true, eqb-false}
 use Rattle.whole.proofs.Tests.{split, never}
-use Rattle.whole.proofs.Linear.{abs-zero}
+use Rattle.whole.proofs.Linear.{zr, all1, abs-zero}
 use Rattle.whole.proofs.Ranges.{_u+_, _u-_, _u*_, u-lit, u-upto, u-fits, u-more}
 use Rattle.whole.proofs.Division.{quot-under, rem-under}
 
@@ -223,6 +224,16 @@ one-less (negsuc n) f t = record {
 pub none-less : (z : ℤ) → SFits w64 z → ltZ (back z) (pos 0) ≡ false → T (nonNeg (back z)) × Fits w64 (natAbs (back z))
 none-less (pos n) f t = rw (read-back f) (tt, record { fits = omega (arith, f .sfits) })
 none-less (negsuc n) f t = never refl (rw (read-back f) at t)
+
+-- ---- quotient and remainder of a number by a natural other than 0, each given by what is read back of it
+pub any-under : (z : ℤ) → SFits w64 z → Under z 9223372036854775808
+any-under = all1 _ (λ z. simp zr (omega arith))
+
+abbrev pub quotient : {r s z : ℤ} {d k : ℕ} → r ≡ z → s ≡ pos d → Under (quotZ z (pos d)) k → Num
+quotient p q u = result (ap₂ quotZ p q) u
+
+abbrev pub rest : {r s z : ℤ} {d k : ℕ} → r ≡ z → s ≡ pos d → Under (remZ z (pos d)) k → Num
+rest p q u = result (ap₂ remZ p q) u
 
 -- ---- an array of signed numbers
 

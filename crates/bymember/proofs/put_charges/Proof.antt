@@ -31,8 +31,7 @@ shared-slice-copy-out-charge-of : tie.Need-shared-slice-copy-out-charge-of Inv-l
 shared-slice-copy-out-charge-of c = omega arith
 
 charge-of-requires : tie.Need-charge-of-requires Inv-loop μ-loop
-unfolding emptyLine
-charge-of-requires c κs = let t = c .before .before in t .before .pre .2 (t .loop .m) (omega arith)
+charge-of-requires c κs = tt
 
 -- the offset of charges[m]
 mul-t10 : tie.Need-mul-t10 Inv-loop μ-loop

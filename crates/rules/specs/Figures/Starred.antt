@@ -1,4 +1,4 @@
--- The starred figures of document 01, "Figures to check by": one statement over one list of cases.
+-- The starred figures of document 01, "Figures to check by", and those of document 02, A8: one statement over one list of cases.
 use Prim.Native.Nat.{ℕ}
 use mathlib.Core.Bool.{true}
 use mathlib.Core.List.{List, [], _∷_}
@@ -38,8 +38,13 @@ starred =
     ∷ sharesOf (pos 10) (1 ∷ 1 ∷ 1 ∷ []) is (pos 4 ∷ pos 3 ∷ pos 3 ∷ [])
     ∷ sharesOf (negℤ (pos 10)) (1 ∷ 1 ∷ 1 ∷ []) is (negℤ (pos 4) ∷ negℤ (pos 3) ∷ negℤ (pos 3) ∷ [])
     ∷ sharesOf (pos 5) (2 ∷ 1 ∷ []) is (pos 3 ∷ pos 2 ∷ [])
-    ∷ cents (pos 5000000) is pos 1
-    ∷ cents (negℤ (pos 5000000)) is negℤ (pos 1)
+    -- halves go to the even cent
+    ∷ cents (pos 5000000) is pos 0
+    ∷ cents (negℤ (pos 5000000)) is pos 0
+    ∷ cents (pos 15000000) is pos 2
+    ∷ cents (negℤ (pos 15000000)) is negℤ (pos 2)
+    ∷ cents (pos 25000000) is pos 2
+    ∷ cents (negℤ (pos 25000000)) is negℤ (pos 2)
     ∷ write (columns 7) (negℤ (pos 123)) is record { verdict = accepted; field = bytes "  -1.23" }
     ∷ write (columns 5) (negℤ (pos 123)) is record { verdict = accepted; field = bytes "-1.23" }
     ∷ write (columns 4) (negℤ (pos 123)) is record { verdict = refusedAt 9 0; field = columns 4 }

@@ -10,11 +10,11 @@ use mir.Val.{toZ}
 use Rattle.whole.specs.Below.{totalBelow}
 use Rattle.whole.specs.Signed.{Under}
 use Rattle.whole.proofs.Totals.{total-none}
-use Rattle.whole.proofs.Division.{nearest-under}
 use Rattle.whole.proofs.Machine as Machine
-use Rattle.whole.proofs.Machine.{Num, gives, stored}
-use Rattle.rules.specs.Charge.{cents, nearestCent}
+use Rattle.whole.proofs.Machine.{Num, stored}
+use Rattle.rules.specs.Charge.{cents}
 use Rattle.rules.specs.Refusals.{mostGrains}
+use Rattle.rules.proofs.Rounding.{cents-under}
 use Rattle.bymember.proofs.Finals.{number-fits, number-added}
 use Rattle.bymember.proofs.neutrality.sum_of_cents.Statement.{statement}
 use Rattle.bymember.proofs.neutrality.sum_of_cents.Tie as tie
@@ -33,8 +33,8 @@ loop-holds c = (omega arith, sym (total-none _))
 
 -- an amount that row 7 lets pass is at most so many cents
 cents-small : {z : ℤ} → Under z mostGrains → Under (cents z) 400000000000
-unfolding cents nearestCent
-cents-small {z} u = nearest-under z 5000000 mostGrains (omega arith) u
+unfolding cents
+cents-small {z} u = cents-under 10000000 400000000000 (omega arith) z u
 
 -- a turn's place is there, and no amount so far is too large
 module _ (c : tie.In-loop Inv-loop μ-loop) where
@@ -65,7 +65,7 @@ shared-slice-copy-out-cents : tie.Need-shared-slice-copy-out-cents Inv-loop μ-l
 shared-slice-copy-out-cents c = omega arith
 
 cents-requires : tie.Need-cents-requires Inv-loop μ-loop
-cents-requires c κs = gives mostGrains (exact (c .before)) tt tt
+cents-requires c κs = tt
 
 -- the amount's cents are worked
 module _ (c : tie.After-cents Inv-loop μ-loop) where

@@ -1,7 +1,8 @@
 -- `tenminutes::charges::charge_in` meets its contract: the amount of the nets that were put in the room, in cents.
 use mathlib.Core.Path.{_≡_, _∙_, ap}
+use native.Mathlib.Omega.{arith}
 use borrow.Author.Needs.{needs, sfits-of}
-use Rattle.whole.proofs.Machine.{Num, result, gives, stored, read-back}
+use Rattle.whole.proofs.Machine.{Num, result, stored, read-back}
 use Rattle.rules.specs.Charge.{centsOf}
 use Rattle.rules.specs.Record.{Hour, zones}
 use Rattle.rules.specs.TenMinutes.{tenMinutesIn, tenMinutesAmount, tenMinutesCharge}
@@ -32,8 +33,8 @@ module _ (c : tie.After-amount) where
   abbrev exact : Num
   exact = result amount-worked (amount-under (begun c .pre .0 .hour-kept) (begun c .args .member))
 
-cents-requires : tie.Need-cents-requires
-cents-requires c κs = gives 3686400000000000000 (exact c) tt tt
+cents-of-requires : tie.Need-cents-of-requires
+cents-of-requires c κs = omega arith
 
 -- room: &mut [i64]
 same-length : tie.Need-same-length
@@ -41,7 +42,7 @@ same-length c = search needs
 
 returns : tie.Need-returns
 unfolding tenMinutesCharge
-returns c = read-back (sfits-of (c .cents .ok)) ∙ c .cents .ensures ∙ ap (centsOf 240000000) (stored (exact (c .before)) tt)
+returns c = read-back (sfits-of (c .cents-of .ok)) ∙ c .cents-of .ensures ∙ ap (centsOf 240000000) (stored (exact (c .before)) tt)
 
 pub charge-in-spec : {M : Type 1} → statement M
-charge-in-spec = tie.close (tie.spec put-nets-requires amount-requires cents-requires same-length returns)
+charge-in-spec = tie.close (tie.spec put-nets-requires amount-requires cents-of-requires same-length returns)
