@@ -36,16 +36,17 @@ def two_zones():
 
 
 def left_over():
-    """A negative UFE that does not go into the demands, equal remainders, and half a cent."""
+    """A negative UFE that does not go into the demands, equal remainders, and half a cent behind an even and an odd number of cents."""
     return Hour(
         number=1_401, members=5, prices=[6_500], areas=[[0, 619, 20]],
         records=[
             record(PROFILE_LOAD, 2, 0, S=420, A=400),
             record(REAL_TIME_LOAD, 1, 0, S=690, A=700),
-            record(GENERATOR, 0, 0, S=2_000, A=1_901, M=2_400, F=9_980, H=9_973),
+            record(GENERATOR, 1, 0, S=2_000, A=1_901, M=2_400, F=9_980, H=9_973),
             record(REAL_TIME_LOAD, 2, 0, S=700, A=700),
             record(PROFILE_LOAD, 3, 0, S=700, A=700),
             record(EXPORT, 4, 0, S=40, A=39),
+            record(EXPORT, 0, 0, S=37, A=40),
         ])
 
 

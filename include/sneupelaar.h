@@ -111,11 +111,11 @@ typedef struct {
 
 /* Settles an hour file. Lengths are in elements.
  *
- * Accepted: for each member m of the hour, lines[m] is its exact amount and record count, charges[m] its charge in cents and finals[m]
- * its final amount in cents, which is the charge minus its share of the sum of all charges; the finals add up to 0. For each record i,
- * shares[i] is its share of its area's UFE, 0 where it is no load, and deviations[i] its deviation, both in 1/10,000 kWh; ufe has a
- * figure for each area of the hour and 0 past them. What the buffers held there isn't read, and every element past the hour's members or
- * records is unchanged. A line's padding may change.
+ * Accepted: for each member m of the hour, lines[m] is its exact amount and record count; charges[m] its charge, the amount rounded to the
+ * nearest cent, half a cent to the even one; and finals[m] its final amount in cents, the charge minus its share of the sum of all charges.
+ * The finals add up to 0. For each record i, shares[i] is its share of its area's UFE, 0 where it is no load, and deviations[i] its
+ * deviation, both in 1/10,000 kWh; ufe has a figure for each area of the hour and 0 past them. What the buffers held there isn't read, and
+ * every element past the hour's members or records is unchanged. A line's padding may change.
  *
  * Refused (1 to 7, 11, 12, 14): every buffer is unchanged, and ufe is all 0. 11 is answered where lines, charges or finals are fewer than
  * the hour's members, or shares or deviations fewer than its records. */
@@ -125,8 +125,8 @@ sneupelaar_settled sneupelaar_settle(const uint8_t *file, size_t file_length, sn
 
 /* Settles a ten-minute file (docs/FORMAT.md): at most 8,704 bytes, four records a block. charges_length is in elements.
  *
- * Accepted: for each member m of the hour, charges[m] is its charge in cents. What was held there isn't read, and every element past the
- * hour's members is unchanged.
+ * Accepted: for each member m of the hour, charges[m] is its charge in cents, rounded once, as settling rounds. What was held there isn't
+ * read, and every element past the hour's members is unchanged.
  *
  * Refused (1 to 5, then 11, in this order): charges is unchanged. 11 is answered where charges are fewer than the hour's members. */
 sneupelaar_answer sneupelaar_settle_ten_minutes(const uint8_t *file, size_t file_length, int64_t *charges, size_t charges_length);

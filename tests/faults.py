@@ -13,9 +13,9 @@ from hour_bytes import EXPORT, GENERATOR, IMPORT, LETTERS, MOST_PRICE, MOST_TIE,
 
 def nobody_demands(rng, hour):
     """Everybody keeps to the plan and takes nothing, but for some exports under their plan, each at a price of the
-    same sign and at least half a cent a kWh: so N isn't 0."""
+    same sign and over half a cent a kWh: so N isn't 0."""
     way = rng.choice([1, -1])
-    hour.prices = [way * rng.randint(500, MOST_PRICE) for _ in hour.prices]
+    hour.prices = [way * rng.randint(501, MOST_PRICE) for _ in hour.prices]
     under = rng.sample(hour.records, min(len(hour.records), rng.randint(1, 3)))
     for each in under:
         each.update(record(EXPORT, each["member"], each["area"]))

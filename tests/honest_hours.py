@@ -147,18 +147,28 @@ def most_units_left(rng):
     return Hour(rng.randrange(10_000), 32, [rng.randint(-MOST_PRICE, MOST_PRICE)], areas, records)
 
 
-def halves(rng):
-    """Charges that end on exactly half a cent: odd numbers of kWh at odd multiples of 500 cents a MWh
+def halves(rng, most_zones=4, most_areas=8):
+    """Amounts that end on exactly half a cent: odd numbers of kWh at odd multiples of 500 cents a MWh
     make odd multiples of 5,000,000 grains. Loads that took what was planned and came in by the ties carry N."""
-    zones = rng.randint(1, 4)
+    zones = rng.randint(1, most_zones)
     prices = [500 * (2 * rng.randint(-9, 9) + 1) for _ in range(zones)]
-    areas = random_areas(rng, zones, rng.randint(1, 8), 0)
+    areas = random_areas(rng, zones, rng.randint(1, most_areas), 0)
     members = rng.randint(1, 32)
     records = [record(EXPORT, rng.randrange(members), rng.randrange(len(areas)),
                       S=rng.randint(0, 9), A=rng.randint(0, 9), J=rng.randint(-9, 9))
                for _ in range(rng.randint(1, 40))]
     records += [load_as_planned(rng, rng.randrange(members), areas, rng.randint(1, 9)) for _ in range(rng.randint(1, 9))]
     return Hour(rng.randrange(10_000), members, prices, areas, records)
+
+
+def a_grain_from_halves(rng):
+    """The same, and each member has a grain more or less: an import that was scheduled nothing deviates by a unit, in a zone of its own at
+    a cent a MWh."""
+    hour = halves(rng, most_zones=3, most_areas=7)
+    hour.records += [record(IMPORT, member, len(hour.areas), J=rng.choice([1, -1]), F=1, H=1) for member in range(hour.members)]
+    hour.areas.append([len(hour.prices), 0, 0])
+    hour.prices.append(1)
+    return hour
 
 
 def no_demand_no_ufe(rng):
@@ -287,10 +297,10 @@ def charges_that_cancel(rng):
 
 
 def charges_that_cancel_by_rounding(rng):
-    """Half a cent on one side, which is charged as a cent, and a whole cent on the other."""
+    """A cent and a half on one side, two and a half on the other: each is charged as two."""
     members, some = some_members(rng, 2)
     way = rng.choice([1, -1])
-    return nobody_takes_anything(rng, members, CENT_A_KWH // 2, [(some[0], way), (some[1], -2 * way)])
+    return nobody_takes_anything(rng, members, CENT_A_KWH // 2, [(some[0], 3 * way), (some[1], -5 * way)])
 
 
 def under_half_a_cent(rng):
@@ -300,12 +310,19 @@ def under_half_a_cent(rng):
     return nobody_takes_anything(rng, members, price, [(member, rng.choice([1, 1, -1])) for member in some])
 
 
+def half_cents_for_nothing(rng):
+    """Half a cent each, on either side: 0 is the even cent."""
+    members, some = some_members(rng, 1)
+    return nobody_takes_anything(rng, members, CENT_A_KWH // 2, [(member, rng.choice([1, 1, -1])) for member in some])
+
+
 def price_of_nothing(rng):
     members, some = some_members(rng, 1)
     return nobody_takes_anything(rng, members, 0, [(member, rng.randint(-99, 99)) for member in some])
 
 
-NO_DEMAND_AND_NO_N = (exports_as_planned, charges_that_cancel, charges_that_cancel_by_rounding, under_half_a_cent, price_of_nothing)
+NO_CHARGES = (exports_as_planned, under_half_a_cent, half_cents_for_nothing, price_of_nothing)
+NO_DEMAND_AND_NO_N = (*NO_CHARGES, charges_that_cancel, charges_that_cancel_by_rounding)
 
 
 # And they are refused with 12 where N isn't 0.
@@ -317,8 +334,8 @@ def one_record_charged(rng):
     kwh = rng.choice([1, rng.randint(1, 99)])
     over = rng.choice([record(EXPORT, rng.randrange(members), rng.randrange(len(areas)), A=kwh),
                        record(rng.choice(LOADS), rng.randrange(members), rng.randrange(len(areas)), S=kwh)])
-    # from half a cent on
-    return Hour(rng.randrange(10_000), members, [rng.choice([500, -500, rng.randint(500, MOST_PRICE)])], areas, [over])
+    # from just over half a cent on
+    return Hour(rng.randrange(10_000), members, [rng.choice([501, -501, rng.randint(501, MOST_PRICE)])], areas, [over])
 
 
 def several_charged(rng):
@@ -330,13 +347,20 @@ def several_charged(rng):
 
 
 def cancelling_before_rounding(rng):
-    """Two halves of a cent against a whole one: the amounts cancel, the charges don't."""
+    """Two halves of a cent, which aren't charged, against a whole one: the amounts cancel, the charges don't."""
     members, some = some_members(rng, 3)
     way = rng.choice([1, -1])
     return nobody_takes_anything(rng, members, CENT_A_KWH // 2, [(some[0], way), (some[1], way), (some[2], -2 * way)])
 
 
-NO_DEMAND_FOR_N = (one_record_charged, several_charged, cancelling_before_rounding)
+def cancelling_away_from_zero(rng):
+    """A cent and a half, charged as two, against two halves, charged as nothing: halves away from zero would cancel."""
+    members, some = some_members(rng, 3)
+    way = rng.choice([1, -1])
+    return nobody_takes_anything(rng, members, CENT_A_KWH // 2, [(some[0], 3 * way), (some[1], -way), (some[2], -way)])
+
+
+NO_DEMAND_FOR_N = (one_record_charged, several_charged, cancelling_before_rounding, cancelling_away_from_zero)
 
 
 # ---- Hours at the edges
@@ -392,5 +416,5 @@ def largest_amounts(rng):
 
 
 HONEST = (printed_case, few_records, ordinary, many_records, no_records, full_file, full_blocks,
-          equal_remainders, most_units_left, halves, no_demand_no_ufe, unavailable_energy, schedules_at_maximum,
-          ends_everywhere, largest_amounts, cents_left_over, largest_products)
+          equal_remainders, most_units_left, halves, a_grain_from_halves, no_demand_no_ufe, unavailable_energy,
+          schedules_at_maximum, ends_everywhere, largest_amounts, cents_left_over, largest_products)

@@ -1,9 +1,9 @@
 """Hour files whose answers are known by hand, from document 01's table: refusals 1 to 5 at a first, a middle and a last place, the ends of
 several ranges, the longest file, the highest price, and two faults of which the table's order or the first place decides; from document
-02, A1: hours in which nobody takes anything, with refusal 12 and without; from A3: imports whose word 4 isn't zero, and an hour with
-losses of one; and from A6: generators that are scheduled above their maximum, at it and below it. And heads and records to be written
-(document 02, A2): those of these files, and inputs of lengths that are right and wrong. And members to be explained (A5): of the printed
-case and other hours that are worked by hand, and of these files.
+02, A1 and A8: hours in which nobody takes anything, with refusal 12 and without, of half cents too; from A3: imports whose word 4 isn't
+zero, and an hour with losses of one; and from A6: generators that are scheduled above their maximum, at it and below it. And heads and
+records to be written (document 02, A2): those of these files, and inputs of lengths that are right and wrong. And members to be explained
+(A5): of the printed case and other hours that are worked by hand, and of these files.
 
 `cases()` gives each file's name, the first line of its statement, and its bytes; `cases_to_write()` each input's name, what program
 `write_hour` must write, and the input; `cases_to_explain()` the same of program `explanation`. No program had a part in those lines, and
@@ -158,15 +158,19 @@ def of_no_demand():
     yield "no-demand-a-cent", refused, idle_hour(1_000, (1, 1)).encode()  # 1
     yield "no-demand-minus-a-cent", refused, idle_hour(1_000, (2, -1), loads=[idle_load]).encode()  # -1
     yield "no-demand-load-that-took-nothing", refused, idle_hour(1_000, loads=[short_load]).encode()  # -1
-    yield "no-demand-half-a-cent", refused, idle_hour(500, (0, 1)).encode()  # 1, rounded from half a cent
-    yield "no-demand-grains-cancel", refused, idle_hour(500, (0, 1), (1, 1), (2, -2)).encode()  # 1 + 1 - 1
+    yield "no-demand-over-half-a-cent", refused, idle_hour(501, (0, 1)).encode()  # 1
+    yield "no-demand-one-and-a-half", refused, idle_hour(500, (0, 3)).encode()  # 2, the even cent
+    yield "no-demand-grains-cancel", refused, idle_hour(500, (0, 1), (1, 1), (2, -2)).encode()  # 0 + 0 - 1, of 0.5 + 0.5 - 1
+    yield "no-demand-three-halves", refused, idle_hour(500, (0, 3), (1, -1), (2, -1)).encode()  # 2 + 0 + 0, of 1.5 - 0.5 - 0.5
     yield "no-demand-both-directions", refused, idle_hour(1_000, (0, 30), (1, -10), (2, -19)).encode()  # 30 - 10 - 19
     yield "no-demand-no-records", of_records(0), idle_hour(1_000).encode()
     yield "no-demand-as-planned", of_records(2), idle_hour(1_000_000, (1, 0), loads=[idle_load]).encode()
     yield "no-demand-under-half-a-cent", of_records(1), idle_hour(499, (0, 1)).encode()
+    yield "no-demand-half-a-cent", of_records(1), idle_hour(500, (0, 1)).encode()  # 0, the even cent
+    yield "no-demand-minus-half-a-cent", of_records(1), idle_hour(500, (0, -1)).encode()
     yield "no-demand-price-0", of_records(2), idle_hour(0, (0, 99), (1, 3)).encode()
     yield "no-demand-charges-cancel", of_records(3), idle_hour(-1_000, (0, 30), (1, -10), (2, -20)).encode()
-    yield "no-demand-cents-cancel", of_records(2), idle_hour(500, (0, 1), (1, -2)).encode()  # 1 - 1, of half a cent less a cent
+    yield "no-demand-cents-cancel", of_records(2), idle_hour(500, (0, 3), (1, -5)).encode()  # 2 - 2, of 1.5 - 2.5
     yield "one-kwh-of-demand", of_records(2), idle_hour(1_000, (1, 1), ties=(1, 0), loads=[one_kwh]).encode()
     yield "area-before-no-demand", "refused 6 at 0", idle_hour(1_000, (1, 1), ties=(1, 0)).encode()
     yield "record-before-no-demand", "refused 5 at 1", words(idle_hour(1_000, (1, 1), (1, 1)).blocks(), (*field(1, 11), 1))
@@ -305,17 +309,17 @@ def explanation(decided, generation=0, load=0, imported=0, exported=0, share=0):
 
 
 def heads_hour():
-    """Seven members and an area at a cent a kWh, so that a kWh is 10,000,000 grains and a unit 1,000.
+    """Ten members and an area at a cent a kWh, so that a kWh is 10,000,000 grains and a unit 1,000.
     UFE: 10,000 x (160 - 130) = 300,000 units, all to member 1's load, since nothing is generated and nothing imported is lost."""
     def imported(member, j, h=10_000):
         """Deviation: 0 - (0 - J) x H."""
         return hours.record(hours.IMPORT, member, 0, J=j, F=10_000, H=h)
 
-    return hours.Hour(7, 7, [1_000], [[0, 160, 0]], [
+    return hours.Hour(7, 10, [1_000], [[0, 160, 0]], [
         hours.record(hours.EXPORT, 0, 0, A=30), imported(0, 30),
         hours.record(hours.PROFILE_LOAD, 1, 0, S=100, A=130),
         hours.record(hours.EXPORT, 2, 0, S=90), hours.record(hours.GENERATOR, 2, 0, S=40, M=40, F=10_000, H=10_000), imported(2, 60),
-        imported(3, 1, 4_999), imported(4, 1, 5_000), imported(5, -1, 5_000)])
+        *(imported(3 + at, *each) for at, each in enumerate(((1, 4_999), (1, 5_000), (-1, 5_000), (1, 5_001), (-1, 5_001), (1, 15_000))))])
 
 
 def of_members():
@@ -330,8 +334,13 @@ def of_members():
         "larger-with-the-other-sign": explanation("import", generation=400_000_000, imported=600_000_000, exported=-900_000_000),
         # 4,999 units are under half a cent: charged as nothing
         "none-with-an-amount": explanation("none", imported=4_999_000),
-        "half-a-cent": explanation("import", imported=5_000_000),
-        "minus-half-a-cent": explanation("import", imported=-5_000_000),
+        # so is half a cent, since 0 is the even cent; a unit more is charged
+        "half-a-cent": explanation("none", imported=5_000_000),
+        "minus-half-a-cent": explanation("none", imported=-5_000_000),
+        "over-half-a-cent": explanation("import", imported=5_001_000),
+        "minus-over-half-a-cent": explanation("import", imported=-5_001_000),
+        # two cents
+        "one-and-a-half": explanation("import", imported=15_000_000),
         "none-without-records": explanation("none"),
     }
     for member, (name, text) in enumerate(texts.items()):

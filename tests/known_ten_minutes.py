@@ -2,7 +2,8 @@
 of a kWh, rounding, the largest sum, each end of each range and one past it, and refusals 1 to 5 at a first, a middle and a last place.
 
 `cases()` gives each as a `Known`. No program had a part in its answer, and nothing here is left to chance. Where the prices are 1,000
-cents a MWh, a kWh is a cent. A charge of half a cent is away from zero; each such case has `half` in its name.
+cents a MWh, a kWh is a cent. A sum that ends on half a cent is charged the even cent (document 02, A8); a case that this decides has `half`
+in its name.
 """
 
 import itertools
@@ -143,25 +144,32 @@ def of_ramps():
 
 def of_sixths():
     first, last = [alike(0)], [alike(0)]
-    first[0][0] = first[0][6] = 3_000
+    first[0][0] = first[0][6] = 9_000
     last[0][5] = last[0][11] = 1_000
-    # -1 / 6 kWh in each interval, of which the first costs 3 cents a kWh: half a cent, and just under it
-    yield accepted("sixth-half", hour_of(own(EXPORT, S=1), prices=first), -1)
-    yield accepted("sixth-under", hour_of(own(EXPORT, S=1), prices=[[2_999, 0, 0, 0, 0, 0] * 2]), 0)
-    # 12 / 24 and 11 / 24 kWh at a cent, in the last interval and in the first
-    yield accepted("ramp-half", hour_of(own(GENERATOR, next=12), prices=last), 1)
-    yield accepted("ramp-under", hour_of(own(GENERATOR, next=11), prices=last), 0)
-    yield accepted("ramp-before-half", hour_of(own(REAL_TIME_LOAD, before=4), prices=first), -1)  # 4 / 24 x 3
-    # a reading of 1 kWh is a sixth an interval: 3 / 6
-    yield accepted("reading-half", hour_of(own(PROFILE_LOAD, A=1), prices=first), 1)
-    # an import's actual is a sixth: 1 / 6 x (2 - 1) x 3
-    yield accepted("import-half", hour_of(own(IMPORT, S=1, F=20_000), prices=first), 1)
+    # -1 / 6 kWh in each interval, of which the first costs 9 cents a kWh: 1.5 cents, and just under that
+    yield accepted("sixth-half", hour_of(own(EXPORT, S=1), prices=first), -2)
+    yield accepted("sixth-under", hour_of(own(EXPORT, S=1), prices=[[8_999, 0, 0, 0, 0, 0] * 2]), -1)
+    # 36 / 24 and 35 / 24 kWh at a cent in the last interval; 12 / 24, which is half a cent
+    yield accepted("ramp-half", hour_of(own(GENERATOR, next=36), prices=last), 2)
+    yield accepted("ramp-under", hour_of(own(GENERATOR, next=35), prices=last), 1)
+    yield accepted("ramp-half-a-cent", hour_of(own(GENERATOR, next=12), prices=last), 0)
+    # in the first interval 4 / 24 x 9
+    yield accepted("ramp-before-half", hour_of(own(REAL_TIME_LOAD, before=4), prices=first), -2)
+    # a reading of 1 kWh is a sixth an interval: 9 / 6
+    yield accepted("reading-half", hour_of(own(PROFILE_LOAD, A=1), prices=first), 2)
+    # an import's actual is a sixth: 1 / 6 x (2 - 1) x 9
+    yield accepted("import-half", hour_of(own(IMPORT, S=1, F=20_000), prices=first), 2)
     yield accepted("import-as-scheduled", hour_of(own(IMPORT, S=99_999, F=9_000, H=9_000)), 0)
     # no reading is 0 in every interval, and so is the deviation of a schedule of 0
     yield accepted("reading-of-zero", hour_of(own(PROFILE_LOAD)), 0)
 
 
 # ---- Rounding, once over all zones and intervals
+
+# Half cents behind 0, 1 and 2 whole cents: their names, the price of a kWh that costs them, and the even cent.
+HALVES = (("half", 500, 0), ("one-and-a-half", 1_500, 2), ("two-and-a-half", 2_500, 2), ("minus-half", -500, 0),
+          ("minus-one-and-a-half", -1_500, -2), ("minus-two-and-a-half", -2_500, -2))
+
 
 def of_rounding():
     def priced(*prices, kwh=(1, 0, 0, 0, 0, 0)):
@@ -170,8 +178,8 @@ def of_rounding():
         return hour_of(*records, prices=[alike(price) for price in prices], areas=range(len(prices)))
 
     yield accepted("three-zones", priced(400, 400, 400), 1)  # 1.2, and 0 each
-    yield accepted("two-zones-half", priced(500, 500), 1)    # 1, and 1 each
-    yield accepted("zones-cancel-half", priced(500, -400), 0)  # 0.1, and 1 - 0
+    yield accepted("two-zones-half", priced(500, 500), 1)    # 1, and 0 each
+    yield accepted("zones-cancel-half", priced(1_500, -1_400), 0)  # 0.1, and 2 - 1
     yield accepted("three-intervals", priced(400, kwh=(1, 0, 1, 0, 1, 0)), 1)
     yield accepted("two-intervals-half", priced(500, kwh=(1, 1, 0, 0, 0, 0)), 1)
     # two records of a zone, 0.3 each
@@ -179,10 +187,21 @@ def of_rounding():
     # two members, 0.4 each: each is rounded by itself
     yield accepted("two-members", hour_of(own(EXPORT, J=[1, 0, 0, 0, 0, 0]), interval_record(EXPORT, 1, 0, J=[1, 0, 0, 0, 0, 0]),
                                           prices=[alike(400)], members=2), 0, 0)
-    for name, price, cents in (("half", 500, 1), ("under", 499, 0), ("over", 501, 1), ("one-and-a-half", 1_500, 2),
-                               ("two-and-a-half", 2_500, 3), ("minus-half", -500, -1), ("minus-under", -499, 0),
-                               ("minus-over", -501, -1), ("minus-one-and-a-half", -1_500, -2)):
+    for name, price, cents in HALVES:
         yield accepted(f"rounded-{name}", priced(price), cents)
+
+
+def of_near_halves():
+    """Just under each of these half cents, and just over: a kWh costs a thousandth of a cent less or more; or a 24th of a grain, the least
+    that there is, is beside it: a ramp of 1 kWh times an F of 1 at a cent a MWh in a zone of its own."""
+    export, ramp = own(EXPORT, J=[1, 0, 0, 0, 0, 0]), interval_record(GENERATOR, 0, 1, next=1, F=1, H=1)
+    for price in (price for _, price, _ in HALVES):
+        way, whole = (1 if price > 0 else -1), abs(price) // 1_000
+        for side, step, size in (("under", -way, whole), ("over", way, whole + 1)):
+            name = f"{side}-{price}".replace("--", "-minus-")
+            yield accepted(f"rounded-{name}", hour_of(export, prices=[alike(price + step)]), way * size)
+            beside = hour_of(export, ramp, prices=[alike(price), alike(step)], areas=(0, 1))
+            yield accepted(f"rounded-a-24th-{name}", beside, way * size)
 
 
 def of_sizes():
@@ -361,6 +380,6 @@ def of_hourly_files():
 
 
 def cases():
-    return itertools.chain(of_kinds(), of_prices(), of_nets(), of_ramps(), of_sixths(), of_rounding(), of_sizes(), of_interval_ends(),
-                           of_ends(), of_unused_words(), of_price_ends(), of_lengths(), of_blocks(), of_heads(), of_records(),
-                           of_two_faults(), of_hourly_files())
+    return itertools.chain(of_kinds(), of_prices(), of_nets(), of_ramps(), of_sixths(), of_rounding(), of_near_halves(), of_sizes(),
+                           of_interval_ends(), of_ends(), of_unused_words(), of_price_ends(), of_lengths(), of_blocks(), of_heads(),
+                           of_records(), of_two_faults(), of_hourly_files())

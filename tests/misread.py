@@ -358,6 +358,63 @@ def of_rounding():
                         grains=[-5_001_000, 0])
 
 
+# Half cents in grains, behind 0, 1 and 2 whole cents, and their charges: the even cent (document 02, A8). A grain less in size is charged
+# the whole cents before the half, and a grain more one cent more than these. Then misreadings, with the halves that each rounds otherwise.
+HALVES = {5_000_000: 0, 15_000_000: 2, 25_000_000: 2, -5_000_000: 0, -15_000_000: -2, -25_000_000: -2}
+HALVES_MISREAD = {
+    "halves away from zero": (5_000_000, 25_000_000, -5_000_000, -25_000_000),   # 1, 3, -1, -3
+    "halves towards zero": (15_000_000, -15_000_000),                            # 1, -1
+    "halves to the odd cent": tuple(HALVES),                                     # 1, 1, 3, -1, -1, -3
+    "halves upwards": (5_000_000, 25_000_000, -15_000_000),                      # 1, 3, -1
+    "halves downwards": (15_000_000, -5_000_000, -25_000_000),                   # 1, -1, -3
+}
+
+
+def of_grains(name, kwh, units, charge):
+    """Member 0's imports, scheduled nothing and at a cent a MWh, where a unit is a grain: one deviates by so many kWh and one by so many
+    units, since a deviation is J x H. Member 1's load took what it planned and carries N, which is member 0's charge."""
+    own = [record(IMPORT, 0, 0, J=kwh, **LEVEL), record(IMPORT, 0, 0, J=units, F=1, H=1)]
+    hour, grains = Hour(7, 2, [1], [[0, 1, 0]], [*own, record(PROFILE_LOAD, 1, 0, S=1, A=1)]), 10_000 * kwh + units
+    yield from accepted(name, hour, [10_000 * kwh, units, 0], [charge, 0], [charge, -charge], grains=[grains, 0])
+    decided = "import" if charge else "none"
+    yield name, "explanation", (), struct.pack("<I", 0) + hour.encode(), \
+        f"generation 0\nload 0\nimport {grains}\nexport 0\nshare 0\ndecided {decided}\n".encode()
+
+
+def of_halves():
+    for name, halves in HALVES_MISREAD.items():
+        for half in halves:
+            yield from of_grains(f"{name}: {half:,} grains", half // 10_000, 0, HALVES[half])
+    for half in HALVES:
+        way, whole = (1 if half > 0 else -1), abs(half) // 10_000_000
+        yield from of_grains(f"outwards from just under a half: a grain under {half:,}", half // 10_000, -way, way * whole)
+        yield from of_grains(f"inwards up to just over a half: a grain over {half:,}", half // 10_000, way, way * (whole + 1))
+
+
+def half_cents(*exported, loads=()):
+    """A member for each export, so many kWh over its plan or, below zero, under it, at half a cent a kWh; and these loads, which took what
+    came in by the tie."""
+    exports = [record(EXPORT, member, 0, S=max(0, -kwh), A=max(0, kwh)) for member, kwh in enumerate(exported)]
+    return Hour(7, len(exported) + len(loads), [500], [[0, sum(load["A"] for load in loads), 0]], [*exports, *loads])
+
+
+def of_halves_in_n():
+    """N is the sum of the rounded charges."""
+    # three halves and 1.5: 0 + 0 + 0 + 2. N is 2, all of it member 4's. Away from zero or upwards N would be 5, towards zero or downwards
+    # 1, to the odd cent 4, and of the unrounded amounts 3.
+    hour = half_cents(1, 1, 1, 3, loads=[record(PROFILE_LOAD, 4, 0, S=10, A=10)])
+    for name in HALVES_MISREAD:
+        yield from accepted(f"{name}: another member's final", hour, [-10_000, -10_000, -10_000, -30_000, 0], [0, 0, 0, 2, 0],
+                            [0, 0, 0, 2, -2], grains=[5_000_000, 5_000_000, 5_000_000, 15_000_000, 0])
+    # 1.5, -0.5 and -0.5 without demand: 2 + 0 + 0, where away from zero it is 2 - 1 - 1 and no refusal
+    yield from refused("halves away from zero: row 12 of three", 12, 0, half_cents(3, -1, -1).encode())
+    # 1.5 and -2.5 without demand: 2 - 2 and no refusal, where away from zero it is 2 - 3, towards zero 1 - 2, to the odd cent and downwards
+    # 1 - 3
+    for name in ("halves away from zero", "halves towards zero", "halves to the odd cent", "halves downwards"):
+        yield from accepted(f"{name}: row 12 of two", half_cents(3, -5), [-30_000, 50_000], [2, -2], [2, -2],
+                            grains=[15_000_000, -25_000_000])
+
+
 # ---- Finals and row 12
 
 def of_finals():
@@ -392,4 +449,4 @@ def of_explanations():
 def runs():
     return itertools.chain(of_ends(), of_prices(), of_ties(), of_counts(), of_used_words(), of_head_words(), of_order(), of_writing(),
                            of_loads(), of_generators(), of_imports(), of_areas(), of_zones(), of_units_left(), of_rounding(),
-                           of_finals(), of_no_demand(), of_explanations())
+                           of_halves(), of_halves_in_n(), of_finals(), of_no_demand(), of_explanations())

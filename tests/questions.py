@@ -19,8 +19,10 @@ HEADS = ("generation", "load", "import", "export", "share")
 PAIRS = tuple(itertools.combinations(HEADS, 2))
 BOTH_WAYS = (1, -1)
 
-# Five hundred kWh at a cent a MWh are half a cent, the least that is charged.
-LEAST_CHARGED = 500
+# Five hundred kWh at a cent a MWh are half a cent, the most that is charged as nothing.
+HALF_A_CENT = 500
+LEAST_CHARGED = HALF_A_CENT + 1
+GRAINS = 10_000  # of a kWh at a cent a MWh
 
 # The input of program `explanation`; and what is known of its answer: (number, place) of a refusal, the name behind `decided`, or None.
 Made = namedtuple("Made", "name data expected")
@@ -130,24 +132,35 @@ def within_a_cent(rng):
     """The later of two heads is a kWh larger, which in whole cents doesn't show."""
     one, two = rng.choice(PAIRS)
     price, most = rng.choice([1, -1, rng.randint(-400, 400) or 1]), rng.randint(LEAST_CHARGED, 9_000)
-    while cents(price, most) != cents(price, most + 1):
+    while second.cents(GRAINS * price * most) != second.cents(GRAINS * price * (most + 1)):
         most += 1
     way = rng.choice(BOTH_WAYS)
     return about(rng, "within_a_cent", price, with_heads({one: way * most, two: way * (most + 1)}), two)
 
 
-def cents(price, kwh):
-    """The nearest cent, of an amount that is not negative."""
-    return (abs(price) * kwh + 500) // 1_000
-
-
-def half_a_cent(rng):
-    """The least that is charged; large heads cancel but for that."""
-    price = rng.choice([1, -1, 500, -500, 250, -4])
-    way, most = rng.choice(BOTH_WAYS), rng.randint(1_000, 9_000)
+def cancelling_but_for(rng, price, over, way):
+    """Large heads that cancel but for what `over` kWh cost at a cent a MWh, and the larger of them. `way` is the sign of what is left."""
+    turn, most = way if price > 0 else -way, rng.randint(1_000, 9_000)
     one, two = rng.sample(HEADS, 2)
-    kwh = with_heads({one: way * (most + LEAST_CHARGED // abs(price)), two: -way * most})
-    return about(rng, "half_a_cent", price, kwh, one)
+    return with_heads({one: turn * (most + over // abs(price)), two: -turn * most}), one
+
+
+def half_a_cent(way):
+    """The most that is charged as nothing."""
+    def make(rng):
+        price = rng.choice([1, -1, 500, -500, 250, -4])
+        kwh, _ = cancelling_but_for(rng, price, HALF_A_CENT, way)
+        return about(rng, "half_a_cent", price, kwh, "none")
+    return make
+
+
+def over_half_a_cent(way):
+    """The least that is charged, in thousandths of a cent."""
+    def make(rng):
+        price = rng.choice([1, -1, 501, -501, 167, -3])
+        kwh, one = cancelling_but_for(rng, price, LEAST_CHARGED, way)
+        return about(rng, "over_half_a_cent", price, kwh, one)
+    return make
 
 
 def anothers_share(rng):
@@ -167,7 +180,7 @@ def charged_as_nothing(way):
     """Under half a cent, on either side, as often as not by a hair; and heads that are far larger, or not."""
     def make(rng):
         price = rng.choice([1, -1, 499, -499, rng.randint(1, 499)])
-        over = rng.choice([1, (LEAST_CHARGED - 1) // abs(price)]) * (way if price > 0 else -way)
+        over = rng.choice([1, (HALF_A_CENT - 1) // abs(price)]) * (way if price > 0 else -way)
         one, two, three = rng.sample(HEADS, 3)
         most, some = rng.choice([0, rng.randint(1, 9_000)]), rng.choice([0, rng.randint(-9_000, 9_000)])
         kwh = with_heads({one: over + most - some, two: some, three: -most})
@@ -274,7 +287,9 @@ def a_byte_too_many(rng):
 
 
 ROUND = ([decided_by(head, way) for head in HEADS for way in BOTH_WAYS] + [tie_of(pair, way) for pair in PAIRS for way in BOTH_WAYS]
-         + [tie_of(HEADS, way) for way in BOTH_WAYS] + [larger_with_the_other_sign, within_a_cent, half_a_cent, anothers_share] * 2
+         + [tie_of(HEADS, way) for way in BOTH_WAYS]
+         + [larger_with_the_other_sign, within_a_cent, anothers_share] * 2
+         + [maker(way) for maker in (half_a_cent, over_half_a_cent) for way in BOTH_WAYS]
          + [charged_as_nothing(way) for way in BOTH_WAYS] * 2 + [heads_that_cancel, price_of_nothing, without_records]
          + [largest_head(way) for way in BOTH_WAYS] + [few_grains(way, most) for way in BOTH_WAYS for most in (9, 10, 1_000)]
          + [any_member(hours.honest(maker)) for maker in hours.HONEST] + [any_member(hours.two_faults), any_member(hours.scattered)]
@@ -351,7 +366,9 @@ SIDES = {
     "19 digits, below 0": lambda r: min(r.heads.values()) <= -10**18,
     "one digit, above 0": lambda r: any(0 < grains < 10 for grains in r.heads.values()),
     "one digit, below 0": lambda r: any(-10 < grains < 0 for grains in r.heads.values()),
-    "charged for half a cent": lambda r: r.explained and abs(r.amount) == second.GRAINS_IN_A_CENT // 2,
+    "none, half a cent above 0": lambda r: r.explained and r.amount == GRAINS * HALF_A_CENT,
+    "none, half a cent below 0": lambda r: r.explained and r.amount == -GRAINS * HALF_A_CENT,
+    "charged for just over half a cent": lambda r: r.explained and abs(r.amount) == GRAINS * LEAST_CHARGED,
     "none, amount above 0": lambda r: r.explained and r.charge == 0 and r.amount > 0,
     "none, amount below 0": lambda r: r.explained and r.charge == 0 and r.amount < 0,
     "none, heads that cancel": lambda r: r.explained and r.amount == 0 and any(r.heads.values()),

@@ -10,7 +10,7 @@ GRAINS_IN_A_CENT = 10_000_000
 MOST_GRAINS = 4 * 10**18
 
 
-# ---- The sums (document 003, D 2.1 and D 2.2; document 01, "The sums"; document 02, A3)
+# ---- The sums (document 003, D 2.1 and D 2.2; document 01, "The sums"; document 02, A3 and A8)
 
 def multiplier(ten_thousandths):
     return Fraction(ten_thousandths, 10_000)
@@ -123,9 +123,8 @@ def member_amounts(hour, deviations, shares):
 
 
 def cents(grains):
-    """The nearest cent, halves away from zero."""
-    size = int(Fraction(abs(grains), GRAINS_IN_A_CENT) + Fraction(1, 2))
-    return -size if grains < 0 else size
+    """The nearest cent, halves to the even one (document 02, A8), which is how Python rounds a fraction."""
+    return round(Fraction(grains, GRAINS_IN_A_CENT))
 
 
 def member_demands(hour):

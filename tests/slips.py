@@ -12,6 +12,20 @@ def in_one_file(*files):
 
 SECOND = in_one_file("second_file.py", "second_sums.py", "second_ten_minutes.py", "second.py")
 
+# Roundings that aren't document 02, A8's, as expressions: {0} is an exact number of cents, {1} the smallest part of a cent that occurs.
+ROUNDINGS = {
+    "halves away from zero": "int(abs({0}) + Fraction(1, 2)) * (1 if {0} > 0 else -1)",
+    "halves towards zero": "-int((Fraction(1, 2) - abs({0})) // 1) * (1 if {0} > 0 else -1)",
+    "halves to the odd cent": "round({0} + 1) - 1",
+    "halves upwards": "int(({0} + Fraction(1, 2)) // 1)",
+    "halves downwards": "-int((Fraction(1, 2) - {0}) // 1)",
+    "outwards from just under a half": "int(abs({0}) + Fraction(1, 2) + {1}) * (1 if {0} > 0 else -1)",
+    "inwards up to just over a half": "-int((Fraction(1, 2) + {1} - abs({0})) // 1) * (1 if {0} > 0 else -1)",
+}
+EXACT, GRAIN = "Fraction(grains, GRAINS_IN_A_CENT)", "Fraction(1, GRAINS_IN_A_CENT)"
+ROUNDED = f"return round({EXACT})"
+ROUNDING_SLIPS = {name: (ROUNDED, f"return {form.format(EXACT, GRAIN)}") for name, form in ROUNDINGS.items()}
+
 # A slip is one text changed, or several, an old one before each new one. Document 01's "Slips to catch" come first; the hours must show
 # every one.
 HOUR_SLIPS = {
@@ -22,9 +36,7 @@ HOUR_SLIPS = {
     "loads added": ("REAL_TIME_LOAD: -1, PROFILE_LOAD: -1", "REAL_TIME_LOAD: 1, PROFILE_LOAD: 1"),
     "exports added": ("EXPORT: -1}", "EXPORT: 1}"),
     "leftover units to the last load": ("by_remainder[:left]", "[len(sizes) - 1] * left"),
-    "negative grains towards minus infinity": (
-        "size = int(Fraction(abs(grains), GRAINS_IN_A_CENT) + Fraction(1, 2))",
-        "return (2 * grains + GRAINS_IN_A_CENT) // (2 * GRAINS_IN_A_CENT)"),
+    "negative grains towards minus infinity": (ROUNDED, f"return {EXACT} // 1 if grains < 0 else round({EXACT})"),
     "min for the load's unavailable energy": ('unavailable = max(0, (r["O"]', 'unavailable = min(0, (r["O"]'),
     "later of equal remainders": (
         "key=remainders.__getitem__, reverse=True", "key=lambda i: (remainders[i], i), reverse=True"),
@@ -50,6 +62,7 @@ HOUR_SLIPS = {
     "deviations short by one": ("min(len(shares), len(deviations)) <", "min(len(shares), len(deviations) + 1) <"),
     "record count of the next member": ('r["member"] == member for r', 'r["member"] == member + 1 for r'),
     "an invented record count": ('hour["members"], len(hour["records"]))', 'hour["members"], 2)'),
+    **ROUNDING_SLIPS,
 }
 
 # The shares by a bound of document 02, A4, in hours of equal remainders.
@@ -214,6 +227,8 @@ QUESTION_SLIPS = {
     "decided by the amount where the charge is 0": (
         'head_that_decided(heads[member], figures["charges"][member])', 'head_that_decided(heads[member], figures["amounts"][member])'),
     "none missing": ("        return NO_HEAD\n    agreeing", "        return max(HEADS, key=lambda head: abs(heads[head]))\n    agreeing"),
+    "half a cent charged": ROUNDING_SLIPS["halves away from zero"],
+    "a thousandth over half a cent not charged": (ROUNDED, f"return 0 if abs({EXACT}) <= Fraction(501, 1000) else round({EXACT})"),
     "none for under a cent": ("if charge == 0:", "if abs(sum(heads.values())) < GRAINS_IN_A_CENT:"),
     "no sixth line for none": (
         '"".join([*lines, f"decided {answer.decided}\\n"])',

@@ -44,8 +44,12 @@ def interval_price_too_low(rng, hour, blocks):
 
 
 def interval_price_past_zones(rng, hour, blocks):
+    """Mostly a price that would do for a zone that there is."""
     past = FIRST_PRICE_WORD + 12 * len(hour.prices)
-    return put_in_head(blocks, rng.choice([past, rng.randrange(past, PAST_PRICES)]), unwanted(rng)) if past < PAST_PRICES else None
+    if past == PAST_PRICES:
+        return None
+    price = rng.choice([1, MOST_INTERVAL_PRICE, -MOST_INTERVAL_PRICE, unwanted(rng)])
+    return put_in_head(blocks, rng.choice([past, rng.randrange(past, PAST_PRICES)]), price)
 
 
 def word_past_prices(rng, hour, blocks):

@@ -149,13 +149,25 @@ def over_plan(rng, member, area, interval, kwh):
     return interval_record(EXPORT, member, area, J=[kwh if each == interval else 0 for each in range(1, 7)])
 
 
-def halves(rng):
+def halves(rng, most_zones=4, most_areas=8, most_members=32):
     """Sums that end on exactly half a cent: odd numbers of kWh at odd multiples of 500 cents a MWh."""
-    zones, areas, members = rng.randint(1, 4), rng.randint(1, 8), rng.randint(1, 32)
+    zones, areas, members = rng.randint(1, most_zones), rng.randint(1, most_areas), rng.randint(1, most_members)
     prices = [alike(500 * (2 * rng.randint(-9, 9) + 1)) for _ in range(zones)]
     records = [over_plan(rng, rng.randrange(members), rng.randrange(areas), rng.randint(1, 6), rng.randint(-9, 9))
                for _ in range(rng.randint(1, 40))]
     return TenMinuteHour(rng.randrange(10_000), members, prices, [rng.randrange(zones) for _ in range(areas)], records)
+
+
+def a_24th_from_halves(rng):
+    """The same, and each member has a 24th of a grain more or less, the least that there is: a ramp of 1 kWh times an F of 1, in a zone of
+    its own at a cent a MWh."""
+    hour = halves(rng, most_zones=3, most_areas=7, most_members=24)  # with at most 40 records: that makes 64
+    for member in range(hour.members):
+        ramp = rng.choice([{"before": 1}, {"next": 1}])
+        hour.records.append(interval_record(GENERATOR, member, len(hour.areas), F=1, H=1, **ramp))
+    hour.areas.append(len(hour.prices))
+    hour.prices.append(alike(rng.choice([1, -1])))
+    return hour
 
 
 def halves_by_ramp(rng):
@@ -203,5 +215,5 @@ def as_ramped(rng):
     return TenMinuteHour(rng.randrange(10_000), members, random_prices(rng, 1), [0], records)
 
 
-HONEST = (few_records, ordinary, no_records, full_file, full_blocks, all_members, ends_everywhere, largest_sum, halves, halves_by_ramp,
-          rounded_once, nets_of_zero, as_ramped)
+HONEST = (few_records, ordinary, no_records, full_file, full_blocks, all_members, ends_everywhere, largest_sum, halves, a_24th_from_halves,
+          halves_by_ramp, rounded_once, nets_of_zero, as_ramped)

@@ -1,4 +1,4 @@
-"""Misreadings of document 02, A7, and of document 000, D 2.1.1, each as changes of the second program, with the known answers of
+"""Misreadings of document 02, A7 and A8, and of document 000, D 2.1.1, each as changes of the second program, with the known answers of
 tests/known_ten_minutes.py that notice it: a slip that a reader could make alike in the code and in its definition. The made ten-minute
 hours must show every one too."""
 
@@ -6,7 +6,7 @@ from collections import namedtuple
 
 from hours import EXPORT, GENERATOR, IMPORT, PROFILE_LOAD, REAL_TIME_LOAD
 from misread import NAMES
-from slips import HOUR_SLIPS
+from slips import HOUR_SLIPS, ROUNDINGS
 
 # Texts of the second program, an old one before each new one, and the names of the cases that notice the change, each of them.
 Misread = namedtuple("Misread", "changes noticed")
@@ -104,11 +104,26 @@ COSTS = "            net = net_deviation(own, interval)\n" \
 ONCE = "cents(unrounded_amount(hour, member)) for member"
 
 
+EXACT, LEAST = "(unrounded_amount(hour, member) / GRAINS_IN_A_CENT)", "Fraction(1, 24 * GRAINS_IN_A_CENT)"
+
+
 def rounded(form):
     """The charge rounded in another way, of its cents."""
-    return ONCE.replace("cents(unrounded_amount(hour, member))", form.format("(unrounded_amount(hour, member) / GRAINS_IN_A_CENT)"))
+    return ONCE.replace("cents(unrounded_amount(hour, member))", f"({form.format(EXACT, LEAST)})")
 
 
+# The known answers that notice each rounding of `ROUNDINGS`.
+EACH_HALF = ("500", "1500", "2500", "minus-500", "minus-1500", "minus-2500")
+ROUNDED_OTHERWISE = {
+    "halves away from zero": ["rounded-half", "rounded-two-and-a-half", "rounded-minus-half", "rounded-minus-two-and-a-half",
+                              "ramp-half-a-cent"],
+    "halves towards zero": ["rounded-one-and-a-half", "rounded-minus-one-and-a-half", "sixth-half", "ramp-half"],
+    "halves to the odd cent": [f"rounded-{way}{half}" for way in ("", "minus-") for half in ("half", "one-and-a-half", "two-and-a-half")],
+    "halves upwards": ["rounded-half", "rounded-two-and-a-half", "rounded-minus-one-and-a-half", "sixth-half"],
+    "halves downwards": ["rounded-one-and-a-half", "rounded-minus-half", "rounded-minus-two-and-a-half", "ramp-half"],
+    "outwards from just under a half": [f"rounded-a-24th-under-{price}" for price in EACH_HALF],
+    "inwards up to just over a half": [f"rounded-a-24th-over-{price}" for price in EACH_HALF],
+}
 AT = "at, allowed = 48 + 12 * zone,"
 SLIPS.update({
     "the prices exchanged": Misread((SIGN, SIGN.replace("<", ">")), ["incremental", "decremental", "both-prices"]),
@@ -149,11 +164,16 @@ SLIPS.update({
         ("amount += net * UNITS_IN_A_KWH * interval_price(prices, net, interval)",
          "amount += GRAINS_IN_A_CENT * cents(net * UNITS_IN_A_KWH * interval_price(prices, net, interval))"),
         ["three-intervals", "two-intervals-half", "three-zones"]),
-    "cut off": Misread((ONCE, rounded("int({})")), ["rounded-half", "rounded-over", "rounded-minus-over"]),
-    "towards minus infinity": Misread((ONCE, rounded("int({} // 1)")), ["rounded-half", "rounded-minus-under"]),
-    "halves upwards": Misread((ONCE, rounded("int(({} + Fraction(1, 2)) // 1)")),
-                              ["rounded-minus-half", "rounded-minus-one-and-a-half", "sixth-half"]),
-    "halves to the even cent": Misread((ONCE, rounded("round({})")), ["rounded-half", "rounded-two-and-a-half", "rounded-minus-half"]),
+    "cut off": Misread((ONCE, rounded("int({0})")), ["rounded-one-and-a-half", "rounded-over-500", "rounded-over-minus-500"]),
+    "towards minus infinity": Misread((ONCE, rounded("int({0} // 1)")), ["rounded-one-and-a-half", "rounded-under-minus-500"]),
+    **{name: Misread((ONCE, rounded(form)), ROUNDED_OTHERWISE[name]) for name, form in ROUNDINGS.items()},
+    "halves away from zero, below zero alone": Misread(
+        (ONCE, rounded(f"round({{0}}) if {{0}} > 0 else {ROUNDINGS['halves away from zero']}")),
+        ["rounded-minus-half", "rounded-minus-two-and-a-half"]),
+    "whole grains first": Misread(
+        (ONCE, ONCE.replace("unrounded_amount(hour, member)", "round(unrounded_amount(hour, member))")),
+        [f"rounded-a-24th-{near}" for near in ("over-500", "under-1500", "over-2500", "over-minus-500", "under-minus-1500",
+                                               "over-minus-2500")]),
     "a sum in kWh and dollars": Misread((ONCE, ONCE.replace("member))", "member) / 100)")), ["generator", "largest"]),
     "members that have records alone": Misread(
         (f'{ONCE} in range(hour["members"])', f'{ONCE} in sorted({{r["member"] for r in hour["records"]}})'),

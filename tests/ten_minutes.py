@@ -11,6 +11,7 @@ import random
 from fractions import Fraction
 
 import faults
+import half_cents
 import hours
 import second
 import to_write
@@ -178,8 +179,9 @@ def at_each_block(number):
             f"{number} at the last of some blocks": lambda r: r.number == number and r.place == r.blocks - 1 > 0}
 
 
-def half_a_cent(costs):
-    return abs(sum(costs)) % 10_000_000 == 5_000_000
+def around(amount):
+    """What is a 24th of a grain less, and more."""
+    return amount - Fraction(1, 24), amount + Fraction(1, 24)
 
 
 def all_costs(zones):
@@ -234,8 +236,9 @@ SIDES = {
         lambda zones: any(not any(nets) and any(deviates(x["kind"])(x) for x in own) for own, nets, _ in zones)),
     "a member in four zones": lambda r: r.any_member(lambda zones: len(zones) == 4 and all(own for own, _, _ in zones)),
     "nets of both signs in a zone": lambda r: r.any_member(lambda zones: any(min(nets) < 0 < max(nets) for _, nets, _ in zones)),
-    "half a cent above zero": lambda r: r.any_member(lambda zones: half_a_cent(all_costs(zones)) and sum(all_costs(zones)) > 0),
-    "half a cent below zero": lambda r: r.any_member(lambda zones: half_a_cent(all_costs(zones)) and sum(all_costs(zones)) < 0),
+    **{name: lambda r, name=name: r.any_member(lambda zones: half_cents.side_of(sum(all_costs(zones))) == name)
+       for name in half_cents.NAMES},
+    "a 24th of a grain from a half": lambda r: r.any_member(lambda zones: any(map(half_cents.side_of, around(sum(all_costs(zones)))))),
     "rounded by zone it would differ": lambda r: r.any_member(lambda zones: zone_by_zone(zones) != second.cents(sum(all_costs(zones)))),
     "rounded by interval it would differ": lambda r: r.any_member(
         lambda zones: sum(map(second.cents, all_costs(zones))) != second.cents(sum(all_costs(zones)))),

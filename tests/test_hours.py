@@ -6,10 +6,12 @@
 import random
 import sys
 import unittest
+from collections import Counter
 from pathlib import Path
 
 HERE = Path(__file__).resolve().parent
 sys.path.insert(0, str(HERE))
+import half_cents  # noqa: E402
 import hours  # noqa: E402
 import second  # noqa: E402
 from answers import answer  # noqa: E402
@@ -29,9 +31,10 @@ class MadeHours(unittest.TestCase):
                 self.assertEqual(answer(made.data), made.expected, (index, made.name))
 
     def test_the_same_seed_makes_the_same_hours(self):
+        """And another seed others, but for the printed case and empty files."""
         for index in range(0, 60, 7):
             self.assertEqual(hours.made(5, index), hours.made("5", index))
-            self.assertNotEqual(hours.made(5, index + 1).data, hours.made(6, index + 1).data)
+        self.assertGreater(sum(hours.made(5, index).data != hours.made(6, index).data for index in range(60)), 55)
 
     def test_most_units_left(self):
         for turn in range(6):
@@ -53,12 +56,18 @@ class MadeHours(unittest.TestCase):
         self.assertGreater(decided, 30)
         self.assertEqual(lossy, {GENERATOR, IMPORT})
 
+    @staticmethod
+    def half_cents_in(maker, grain=0):
+        """How many amounts are half a cent of each kind, once a grain is taken off them or, below zero, put to them."""
+        lines = [line for turn in range(60) for line in second.settle(maker(random.Random(turn)).encode()).lines]
+        return Counter(half_cents.side_of(amount - grain) for amount, records in lines if records != second.UNTOUCHED)
+
     def test_halves(self):
-        exact = 0
-        for turn in range(20):
-            settled = second.settle(hours.halves(random.Random(turn)).encode())
-            exact += sum(abs(amount) % 10**7 == 5 * 10**6 for amount, _ in settled.lines)
-        self.assertGreater(exact, 50)
+        """Behind even and odd cents, above zero and below, each often; and a grain over and under each of them."""
+        for maker, grain in ((hours.halves, 0), (hours.a_grain_from_halves, 1), (hours.a_grain_from_halves, -1)):
+            sides = self.half_cents_in(maker, grain)
+            self.assertGreater(min(sides[name] for name in half_cents.NAMES), 20, (maker.__name__, grain))
+        self.assertEqual([*self.half_cents_in(hours.a_grain_from_halves)], [None])
 
     def test_cents_left_over(self):
         """Often the earlier of members with equal remainders gets a cent, and members are without demand beside others."""
@@ -79,7 +88,7 @@ class MadeHours(unittest.TestCase):
                 charges = second.work_out_charges(hour)["charges"]
                 self.assertEqual(second.member_demands(hour), [0] * hour["members"], maker.__name__)
                 self.assertEqual(sum(charges) != 0, maker in hours.NO_DEMAND_FOR_N, maker.__name__)
-                self.assertEqual(any(charges), maker not in (hours.exports_as_planned, hours.under_half_a_cent, hours.price_of_nothing))
+                self.assertEqual(any(charges), maker not in hours.NO_CHARGES, maker.__name__)
 
     def test_both_unavailable_terms_are_at_work(self):
         generators = loads = 0

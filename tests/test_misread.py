@@ -11,14 +11,13 @@ sys.path.insert(0, str(Path(__file__).resolve().parent))
 import misread  # noqa: E402
 import programs  # noqa: E402
 import second  # noqa: E402
-from slips import HEAD_GIVEN, HOUR_SLIPS, SCHEDULE_SLIPS, WRITING_SLIPS, wrong_program  # noqa: E402
+from slips import EXACT, HEAD_GIVEN, HOUR_SLIPS, ROUNDED, ROUNDING_SLIPS, SCHEDULE_SLIPS, WRITING_SLIPS, wrong_program  # noqa: E402
 
 # Each misreading, as changes of the second program; where it can be made in several places, each of them.
 LOADS_USE = 'REAL_TIME_LOAD: "SAJNO", PROFILE_LOAD: "SAJNO"'
 DELIVERED = 'delivered = (r["A"] - r["J"]) * multiplier(r["H"])'
 LAYOUT_CHECKED = "    check_layout(blocks, layout)\n"
 HEAD_READ = "    hour = read_head(blocks[0])\n"
-CENTS = "    size = int(Fraction(abs(grains), GRAINS_IN_A_CENT)"
 MISREAD = {
     "a load without O": [(LOADS_USE, LOADS_USE.replace('L_TIME_LOAD: "SAJNO"', 'L_TIME_LOAD: "SAJN"')),
                          (LOADS_USE, LOADS_USE.replace('PROFILE_LOAD: "SAJNO"', 'PROFILE_LOAD: "SAJN"'))],
@@ -58,8 +57,9 @@ MISREAD = {
     "units left to the last load": [HOUR_SLIPS["leftover units to the last load"]],
     "a unit to the later of equals": [HOUR_SLIPS["later of equal remainders"]],
     "a unit to the smallest remainder": [HOUR_SLIPS["smallest remainders"]],
-    "negative grains towards minus infinity": [(CENTS, "    if grains < 0:\n        return grains // GRAINS_IN_A_CENT\n" + CENTS)],
-    "negative grains towards zero": [(CENTS, "    if grains < 0:\n        return -(-grains // GRAINS_IN_A_CENT)\n" + CENTS)],
+    "negative grains towards minus infinity": [HOUR_SLIPS["negative grains towards minus infinity"]],
+    "negative grains towards zero": [(ROUNDED, f"return int({EXACT}) if grains < 0 else round({EXACT})")],
+    **{name: [slip] for name, slip in ROUNDING_SLIPS.items()},
     "losses by F": [('sum(actual(r) * (1 - multiplier(r["H"]))', 'sum(actual(r) * (1 - multiplier(r["F"]))')],
     "a generator's N times H": [HOUR_SLIPS["ancillary energy times H"]],
     "an import's \u2212 N": [HOUR_SLIPS["import's ancillary energy subtracted"]],

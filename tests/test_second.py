@@ -14,6 +14,7 @@ from unittest import mock
 
 HERE = Path(__file__).resolve().parent
 sys.path.insert(0, str(HERE))
+import half_cents  # noqa: E402
 import hours  # noqa: E402
 import known  # noqa: E402
 import second  # noqa: E402
@@ -87,9 +88,13 @@ class Figures(unittest.TestCase):
         self.assertEqual(second.shares_of([0, 0], 0), [0, 0])
 
     def test_cents(self):
-        for grains, cents in ((4_999_999, 0), (5_000_000, 1), (-4_999_999, 0), (-5_000_000, -1),
-                              (14_999_999, 1), (15_000_000, 2), (-15_000_000, -2), (0, 0)):
-            self.assertEqual(second.cents(grains), cents)
+        """Document 02, A8: a half goes to the even cent; a grain less or more, or a 24th of one, goes to the nearest."""
+        self.assertEqual(second.cents(0), 0)
+        for half, cents, under, over in ((5_000_000, 0, 0, 1), (15_000_000, 2, 1, 2), (25_000_000, 2, 2, 3), (35_000_000, 4, 3, 4)):
+            for way in (1, -1):
+                self.assertEqual(second.cents(way * half), way * cents)
+                for step in (1, Fraction(1, 24)):
+                    self.assertEqual((second.cents(way * (half - step)), second.cents(way * (half + step))), (way * under, way * over))
 
     def test_lengths(self):
         longest = hours.full_file(random.Random(1)).encode()
@@ -325,10 +330,11 @@ class TextAmounts(unittest.TestCase):
 
 
 class DemandThree(unittest.TestCase):
-    """The three bounds of demand 3, with exact fractions, on 300 accepted hours."""
+    """The three bounds of demand 3, with exact fractions, on 300 accepted hours, with half cents of each sort among them."""
 
     def test_bounds(self):
         index = accepted = 0
+        halves = set()
         while accepted < 300:
             made = hours.made("demand 3", index)
             index += 1
@@ -337,6 +343,17 @@ class DemandThree(unittest.TestCase):
                 hour = second.read_hour(made.data)
                 self.check_shares(hour)
                 self.check_charges(hour)
+                halves |= self.rounded(hour)
+        self.assertLessEqual(set(half_cents.NAMES), halves)
+
+    def rounded(self, hour):
+        """Each charge is within half a cent of its amount, and even where it is just that far (document 02, A8); which half cents occur."""
+        figures = second.work_out(hour)
+        for amount, charge in zip(figures["amounts"], figures["charges"]):
+            twice = 2 * abs(charge * second.GRAINS_IN_A_CENT - amount)
+            self.assertLessEqual(twice, second.GRAINS_IN_A_CENT)
+            self.assertTrue(twice < second.GRAINS_IN_A_CENT or charge % 2 == 0)
+        return set(map(half_cents.side_of, figures["amounts"]))
 
     def check_shares(self, hour):
         figures = second.work_out(hour)

@@ -87,12 +87,14 @@ class Formulas(unittest.TestCase):
 
 class Bounds(unittest.TestCase):
     def test_half_a_cent(self):
-        """Each charge differs from the member's unrounded sum by at most half a cent, and at times by all of it, on either side."""
+        """Each charge differs from the member's unrounded sum by at most half a cent, and at times by all of it, on either side; then the
+        charge is even (document 02, A8)."""
         differences = set()
         for hour in accepted("half a cent", 300):
             for member, charge in enumerate(second.ten_minute_charges(hour)):
                 difference = IN_A_CENT * charge - in_24ths(hour, member)
                 self.assertLessEqual(abs(difference), IN_A_CENT // 2)
+                self.assertTrue(abs(difference) < IN_A_CENT // 2 or charge % 2 == 0)
                 differences.add(difference)
         self.assertLessEqual({IN_A_CENT // 2, -IN_A_CENT // 2, 0}, differences)
         self.assertGreater(len(differences), 1_000)

@@ -324,6 +324,13 @@ class NothingInvented(unittest.TestCase):
         print("\nten-minute sheets: one number changed: " + ", ".join(f"{name}: {count}" for name, count in sorted(outcomes.items())))
         self.assertEqual(set(outcomes), {"unclear", "refused", "written"})
 
+    def named(self, changed, row, column):
+        """The field that a refusal names: the changed one; where members are too few, the member of the first record that has none."""
+        if (row, column) != (1, 1) or not 1 <= int(changed[row][column]) <= 32:
+            return row, column
+        records = [fields[:1] for fields in changed].index(["kind"]) + 1
+        return next(at for at in range(records, len(changed)) if int(changed[at][1]) >= int(changed[row][column])), 1
+
     def outcome(self, before, changed, row, column):
         try:
             packed = sheets.Packed(sheet_of(changed))
@@ -332,6 +339,7 @@ class NothingInvented(unittest.TestCase):
         file = packed.hour().file()
         printed = second.ten_minutes(file)
         if printed.startswith(b"refused"):
+            row, column = self.named(changed, row, column)
             self.assertRegex(packed.reason(*refusal_in(printed)), rf"\Arow {row + 1}, column {COLUMNS[column]} ")
             return "refused"
         after = rows_in(sheets.sheet_of(file))

@@ -7,12 +7,14 @@ of tests/ten_minute_slips.py; a wrong program is noticed.
 import random
 import sys
 import unittest
+from collections import Counter
 from pathlib import Path
 from unittest import mock
 
 HERE = Path(__file__).resolve().parent
 sys.path.insert(0, str(HERE))
 import comparing  # noqa: E402
+import half_cents  # noqa: E402
 import hours  # noqa: E402
 import programs  # noqa: E402
 import second  # noqa: E402
@@ -56,9 +58,18 @@ class MadeHours(unittest.TestCase):
             self.assertEqual((len(hour["records"]), {r["member"] for r in hour["records"]}), (64, set(range(32))))
 
     def test_halves(self):
-        for maker, least in ((ten_minutes.halves, 50), (ten_minutes.halves_by_ramp, 50)):
-            exact = sum(abs(amount) % 10**7 == 5 * 10**6 for turn in range(20) for amount in amounts(read(maker, turn)))
-            self.assertGreater(exact, least, maker.__name__)
+        """Behind even and odd cents, above zero and below, each often."""
+        for maker in (ten_minutes.halves, ten_minutes.halves_by_ramp):
+            sides = Counter(half_cents.side_of(amount) for turn in range(40) for amount in amounts(read(maker, turn)))
+            self.assertGreater(min(sides[name] for name in half_cents.NAMES), 20, maker.__name__)
+
+    def test_a_24th_from_halves(self):
+        """On either side of each half, and never a half itself."""
+        exact = [amount for turn in range(60) for amount in amounts(read(ten_minutes.a_24th_from_halves, turn))]
+        self.assertFalse(any(map(half_cents.side_of, exact)))
+        for at, way in enumerate(("over", "under")):
+            sides = Counter(half_cents.side_of(ten_minutes.around(amount)[at]) for amount in exact)
+            self.assertGreater(min(sides[name] for name in half_cents.NAMES), 20, way)
 
     def test_nets_of_zero(self):
         for turn in range(20):
@@ -127,7 +138,7 @@ class Compared(unittest.TestCase):
         self.assertEqual(status, 1)
         self.assertIn("never occurred in 500 ten-minute hours: refused 1; refused 2; refused 3; refused 4; refused 5; 1, no bytes; ", said)
         self.assertIn("; 5 by word 29 alone; ", said)
-        self.assertIn("; half a cent above zero; half a cent below zero; ", said)
+        self.assertIn(f"; {'; '.join(half_cents.NAMES)}; a 24th of a grain from a half; ", said)
 
 
 if __name__ == "__main__":

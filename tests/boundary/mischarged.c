@@ -4,6 +4,7 @@
 #include <string.h>
 
 #include "hand/ten_minutes.h"
+#include "misrounded.h"
 #include "trials.h"
 
 #define ARGUMENTS const uint8_t *file, size_t file_length, int64_t *charges, size_t charges_length
@@ -136,19 +137,7 @@ static sneupelaar_answer byte_past_the_file(ARGUMENTS)
     return answer;
 }
 
-/* Another rounding of an exact amount. */
-typedef int64_t rounding(int64_t amount);
-
-static int64_t downwards(int64_t amount)
-{
-    return amount / CENT_IN_24THS - (amount % CENT_IN_24THS < 0);
-}
-
-static int64_t halves_to_zero(int64_t amount)
-{
-    return (amount + (amount < 0 ? -CENT_IN_24THS / 2 + 1 : CENT_IN_24THS / 2 - 1)) / CENT_IN_24THS;
-}
-
+/* Exact amounts rounded otherwise. */
 static sneupelaar_answer settle_rounded(ARGUMENTS, rounding *round)
 {
     sneupelaar_answer answer = sneupelaar_settle_ten_minutes(PASSED);
@@ -156,7 +145,7 @@ static sneupelaar_answer settle_rounded(ARGUMENTS, rounding *round)
         return answer;
     exact_amounts(file, file_length, charges);
     for (size_t member = 0; member < word(file, MEMBERS); member++)
-        charges[member] = round(charges[member]);
+        charges[member] = round(charges[member], CENT_IN_24THS);
     return answer;
 }
 
@@ -165,9 +154,14 @@ static sneupelaar_answer rounded_down(ARGUMENTS)
     return settle_rounded(PASSED, downwards);
 }
 
+static sneupelaar_answer halves_rounded_away(ARGUMENTS)
+{
+    return settle_rounded(PASSED, halves_away_from_zero);
+}
+
 static sneupelaar_answer halves_rounded_to_zero(ARGUMENTS)
 {
-    return settle_rounded(PASSED, halves_to_zero);
+    return settle_rounded(PASSED, halves_towards_zero);
 }
 
 /* Rounded more than once: the charges of each of so many parts of the prices alone, added up. A price belongs to part (its place / width)
@@ -211,7 +205,8 @@ settle_ten_minutes_function *mischarged(const char *how)
         { "longer", longer_taken }, { "marks", hourly_marks_taken }, { "further", charges_one_further },
         { "unchanged", past_places_written }, { "refused", refused_but_charged }, { "charges", beside_charges },
         { "zero", zero_not_written }, { "held", added_to_what_was }, { "reads", byte_past_the_file }, { "down", rounded_down },
-        { "half", halves_rounded_to_zero }, { "interval", rounded_each_interval }, { "zone", rounded_each_zone } };
+        { "away", halves_rounded_away }, { "towards", halves_rounded_to_zero }, { "interval", rounded_each_interval },
+        { "zone", rounded_each_zone } };
     for (size_t at = 0; at < sizeof faults / sizeof *faults; at++)
         if (strcmp(how, faults[at].name) == 0)
             return faults[at].settle;

@@ -2,8 +2,9 @@
 #include <stddef.h>
 #include <string.h>
 
-#include "hand/file.h"
+#include "hand/settle.h"
 #include "hand/share.h"
+#include "misrounded.h"
 #include "trials.h"
 
 #define ARGUMENTS \
@@ -68,6 +69,25 @@ static sneupelaar_settled beside_charges(ARGUMENTS)
     if (settled.number == 0)
         charges[charges_length] = 0;
     return settled;
+}
+
+/* Exact amounts rounded otherwise; the finals are left as they are. */
+static sneupelaar_settled settle_rounded(rounding *round, ARGUMENTS)
+{
+    sneupelaar_settled settled = sneupelaar_settle(PASSED);
+    for (size_t member = 0; settled.number == 0 && member < word(file, MEMBERS); member++)
+        charges[member] = round(lines[member].amount, CENT);
+    return settled;
+}
+
+static sneupelaar_settled halves_rounded_away(ARGUMENTS)
+{
+    return settle_rounded(halves_away_from_zero, PASSED);
+}
+
+static sneupelaar_settled halves_rounded_to_zero(ARGUMENTS)
+{
+    return settle_rounded(halves_towards_zero, PASSED);
 }
 
 /* A share of N added to the charge instead of taken off. */
@@ -340,7 +360,8 @@ settle_function *spoiled(const char *how)
         { "deviates", deviation_by_word_4 }, { "all", unit_to_all_at_bound }, { "none", unit_to_none_at_bound },
         { "later", unit_to_later }, { "above", above_let_through }, { "equal", equal_refused }, { "judged", loads_judged },
         { "metered", actual_judged }, { "last", last_above }, { "both", five_with_fourteen }, { "balance", fourteen_after_six },
-        { "short", fourteen_last }, { "worked", deviation_before_fourteen } };
+        { "short", fourteen_last }, { "worked", deviation_before_fourteen }, { "outwards", halves_rounded_away },
+        { "inwards", halves_rounded_to_zero } };
     for (size_t at = 0; at < sizeof faults / sizeof *faults; at++)
         if (strcmp(how, faults[at].name) == 0)
             return faults[at].settle;

@@ -5,8 +5,7 @@
 
 #include "share.h"
 
-static const int64_t WHOLE = 10000;                /* a kWh in units; a multiplier of one */
-static const int64_t CENT = 10000000;              /* in grains */
+static const int64_t WHOLE = 10000; /* a kWh in units; a multiplier of one */
 static const int64_t MOST_GRAINS = 4000000000000000000;
 
 /* A record's numbers under document 01's letters; the actual energy of an import is deemed to be the scheduled one (document 02, A3). */

@@ -25,11 +25,17 @@ static inline int64_t price_of(const uint8_t *file, size_t area)
     return (int32_t)word(file, PRICES + word(file, FIRST_AREA + AREA_WORDS * area));
 }
 
-/* An amount to the nearest cent, halves away from zero; a cent is so much of what the amount is in. */
+/* An amount to the nearest cent, halves to the even one (document 02, A8); a cent is so much of what the amount is in, an even number.
+   Quotients go towards zero and remainders have the amount's sign. Behind an odd number of whole cents a half is enough to go one further,
+   behind an even one it takes more. */
 static inline int64_t nearest(int64_t amount, int64_t cent)
 {
-    return (amount + (amount < 0 ? -cent / 2 : cent / 2)) / cent;
+    int64_t whole = amount / cent;
+    return whole + (amount % cent + whole % 2) / (cent / 2 + 1);
 }
+
+/* How many grains a cent has. */
+static const int64_t CENT = 10000000;
 
 /* Grains to the nearest cent. */
 int64_t cents(int64_t grains);
