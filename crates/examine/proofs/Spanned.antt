@@ -2,12 +2,13 @@
 use mathlib.Core.Path.{_≡_, refl, subst}
 use mathlib.Core.Bool.{true, false, not, cond}
 use mathlib.Core.Option.{Option, none, some}
-use mathlib.Core.List.{List, _∷_}
-use Prim.Native.Nat.{ℕ, zero, suc, _<_}
+use mathlib.Core.List.{List, [], _∷_, _++_}
+use Prim.Native.Nat.{ℕ, zero, suc, _≤_, _<_}
 use native.Mathlib.Nat.{not-suc-le-zero}
-use lib.Dec.{leb, ltb}
+use native.Mathlib.Omega.{arith}
+use lib.Dec.{ltb, lit<, lit≤}
 use lib.ListN.{getD}
-use borrow.Author.Tests.{ltb-true, not-false}
+use borrow.Author.Tests.{le-leb, not-false}
 use Rattle.whole.proofs.Tests.{split, never, both}
 use Rattle.whole.proofs.Tables.{EachBelow, at-each}
 use Rattle.whole.proofs.Search.{first-none}
@@ -19,7 +20,7 @@ use Rattle.rules.specs.declared.Rule.{Rule}
 use Rattle.rules.specs.declared.Rule.the-variants.{Between, LessThan}
 use Rattle.rules.specs.Record.{kindOf}
 use Rattle.rules.specs.HourFile.{word}
-use Rattle.rules.specs.Ranges.{keeps, mustBeZero, energy, adjustment, multiplier, unused, tenMinutesRulesOf, tenMinutesRecordRule, formOf}
+use Rattle.rules.specs.Ranges.{keeps, mustBeZero, energy, adjustment, multiplier, unused, six, tenMinutesRulesOf, tenMinutesRecordRule, formOf}
 use Rattle.rules.specs.Refusals.{isBroken}
 use Rattle.examine.specs.declared.search.Source.{Source}
 use Rattle.examine.specs.declared.search.Source.the-variants.{File, Lists}
@@ -35,14 +36,17 @@ nowhere : (o : Option ℕ) → not (isBroken o) ≡ true → o ≡ none
 nowhere none e = refl
 nowhere (some i) e = never e refl
 
--- a word of a span that keeps its rule
-in-span : (rule : Rule) (s : List ℕ) (from to : ℕ) → spanKeeps rule s from to ≡ true → (w : ℕ) → leb from w ≡ true → ltb w to ≡ true →
-    keeps rule (word s w) ≡ true
+-- each word from `from` on, up to `to`, keeps a rule
+abbrev In : List ℕ → Rule → (from to : ℕ) → Type 0
+In s rule from to = (w : ℕ) → from ≤ w → w < to → keeps rule (word s w) ≡ true
+
+-- a span that keeps its rule
+in-span : (s : List ℕ) (rule : Rule) (from to : ℕ) → spanKeeps rule s from to ≡ true → In s rule from to
 unfolding spanKeeps
-in-span rule s from to e w l m = not-false _ (at-w (first-none (brokenAt rule s from) to (nowhere _ e) w (ltb-true w to m)))
+in-span s rule from to e w l m = not-false _ (at-w (first-none (brokenAt rule s from) to (nowhere _ e) w m))
   where
     at-w : brokenAt rule s from w ≡ false → not (keeps rule (word s w)) ≡ false
-    at-w f = rw l at f
+    at-w f = rw (le-leb from w l) at f
 
 module _ (members areas : ℕ) (s : List ℕ) where
   -- the words that every kind uses, or none
@@ -54,118 +58,56 @@ module _ (members areas : ℕ) (s : List ℕ) where
     adjustments : spanKeeps adjustment s 14 20 ≡ true
     rest : spanKeeps unused s 26 30 ≡ true
 
-  abbrev Kept : Kind → ℕ → Type 0
-  Kept K w = keeps (getD (Between 1 5 ∷ LessThan members ∷ LessThan areas ∷ tenMinutesRulesOf K) w mustBeZero) (word s w) ≡ true
+  abbrev KeptBy : List Rule → ℕ → Type 0
+  KeptBy rules w = keeps (getD (Between 1 5 ∷ LessThan members ∷ LessThan areas ∷ rules) w mustBeZero) (word s w) ≡ true
 
   less-kept : (n v : ℕ) → ltb v n ≡ true → keeps (LessThan n) v ≡ true
   unfolding keeps
   less-kept n v e = e
 
-  generator-each : Common → kindKeeps Generator s ≡ true → EachBelow (Kept Generator) 30
-  unfolding kindKeeps tenMinutesRulesOf
-  generator-each common e =
-      let last = both _ _ e in
-      let third = both _ _ (last .0) in
-      let two = both _ _ (third .0) in
-      let from3 = in-span energy s 3 4 (common .schedule) in
-      let from4 = in-span energy s 4 6 (two .0) in
-      let from6 = in-span multiplier s 6 8 (two .1) in
-      let from8 = in-span energy s 8 14 (third .1) in
-      let from14 = in-span adjustment s 14 20 (common .adjustments) in
-      let from20 = in-span energy s 20 26 (last .1) in
-      let from26 = in-span unused s 26 30 (common .rest) in
+  -- the rules of the schedules beside, of the multipliers, of the first actual and of the others, and of the ancillary figures
+  by-spans : Common → (b m f o a : Rule) → In s b 4 6 → In s m 6 8 → In s f 8 9 → In s o 9 14 → In s a 20 26 →
+      EachBelow (KeptBy (energy ∷ b ∷ b ∷ m ∷ m ∷ (f ∷ o ∷ o ∷ o ∷ o ∷ o ∷ []) ++ six adjustment ++ six a)) 30
+  by-spans common b m f o a beside multipliers first others ancillary =
+      let schedule = in-span s energy 3 4 (common .schedule) in
+      let adjusted = in-span s adjustment 14 20 (common .adjustments) in
+      let zeros = in-span s unused 26 30 (common .rest) in
       tt ▸ common .kind-known ▸ less-kept members (word s 1) (common .member-there) ▸ less-kept areas (word s 2) (common .area-there)
-      ▸ from3 3 refl refl ▸ from4 4 refl refl ▸ from4 5 refl refl ▸ from6 6 refl refl ▸ from6 7 refl refl ▸ from8 8 refl refl
-      ▸ from8 9 refl refl ▸ from8 10 refl refl ▸ from8 11 refl refl ▸ from8 12 refl refl ▸ from8 13 refl refl ▸ from14 14 refl refl
-      ▸ from14 15 refl refl ▸ from14 16 refl refl ▸ from14 17 refl refl ▸ from14 18 refl refl ▸ from14 19 refl refl ▸ from20 20 refl refl
-      ▸ from20 21 refl refl ▸ from20 22 refl refl ▸ from20 23 refl refl ▸ from20 24 refl refl ▸ from20 25 refl refl ▸ from26 26 refl refl
-      ▸ from26 27 refl refl ▸ from26 28 refl refl ▸ from26 29 refl refl
+      ▸ schedule 3 (lit≤ tt) (lit< tt) ▸ beside 4 (lit≤ tt) (lit< tt) ▸ beside 5 (lit≤ tt) (lit< tt)
+      ▸ multipliers 6 (lit≤ tt) (lit< tt) ▸ multipliers 7 (lit≤ tt) (lit< tt) ▸ first 8 (lit≤ tt) (lit< tt)
+      ▸ others 9 (lit≤ tt) (lit< tt) ▸ others 10 (lit≤ tt) (lit< tt) ▸ others 11 (lit≤ tt) (lit< tt)
+      ▸ others 12 (lit≤ tt) (lit< tt) ▸ others 13 (lit≤ tt) (lit< tt) ▸ adjusted 14 (lit≤ tt) (lit< tt)
+      ▸ adjusted 15 (lit≤ tt) (lit< tt) ▸ adjusted 16 (lit≤ tt) (lit< tt) ▸ adjusted 17 (lit≤ tt) (lit< tt)
+      ▸ adjusted 18 (lit≤ tt) (lit< tt) ▸ adjusted 19 (lit≤ tt) (lit< tt) ▸ ancillary 20 (lit≤ tt) (lit< tt)
+      ▸ ancillary 21 (lit≤ tt) (lit< tt) ▸ ancillary 22 (lit≤ tt) (lit< tt) ▸ ancillary 23 (lit≤ tt) (lit< tt)
+      ▸ ancillary 24 (lit≤ tt) (lit< tt) ▸ ancillary 25 (lit≤ tt) (lit< tt) ▸ zeros 26 (lit≤ tt) (lit< tt)
+      ▸ zeros 27 (lit≤ tt) (lit< tt) ▸ zeros 28 (lit≤ tt) (lit< tt) ▸ zeros 29 (lit≤ tt) (lit< tt)
 
-  real-time-each : Common → kindKeeps RealTimeLoad s ≡ true → EachBelow (Kept RealTimeLoad) 30
+  each : Common → (K : Kind) → kindKeeps K s ≡ true → EachBelow (KeptBy (tenMinutesRulesOf K)) 30
   unfolding kindKeeps tenMinutesRulesOf
-  real-time-each common e =
-      let last = both _ _ e in
-      let third = both _ _ (last .0) in
-      let two = both _ _ (third .0) in
-      let from3 = in-span energy s 3 4 (common .schedule) in
-      let from4 = in-span energy s 4 6 (two .0) in
-      let from6 = in-span unused s 6 8 (two .1) in
-      let from8 = in-span energy s 8 14 (third .1) in
-      let from14 = in-span adjustment s 14 20 (common .adjustments) in
-      let from20 = in-span energy s 20 26 (last .1) in
-      let from26 = in-span unused s 26 30 (common .rest) in
-      tt ▸ common .kind-known ▸ less-kept members (word s 1) (common .member-there) ▸ less-kept areas (word s 2) (common .area-there)
-      ▸ from3 3 refl refl ▸ from4 4 refl refl ▸ from4 5 refl refl ▸ from6 6 refl refl ▸ from6 7 refl refl ▸ from8 8 refl refl
-      ▸ from8 9 refl refl ▸ from8 10 refl refl ▸ from8 11 refl refl ▸ from8 12 refl refl ▸ from8 13 refl refl ▸ from14 14 refl refl
-      ▸ from14 15 refl refl ▸ from14 16 refl refl ▸ from14 17 refl refl ▸ from14 18 refl refl ▸ from14 19 refl refl ▸ from20 20 refl refl
-      ▸ from20 21 refl refl ▸ from20 22 refl refl ▸ from20 23 refl refl ▸ from20 24 refl refl ▸ from20 25 refl refl ▸ from26 26 refl refl
-      ▸ from26 27 refl refl ▸ from26 28 refl refl ▸ from26 29 refl refl
-
-  profile-each : Common → kindKeeps ProfileLoad s ≡ true → EachBelow (Kept ProfileLoad) 30
-  unfolding kindKeeps tenMinutesRulesOf
-  profile-each common e =
-      let last = both _ _ e in
-      let third = both _ _ (last .0) in
-      let two = both _ _ (third .0) in
-      let from3 = in-span energy s 3 4 (common .schedule) in
-      let from4 = in-span unused s 4 8 (two .0) in
-      let from8 = in-span energy s 8 9 (two .1) in
-      let from9 = in-span unused s 9 14 (third .1) in
-      let from14 = in-span adjustment s 14 20 (common .adjustments) in
-      let from20 = in-span energy s 20 26 (last .1) in
-      let from26 = in-span unused s 26 30 (common .rest) in
-      tt ▸ common .kind-known ▸ less-kept members (word s 1) (common .member-there) ▸ less-kept areas (word s 2) (common .area-there)
-      ▸ from3 3 refl refl ▸ from4 4 refl refl ▸ from4 5 refl refl ▸ from4 6 refl refl ▸ from4 7 refl refl ▸ from8 8 refl refl
-      ▸ from9 9 refl refl ▸ from9 10 refl refl ▸ from9 11 refl refl ▸ from9 12 refl refl ▸ from9 13 refl refl ▸ from14 14 refl refl
-      ▸ from14 15 refl refl ▸ from14 16 refl refl ▸ from14 17 refl refl ▸ from14 18 refl refl ▸ from14 19 refl refl ▸ from20 20 refl refl
-      ▸ from20 21 refl refl ▸ from20 22 refl refl ▸ from20 23 refl refl ▸ from20 24 refl refl ▸ from20 25 refl refl ▸ from26 26 refl refl
-      ▸ from26 27 refl refl ▸ from26 28 refl refl ▸ from26 29 refl refl
-
-  import-each : Common → kindKeeps Import s ≡ true → EachBelow (Kept Import) 30
-  unfolding kindKeeps tenMinutesRulesOf
-  import-each common e =
-      let last = both _ _ e in
-      let third = both _ _ (last .0) in
-      let two = both _ _ (third .0) in
-      let from3 = in-span energy s 3 4 (common .schedule) in
-      let from4 = in-span unused s 4 6 (two .0) in
-      let from6 = in-span multiplier s 6 8 (two .1) in
-      let from8 = in-span unused s 8 14 (third .1) in
-      let from14 = in-span adjustment s 14 20 (common .adjustments) in
-      let from20 = in-span energy s 20 26 (last .1) in
-      let from26 = in-span unused s 26 30 (common .rest) in
-      tt ▸ common .kind-known ▸ less-kept members (word s 1) (common .member-there) ▸ less-kept areas (word s 2) (common .area-there)
-      ▸ from3 3 refl refl ▸ from4 4 refl refl ▸ from4 5 refl refl ▸ from6 6 refl refl ▸ from6 7 refl refl ▸ from8 8 refl refl
-      ▸ from8 9 refl refl ▸ from8 10 refl refl ▸ from8 11 refl refl ▸ from8 12 refl refl ▸ from8 13 refl refl ▸ from14 14 refl refl
-      ▸ from14 15 refl refl ▸ from14 16 refl refl ▸ from14 17 refl refl ▸ from14 18 refl refl ▸ from14 19 refl refl ▸ from20 20 refl refl
-      ▸ from20 21 refl refl ▸ from20 22 refl refl ▸ from20 23 refl refl ▸ from20 24 refl refl ▸ from20 25 refl refl ▸ from26 26 refl refl
-      ▸ from26 27 refl refl ▸ from26 28 refl refl ▸ from26 29 refl refl
-
-  export-each : Common → kindKeeps Export s ≡ true → EachBelow (Kept Export) 30
-  unfolding kindKeeps tenMinutesRulesOf
-  export-each common e =
-      let last = both _ _ e in
-      let two = both _ _ (last .0) in
-      let from3 = in-span energy s 3 4 (common .schedule) in
-      let from4 = in-span unused s 4 8 (two .0) in
-      let from8 = in-span energy s 8 14 (two .1) in
-      let from14 = in-span adjustment s 14 20 (common .adjustments) in
-      let from20 = in-span unused s 20 26 (last .1) in
-      let from26 = in-span unused s 26 30 (common .rest) in
-      tt ▸ common .kind-known ▸ less-kept members (word s 1) (common .member-there) ▸ less-kept areas (word s 2) (common .area-there)
-      ▸ from3 3 refl refl ▸ from4 4 refl refl ▸ from4 5 refl refl ▸ from4 6 refl refl ▸ from4 7 refl refl ▸ from8 8 refl refl
-      ▸ from8 9 refl refl ▸ from8 10 refl refl ▸ from8 11 refl refl ▸ from8 12 refl refl ▸ from8 13 refl refl ▸ from14 14 refl refl
-      ▸ from14 15 refl refl ▸ from14 16 refl refl ▸ from14 17 refl refl ▸ from14 18 refl refl ▸ from14 19 refl refl ▸ from20 20 refl refl
-      ▸ from20 21 refl refl ▸ from20 22 refl refl ▸ from20 23 refl refl ▸ from20 24 refl refl ▸ from20 25 refl refl ▸ from26 26 refl refl
-      ▸ from26 27 refl refl ▸ from26 28 refl refl ▸ from26 29 refl refl
-
-  each : Common → (K : Kind) → kindKeeps K s ≡ true → EachBelow (Kept K) 30
-  unfolding kindKeeps
-  each common Generator e = generator-each common e
-  each common RealTimeLoad e = real-time-each common e
-  each common ProfileLoad e = profile-each common e
-  each common Import e = import-each common e
-  each common Export e = export-each common e
+  each common Generator e = let four = both _ _ e in let three = both _ _ (four .0) in let two = both _ _ (three .0) in
+      let actuals = in-span s energy 8 14 (three .1) in
+      by-spans common energy multiplier energy energy energy (in-span s energy 4 6 (two .0)) (in-span s multiplier 6 8 (two .1))
+      (λ w l m. actuals w l (omega arith)) (λ w l m. actuals w (omega arith) m) (in-span s energy 20 26 (four .1))
+  each common RealTimeLoad e = let four = both _ _ e in let three = both _ _ (four .0) in let two = both _ _ (three .0) in
+      let actuals = in-span s energy 8 14 (three .1) in
+      by-spans common energy unused energy energy energy (in-span s energy 4 6 (two .0)) (in-span s unused 6 8 (two .1))
+      (λ w l m. actuals w l (omega arith)) (λ w l m. actuals w (omega arith) m) (in-span s energy 20 26 (four .1))
+  each common ProfileLoad e = let four = both _ _ e in let three = both _ _ (four .0) in let two = both _ _ (three .0) in
+      let before-actuals = in-span s unused 4 8 (two .0) in
+      by-spans common unused unused energy unused energy
+      (λ w l m. before-actuals w l (omega arith)) (λ w l m. before-actuals w (omega arith) m)
+      (in-span s energy 8 9 (two .1)) (in-span s unused 9 14 (three .1)) (in-span s energy 20 26 (four .1))
+  each common Import e = let four = both _ _ e in let three = both _ _ (four .0) in let two = both _ _ (three .0) in
+      let actuals = in-span s unused 8 14 (three .1) in
+      by-spans common unused multiplier unused unused energy (in-span s unused 4 6 (two .0)) (in-span s multiplier 6 8 (two .1))
+      (λ w l m. actuals w l (omega arith)) (λ w l m. actuals w (omega arith) m) (in-span s energy 20 26 (four .1))
+  each common Export e = let three = both _ _ e in let two = both _ _ (three .0) in
+      let before-actuals = in-span s unused 4 8 (two .0) in
+      let actuals = in-span s energy 8 14 (two .1) in
+      by-spans common unused unused energy energy unused
+      (λ w l m. before-actuals w l (omega arith)) (λ w l m. before-actuals w (omega arith) m)
+      (λ w l m. actuals w l (omega arith)) (λ w l m. actuals w (omega arith) m) (in-span s unused 20 26 (three .1))
   each common Unknown e = never e refl
 
   -- a number that names a kind
@@ -183,20 +125,20 @@ module _ (members areas : ℕ) (s : List ℕ) where
       keeps (tenMinutesRecordRule members areas kind w) (word s w) ≡ true
   unfolding recordKeeps tenMinutesRecordRule
   all-kept kind is e w l =
-      let six = both _ _ e in
-      let five = both _ _ (six .0) in
+      let all = both _ _ e in
+      let five = both _ _ (all .0) in
       let four = both _ _ (five .0) in
       let three = both _ _ (four .0) in
       let two = both _ _ (three .0) in
       let common : Common = record {
-        kind-known = subst (λ k. keeps (Between 1 5) k ≡ true) is (known kind (six .1));
+        kind-known = subst (λ k. keeps (Between 1 5) k ≡ true) is (known kind (all .1));
         member-there = two .0;
         area-there = two .1;
         schedule = three .1;
         adjustments = four .1;
         rest = five .1;
       } in
-      at-each (Kept (kindOf kind)) 30 (each common (kindOf kind) (six .1)) w l
+      at-each (KeptBy (tenMinutesRulesOf (kindOf kind))) 30 (each common (kindOf kind) (all .1)) w l
 
 -- the words that spans pass keep their rules
 pub passed-kept : (mode : Mode) (source : Source) (members areas kind : ℕ) (s t : List ℕ) → kind ≡ wordBy source s t 0 → (w : ℕ) →

@@ -16,10 +16,11 @@ use Rattle.rules.specs.Refusals.{isBroken}
 use Rattle.examine.specs.declared.search.Source.{Source}
 use Rattle.examine.specs.declared.search.Source.the-variants.{File, Lists}
 
--- the words from `from` on, up to `to`, keep a rule
+-- a word from `from` on breaks a rule
 abbrev pub brokenAt : Rule → List ℕ → (from w : ℕ) → Bool
 brokenAt rule words from w = leb from w && not (keeps rule (word words w))
 
+-- the words from `from` on, up to `to`, keep a rule
 unfoldable pub spanKeeps : Rule → List ℕ → (from to : ℕ) → Bool
 spanKeeps rule words from to = not (isBroken (firstBelow (brokenAt rule words from) to))
 

@@ -3,8 +3,8 @@ ghost use mathlib.Core.Path.{_≡_};
 ghost use Prim.Native.Nat.{_*_, _<_};
 ghost use Rattle.rules.specs.Charge as Charge;
 
-// The nearest cent, of 2 × `half` parts, halves to the even one. `/` and `%` go toward zero, so what is left, and the 1 or -1 of an odd
-// number of whole cents, have the amount's sign. Together they hold `half` + 1 once where one cent more is due, and not at all otherwise.
+// The nearest cent, of 2 × `half` parts, halves to the even one. `/` and `%` go toward zero, so the rest, and the 1 or -1 of an odd number of
+// whole cents, have the amount's sign. A cent more is due exactly where their sum is above `half` in size; the last quotient is then 1 or -1.
 pub fn cents_of(amount: i64, half: u32) -> i64
     requires { ⌜ 0 < half ⌝ }
     ensures { λ r. ⌜ r ≡ Charge.centsOf (2 * half) amount ⌝ }

@@ -9,7 +9,7 @@ use Prim.Native.Nat.{ℕ, zero, suc, _+_, _<_}
 use native.Mathlib.Omega.{arith}
 use lib.Dec.{ltb, eqb}
 use lib.IntN.{ℤ, pos, negsuc, natAbs, _+ℤ_}
-use lib.Signed.{ltZ, _≤ℤ_, ltZ-no, clashℤ}
+use lib.Signed.{ltZ, _≤ℤ_, ltZ-yes, ltZ-no, clashℤ}
 use borrow.Author.Tests.{ltb-true, ltb-false, eqb-true, eqb-false}
 use Rattle.whole.specs.Below.{totalBelow}
 use Rattle.whole.proofs.Tests.{split, never, neither}
@@ -94,11 +94,11 @@ module _ (hs : List ℤ) (amount : ℤ) (add-up : totalBelow (headAt hs) 5 ≡ a
       by-sign grainsPerCent amount (λ z. absurd (other z))
       (λ more above.
       let at : (k : ℕ) → k < 5 → headAt hs k ≤ℤ pos 0 = λ k l. above-only (cents amount) (headAt hs k) above (without k l) in
-      clashℤ more (subst (λ (z : ℤ). z ≤ℤ pos 0) add-up
+      clashℤ (ltZ-yes (rw more tt)) (subst (λ (z : ℤ). z ≤ℤ pos 0) add-up
       (none-above _ _ _ _ _ (at 0 (omega arith)) (at 1 (omega arith)) (at 2 (omega arith)) (at 3 (omega arith)) (at 4 (omega arith)))))
       (λ less below.
       let at : (k : ℕ) → k < 5 → pos 0 ≤ℤ headAt hs k = λ k l. below-only (cents amount) (headAt hs k) below (without k l) in
-      clashℤ less (subst (λ (z : ℤ). pos 0 ≤ℤ z) add-up
+      clashℤ (ltZ-yes (rw less tt)) (subst (λ (z : ℤ). pos 0 ≤ℤ z) add-up
       (none-below-zero _ _ _ _ _ (at 0 (omega arith)) (at 1 (omega arith)) (at 2 (omega arith)) (at 3 (omega arith)) (at 4 (omega arith)))))
 
   -- A charge other than zero always has a head that decided.

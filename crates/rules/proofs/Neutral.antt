@@ -168,16 +168,13 @@ module _ {h : Hour} (kept : HourKept h) where
     all-grains-most kept,
   )
 
-  charge-most : (m : ℕ) → natAbs (charge h m) * 10000000 ≤ natAbs (amount h m) + 5000000
-  unfolding charge
-  charge-most m = half-a-cent-more (amount h m)
-
   -- N, and every running sum of charges, is at most 280,000,000,016 cents in size.
   pub charges-running : (n : ℕ) → n ≤ members h → Under (totalBelow (charge h) n) 280000000016
+  unfolding charge
   charges-running n l = u-le (total-within (charge h) (λ m. natAbs (charge h m)) n (λ m k. u-lit (charge h m))) (omega (
     arith,
     sum-mul (λ m. natAbs (charge h m)) 10000000 n,
-    sum-mono (λ m. natAbs (charge h m) * 10000000) (λ m. natAbs (amount h m) + 5000000) n (λ m k. charge-most m),
+    sum-mono (λ m. natAbs (charge h m) * 10000000) (λ m. natAbs (amount h m) + 5000000) n (λ m k. half-a-cent-more (amount h m)),
     sum-add (λ m. natAbs (amount h m)) (λ m. 5000000) n,
     sum-const 5000000 n,
     sum-prefix (λ m. natAbs (amount h m)) n (members h) l,

@@ -2,17 +2,17 @@
 -- follows of it: its sign, how large it is, and how code computes it. Document 01, "Charge in cents"; document 02, A8.
 use mathlib.Core.Path.{_≡_, refl, sym, _∙_, ap}
 use mathlib.Core.Logic.{_↔_, _⊎_, inl, inr}
-use mathlib.Core.Bool.{true, false, and-false, _&&_}
+use mathlib.Core.Bool.{true, false, and-false, or-true, _&&_}
 use Prim.Native.Nat.{ℕ, zero, suc, _+_, _-_, _*_, _/_, _%_, _≤_, _<_, zero-le}
-use native.Mathlib.Nat.{div-add-mod', mod-lt, mul-le-mul-right, le-div-iff-mul-le, div-lt-iff-lt-mul, zero-div, zero-mod}
+use native.Mathlib.Nat.{div-add-mod', div-eq-of-lt-le, mod-lt, mul-le-mul-right, zero-div, zero-mod}
 use native.Mathlib.Omega.{arith}
 use lib.Dec.{ltb, eqb}
-use lib.IntN.{ℤ, pos, negsuc, negℤ, natAbs, _+ℤ_, _-ℤ_, _*ℤ_}
-use lib.Signed.{ltZ, _<ℤ_, quotZ, remZ}
+use lib.IntN.{ℤ, pos, negsuc, negℤ, natAbs, negℤ-+ℤ, _+ℤ_, _-ℤ_, _*ℤ_}
+use lib.Signed.{ltZ, quotZ, remZ}
 use borrow.Author.Tests.{ltb-true, ltb-false, lt-ltb, le-ltb, eqb-true, eqb-false}
 use Rattle.whole.specs.Signed.{Under}
 use Rattle.whole.proofs.Tests.{split, both, neither}
-use Rattle.whole.proofs.Linear.{zr, all1, all2, lt↑, lt↓}
+use Rattle.whole.proofs.Linear.{zr, all1, all2}
 use Rattle.whole.proofs.Ranges.{abs-with-sign}
 use Rattle.rules.specs.Charge.{grainsPerCent, isOdd, oneMore, nearestCent, centsOf, cents}
 use Rattle.rules.specs.Explanation.{sameSign}
@@ -123,7 +123,7 @@ turned parts a z near = record {
   even-at-half = λ e. rw (turned-size z) (near .even-at-half (sym (turned-off a z parts) ∙ e));
 }
 
-pub every-unit : (parts : ℕ) → 0 < parts → (amount whole : ℤ) →
+every-unit : (parts : ℕ) → 0 < parts → (amount whole : ℤ) →
     (whole ≡ centsOf parts amount) ↔ Nearest parts amount whole
 every-unit parts some-part (pos n) z = from-zero parts some-part n z
 every-unit parts some-part (negsuc n) z = let above = from-zero parts some-part (suc n) (negℤ z) in (
@@ -143,33 +143,22 @@ nothing-rounded parts = rw (zero-div parts, zero-mod parts, le-ltb parts 0 zero-
 
 -- 0, or the sign of the amount
 pub by-sign : {X : Type 0} (parts : ℕ) (g : ℤ) → (centsOf parts g ≡ pos 0 → X) →
-    (pos 0 <ℤ g → ltZ (pos 0) (centsOf parts g) ≡ true → X) → (g <ℤ pos 0 → ltZ (centsOf parts g) (pos 0) ≡ true → X) → X
+    (ltZ (pos 0) g ≡ true → ltZ (pos 0) (centsOf parts g) ≡ true → X) → (ltZ g (pos 0) ≡ true → ltZ (centsOf parts g) (pos 0) ≡ true → X) → X
 by-sign parts (pos zero) none above below = none (ap pos (nothing-rounded parts))
 by-sign {X} parts (pos (suc u)) none above below = one (nearestCent parts (suc u)) refl
   where
     one : (n : ℕ) → nearestCent parts (suc u) ≡ n → X
     one zero e = none (ap pos e)
-    one (suc n) e = above (lt↑ (omega arith)) (rw e (lt-ltb 0 (suc n) (omega arith)))
+    one (suc n) e = above (lt-ltb 0 (suc u) (omega arith)) (rw e (lt-ltb 0 (suc n) (omega arith)))
 by-sign {X} parts (negsuc u) none above below = one (nearestCent parts (suc u)) refl
   where
     one : (n : ℕ) → nearestCent parts (suc u) ≡ n → X
     one zero e = none (rw e)
-    one (suc n) e = below (lt↑ (omega arith)) (rw e)
-
-above-both : (y z : ℤ) → pos 0 <ℤ y → ltZ (pos 0) z ≡ true → sameSign y z ≡ true
-unfolding sameSign
-above-both (pos zero) z l e = absurd (omega (arith, lt↓ l))
-above-both (pos (suc n)) z l e = rw (e, lt-ltb 0 (suc n) (omega arith))
-above-both (negsuc n) z l e = absurd (omega (arith, lt↓ l))
-
-below-both : (y z : ℤ) → y <ℤ pos 0 → ltZ z (pos 0) ≡ true → sameSign y z ≡ true
-unfolding sameSign
-below-both (pos n) z l e = absurd (omega (arith, lt↓ l))
-below-both (negsuc n) z l e = rw e
+    one (suc n) e = below refl (rw e)
 
 keeps-sign : (parts : ℕ) (amount : ℤ) → (centsOf parts amount ≡ pos 0) ⊎ (sameSign amount (centsOf parts amount) ≡ true)
-keeps-sign parts amount = by-sign parts amount inl
-    (λ l e. inr (above-both amount (centsOf parts amount) l e)) (λ l e. inr (below-both amount (centsOf parts amount) l e))
+unfolding sameSign
+keeps-sign parts amount = by-sign parts amount inl (λ a e. inr (rw (a, e))) (λ b e. inr (rw (b, e) (or-true (ltZ (pos 0) amount && ltZ (pos 0) (centsOf parts amount)))))
 
 pub rounding : Rounding
 rounding = record { every-unit = every-unit; charged = charged; keeps-sign = keeps-sign }
@@ -205,20 +194,20 @@ half-a-cent-more g = omega (arith, size-by-half 10000000 (omega arith) g)
 
 -- ---- how code computes it, for a cent of 2 × h parts: what is left, and one more behind an odd number, holds h + 1 once or not at all
 
-one-or-none : (x d n : ℕ) → 0 < d → n * d ≤ x → x < (n + 1) * d → x / d ≡ n
-one-or-none x d n p l m = omega (arith, le-div-iff-mul-le {x = n} {y = x} p .1 l, div-lt-iff-lt-mul {x = x} {y = n + 1} p .1 m)
-
 by-arithmetic : (h size : ℕ) → 0 < h →
     nearestCent (2 * h) size ≡ size / (2 * h) + (size % (2 * h) + size / (2 * h) % 2) / (h + 1)
 by-arithmetic h size p = by-case (2 * h) size (nearestCent (2 * h) size) refl
-    (λ is l. is ∙ rw (one-or-none left (h + 1) 0 (omega arith) (omega arith) (omega arith)) (omega arith))
-    (λ is l. is ∙ rw (one-or-none left (h + 1) 1 (omega arith) (omega arith) (omega (arith, mod-lt size two))))
+    (λ is l. is ∙ rw (quotient-is 0 (omega arith) (omega arith)) (omega arith))
+    (λ is l. is ∙ rw (quotient-is 1 (omega arith) (omega (arith, mod-lt size two))))
   where
     left : ℕ
     left = size % (2 * h) + size / (2 * h) % 2
 
     two : 0 < 2 * h
     two = omega arith
+
+    quotient-is : (n : ℕ) → n * (h + 1) ≤ left → left < (n + 1) * (h + 1) → left / (h + 1) ≡ n
+    quotient-is n low high = div-eq-of-lt-le (h + 1) low high
 
 quot-minus : (k d : ℕ) → quotZ (negℤ (pos k)) (pos d) ≡ negℤ (pos (k / d))
 quot-minus zero d = rw (zero-div d)
@@ -228,9 +217,6 @@ rem-minus : (k d : ℕ) → remZ (negℤ (pos k)) (pos d) ≡ negℤ (pos (k % d
 rem-minus zero d = rw (zero-mod d)
 rem-minus (suc k) d = refl
 
-minus-sum : (a b : ℕ) → negℤ (pos a) +ℤ negℤ (pos b) ≡ negℤ (pos (a + b))
-minus-sum a b = simp zr (omega arith)
-
 -- the same with the quotients and remainders of signed numbers, which go toward zero
 pub by-quotients : (h : ℕ) (z : ℤ) → 0 < h →
     quotZ z (pos (2 * h)) +ℤ quotZ (remZ z (pos (2 * h)) +ℤ remZ (quotZ z (pos (2 * h))) (pos 2)) (pos (h + 1)) ≡ centsOf (2 * h) z
@@ -238,8 +224,8 @@ by-quotients h (pos n) p = ap pos (sym (by-arithmetic h n p))
 by-quotients h (negsuc u) p = let n : ℕ = suc u in let d : ℕ = 2 * h in
     rw (
       rem-minus (n / d) 2,
-      minus-sum (n % d) (n / d % 2),
+      sym (negℤ-+ℤ (pos (n % d)) (pos (n / d % 2))),
       quot-minus (n % d + n / d % 2) (h + 1),
-      minus-sum (n / d) ((n % d + n / d % 2) / (h + 1)),
+      sym (negℤ-+ℤ (pos (n / d)) (pos ((n % d + n / d % 2) / (h + 1)))),
       by-arithmetic h n p,
     )

@@ -32,8 +32,8 @@ grainsPerCent = 10000000
 abbrev pub isOdd : ℕ → Bool
 isOdd n = eqb (n % 2) 1
 
--- "Round halves to the even cent" (document 02, A8). One cent more than the whole cents is due where over half a cent is left, of so many parts
--- a cent, or half a cent behind an odd number
+-- "Round halves to the even cent" (document 02, A8), where a cent has so many parts: one cent more than the whole cents is due where more than
+-- half a cent is left, or exactly half and the number of whole cents is odd
 abbrev pub oneMore : (parts whole left : ℕ) → Bool
 oneMore parts whole left = ltb parts (2 * left) || (eqb (2 * left) parts && isOdd whole)
 
