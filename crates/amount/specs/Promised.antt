@@ -2,15 +2,15 @@
 use Rattle.std.specs.Prelude.{◌≡◌, List, ℕ, ℤ}
 use Rattle.rules.specs.declared.Answer.{Answer}
 use Rattle.rules.specs.declared.Reading.{Reading}
-use Rattle.rules.specs.Refusals.{verdictOf}
+use Rattle.rules.specs.Refusals.{verdict_of}
 use Rattle.rules.specs.Settling.{write, read}
 
 -- writing z into a field answered this and left that
 pub record Wrote (field : List ℕ) (z : ℤ) (answer : Answer) (after : List ℕ) : Type 0 where
-  pub verdict-is : verdictOf answer ≡ (write field z).verdict
+  pub verdict_is : verdict_of answer ≡ (write field z).verdict
   pub field_is : after ≡ (write field z).field
 
 -- reading a field answered this
 pub record HasRead (field : List ℕ) (r : Reading) : Type 0 where
-  pub verdict-is : verdictOf r.answer ≡ (read field).verdict
-  pub amount-is : r.amount ≡ (read field).amount
+  pub verdict_is : verdict_of r.answer ≡ (read field).verdict
+  pub amount_is : r.amount ≡ (read field).amount

@@ -1,13 +1,13 @@
 // A number's decimal digits, as a statement's counts have them.
 ghost use Rattle.std.specs.Prelude.{◌≡◌, ◌-◌, ◌%◌, ◌≤◌, length};
 ghost use Rattle.std.proofs.lemmas.List.Edits.{sets};
-ghost use Rattle.rules.specs.Text.{decimal, digitByte};
+ghost use Rattle.rules.specs.Text.{decimal, digit_byte};
 
 use crate::text;
 
 // The last digit of a number.
 pub fn digit(number: u64) -> u8
-    ensures { result ≡ digitByte (number % 10) }
+    ensures { result ≡ digit_byte (number % 10) }
 {
     text::last_digit(number, number / 10)
 }

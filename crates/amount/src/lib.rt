@@ -1,7 +1,7 @@
 // Amounts as text (document 01, "Text amounts"): `write` puts an amount of cents into the caller's field, `read` takes one out.
 // Both take every number and every field; what they refuse is rows 8 to 10 of the table, and a refused field is unchanged to the byte.
 ghost use Rattle.std.specs.Prelude.{◌≡◌};
-ghost use Rattle.rules.specs.Refusals.{verdictOf};
+ghost use Rattle.rules.specs.Refusals.{verdict_of};
 ghost use Rattle.rules.specs.Settling as Settling;
 
 pub mod decimal;
@@ -14,7 +14,7 @@ use rules::{Answer, Reading};
 
 // Writes an amount of cents into the whole field, whose length is the width.
 pub fn write(cents: i64, field: &mut [u8]) -> Answer
-    ensures verdict { verdictOf result ≡ (Settling.write field.old cents).verdict }
+    ensures verdict { verdict_of result ≡ (Settling.write field.old cents).verdict }
     ensures field { field.new ≡ (Settling.write field.old cents).field }
 {
     if 999999999999 < whole::size_of(cents) {
@@ -31,7 +31,7 @@ pub fn write(cents: i64, field: &mut [u8]) -> Answer
 
 // Reads the amount that stands in the whole field: blanks, a sign, dollars, cents, and nothing after them.
 pub fn read(field: &[u8]) -> Reading
-    ensures verdict { verdictOf result.answer ≡ (Settling.read field.now).verdict }
+    ensures verdict { verdict_of result.answer ≡ (Settling.read field.now).verdict }
     ensures amount { result.amount ≡ (Settling.read field.now).amount }
 {
     let Sign::Found(is_minus, after_sign) = Cursor::start().blanks(field).sign(field) else {

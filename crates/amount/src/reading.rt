@@ -1,9 +1,9 @@
 // The parts of `read`: a reading place moves on, and each part hands it back with its value, or is missing.
 ghost use Rattle.std.proofs.Math.Option.{none};
 ghost use Rattle.std.specs.Prelude.{◌≡◌, ◌+◌, ◌≤◌, min, drop, get_or};
-ghost use Rattle.rules.specs.Text.{centsAt, digitCount, digitsValue, dollarsAt, isDigit, pastBlanks, signAt, withMinus};
-ghost use Rattle.rules.specs.Settling.{orRefused};
-ghost use Rattle.amount.specs.Parts.{numberPart, readAmount, signPart};
+ghost use Rattle.rules.specs.Text.{cents_at, digit_count, digits_value, dollars_at, is_digit, past_blanks, sign_at, with_minus};
+ghost use Rattle.rules.specs.Settling.{or_refused};
+ghost use Rattle.amount.specs.Parts.{number_part, read_amount, sign_part};
 
 use rules::{Answer, Reading};
 
@@ -43,7 +43,7 @@ fn byte_at(field: &[u8], at: usize) -> u8
 }
 
 fn is_digit(byte: u8) -> bool
-    ensures { result ≡ isDigit byte }
+    ensures { result ≡ is_digit byte }
 {
     if byte < 48 {
         return false;
@@ -53,9 +53,9 @@ fn is_digit(byte: u8) -> bool
 
 // The digits from a place on, at most eleven: dollars have at most ten.
 fn digits_from(field: &[u8], from: usize) -> Run
-    ensures count { result.count ≡ min 11 (digitCount (drop from field.now)) }
+    ensures count { result.count ≡ min 11 (digit_count (drop from field.now)) }
     ensures next { result.next ≡ from + result.count }
-    ensures value { result.value ≡ digitsValue (drop from field.now) result.count }
+    ensures value { result.value ≡ digits_value (drop from field.now) result.count }
 {
     let mut count: usize = 0;
     let mut value: u64 = 0;
@@ -83,7 +83,7 @@ impl Cursor {
 
     // None or more blanks: they are never missing.
     pub fn blanks(self, field: &[u8]) -> Self
-        ensures { result.at ≡ pastBlanks field.now self.at }
+        ensures { result.at ≡ past_blanks field.now self.at }
     {
         let mut at = self.at;
         while byte_at(field, at) == b' ' {
@@ -93,7 +93,7 @@ impl Cursor {
     }
 
     pub fn sign(self, field: &[u8]) -> Sign
-        ensures { signPart result ≡ signAt field.now self.at }
+        ensures { sign_part result ≡ sign_at field.now self.at }
     {
         let at = self.at;
         let byte = byte_at(field, at);
@@ -108,7 +108,7 @@ impl Cursor {
 
     // One to ten digits, the first of several no zero.
     pub fn dollars(self, field: &[u8]) -> Number
-        ensures { numberPart result ≡ dollarsAt field.now self.at }
+        ensures { number_part result ≡ dollars_at field.now self.at }
     {
         let at = self.at;
         let run = digits_from(field, at);
@@ -129,7 +129,7 @@ impl Cursor {
 
     // A point and two digits. The second is looked at first: where it stands, the first does too, and nothing is asked twice.
     pub fn cents(self, field: &[u8]) -> Number
-        ensures { numberPart result ≡ centsAt field.now self.at }
+        ensures { number_part result ≡ cents_at field.now self.at }
     {
         let at = self.at;
         if byte_at(field, at) != b'.' {
@@ -149,7 +149,7 @@ impl Cursor {
 }
 
 pub fn refused() -> Reading
-    ensures { readAmount result ≡ orRefused none }
+    ensures { read_amount result ≡ or_refused none }
 {
     Reading {
         answer: Answer::NotAnAmount,
@@ -160,7 +160,7 @@ pub fn refused() -> Reading
 // The amount of this sign and size; there is no minus zero.
 pub fn signed(is_minus: bool, size: u64) -> Reading
     requires { size ≤ 999999999999 }
-    ensures { readAmount result ≡ orRefused (withMinus is_minus size) }
+    ensures { read_amount result ≡ or_refused (with_minus is_minus size) }
 {
     if !is_minus {
         return Reading {

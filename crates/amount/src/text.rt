@@ -2,12 +2,12 @@
 // only when it is whole; till then no byte of the field is touched. Every number of 64 bits has room, and every amount.
 ghost use Rattle.std.specs.Prelude.{◌≡◌, ◌-◌, ◌/◌, ◌%◌, ◌≤◌, drop, length};
 ghost use Rattle.std.proofs.lemmas.List.Edits.{sets};
-ghost use Rattle.rules.specs.Text.{decimal, digitByte};
+ghost use Rattle.rules.specs.Text.{decimal, digit_byte};
 
 // The last digit of a number whose tenth is known: one division serves for both.
 pub fn last_digit(number: u64, tenth: u64) -> u8
     requires { tenth ≡ number / 10 }
-    ensures { result ≡ digitByte (number % 10) }
+    ensures { result ≡ digit_byte (number % 10) }
 {
     (48 + (number - 10 * tenth)) as u8
 }

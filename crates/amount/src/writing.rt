@@ -1,11 +1,11 @@
 // The parts of `write`: an amount's sign, its text in twenty bytes, and the text in its place at the field's right end.
 ghost use Rattle.std.specs.Prelude.{◌++◌, ◌≡◌, ◌+◌, ◌-◌, ◌≤◌, nat_abs, drop, length, replicate};
-ghost use Rattle.rules.specs.Text.{amountField, amountText, signByte};
+ghost use Rattle.rules.specs.Text.{amount_field, amount_text, sign_byte};
 
 use crate::text;
 
 fn sign_byte(cents: i64) -> u8
-    ensures { result ≡ signByte cents }
+    ensures { result ≡ sign_byte cents }
 {
     if cents < 0 { b'-' } else { b'+' }
 }
@@ -13,8 +13,8 @@ fn sign_byte(cents: i64) -> u8
 // An amount at the end of twenty blanks. Hands back the length of its text.
 pub fn write_amount(text: &mut [u8; 20], cents: i64) -> usize
     requires { (nat_abs cents ≤ 999999999999) × (text.old ≡ replicate 20 32) }
-    ensures length { result ≡ length (amountText cents) }
-    ensures text { text.new ≡ amountField 20 cents }
+    ensures length { result ≡ length (amount_text cents) }
+    ensures text { text.new ≡ amount_field 20 cents }
 {
     let size = whole::size_of(cents);
     let tenth = size / 10;

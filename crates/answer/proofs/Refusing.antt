@@ -21,15 +21,15 @@ use Rattle.rules.specs.declared.Answer.TheVariants.{
   NoMember,
   AboveMaximum,
 }
-use Rattle.rules.specs.Refusals.{verdictOf}
-use Rattle.rules.specs.Settling.{isAccepted}
+use Rattle.rules.specs.Refusals.{verdict_of}
+use Rattle.rules.specs.Settling.{is_accepted}
 
 -- the answers but acceptance, as code that matches tells them apart
 pub no_other : OneOf (1 ∷ 2 ∷ 3 ∷ 4 ∷ 5 ∷ 6 ∷ 7 ∷ 8 ∷ 9 ∷ 10 ∷ 11 ∷ 12 ∷ 13 ∷ 14 ∷ []) 0 → ⊥
 no_other = miss (1 ∷ 2 ∷ 3 ∷ 4 ∷ 5 ∷ 6 ∷ 7 ∷ 8 ∷ 9 ∷ 10 ∷ 11 ∷ 12 ∷ 13 ∷ 14 ∷ []) 0 tt
 
 -- each has a number
-pub numbered : (a : Answer) → (a ≡ Accepted → ⊥) → isAccepted (verdictOf a) ≡ false
+pub numbered : (a : Answer) → (a ≡ Accepted → ⊥) → is_accepted (verdict_of a) ≡ false
 numbered Accepted n = absurd (n refl)
 numbered BadLength n = refl
 numbered (BadSum b) n = refl

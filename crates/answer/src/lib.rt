@@ -1,7 +1,7 @@
 // An answer's number and place in the table of refusals, for whoever prints them or hands them on; what a refused settling answers.
 ghost use Rattle.std.specs.Prelude.{◌≡◌};
 ghost use Rattle.rules.specs.Refusals.{number_of, place_of};
-ghost use Rattle.rules.specs.Settling.{noFigures};
+ghost use Rattle.rules.specs.Settling.{no_figures};
 
 use rules::{Answer, Settled};
 
@@ -52,7 +52,7 @@ pub fn place_of(answer: Answer) -> usize
 
 // All UFE figures are 0 on refusal.
 pub fn refused(answer: Answer) -> Settled
-    ensures { result ≡ record { answer = answer; ufe = noFigures } }
+    ensures { result ≡ record { answer = answer; ufe = no_figures } }
 {
     Settled {
         answer: answer,

@@ -3,9 +3,9 @@ use Rattle.std.proofs.Common.{◌≡◌, ℕ, ◌+◌, ◌*◌, ◌/◌, ◌%◌
 use Rattle.rules.specs.declared.Layout.{Layout}
 use Rattle.rules.specs.HourFile.{body}
 use Rattle.rules.specs.Inner.Layouts.{FitsBody}
-use Rattle.rules.proofs.Layouts.{ends-inside}
-use Rattle.rules.proofs.Words.{body-length}
-use Rattle.blocks.specs.Part.{recordPart, RecordThere}
+use Rattle.rules.proofs.Layouts.{ends_inside}
+use Rattle.rules.proofs.Words.{body_length}
+use Rattle.blocks.specs.Part.{record_part, RecordThere}
 
 module _ {l : Layout} {s : List ℕ} {i : ℕ} (fit : FitsBody l) (there : RecordThere l s i) where
   abbrev own : List ℕ
@@ -14,7 +14,7 @@ module _ {l : Layout} {s : List ℕ} {i : ℕ} (fit : FitsBody l) (there : Recor
   abbrev from : ℕ
   from = 4 * l.words * (i % l.records)
 
-  pub record-part-length : length (recordPart l s i) ≡ 4 * l.words
-  record-part-length =
-      let whole = body-length l s (1 + i / l.records) there.length-good there.block-there in
-      length-take-le (4 * l.words) (drop from own) (omega (arith, whole, length-drop from own, ends-inside fit i))
+  pub record_part_length : length (record_part l s i) ≡ 4 * l.words
+  record_part_length =
+      let whole = body_length l s (1 + i / l.records) there.length_good there.block_there in
+      length-take-le (4 * l.words) (drop from own) (omega (arith, whole, length-drop from own, ends_inside fit i))

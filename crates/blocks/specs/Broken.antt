@@ -3,8 +3,8 @@
 use Rattle.std.specs.Prelude.{ℕ, Bool, List}
 use Rattle.rules.specs.declared.Layout.{Layout}
 use Rattle.rules.specs.HourFile.{word}
-use Rattle.rules.specs.Ranges.{blockRule, firstBroken}
-use Rattle.rules.specs.Refusals.{isBroken}
+use Rattle.rules.specs.Ranges.{block_rule, first_broken}
+use Rattle.rules.specs.Refusals.{is_broken}
 
-abbrev pub brokenBelow : (layout : Layout) (words n held b : ℕ) (block : List ℕ) → Bool
-brokenBelow layout words n held b block = isBroken (firstBroken (blockRule layout n held b) (word block) words)
+abbrev pub broken_below : (layout : Layout) (words n held b : ℕ) (block : List ℕ) → Bool
+broken_below layout words n held b block = is_broken (first_broken (block_rule layout n held b) (word block) words)

@@ -4,7 +4,7 @@
 // file that was accepted it is, and the sums read thousands of words. A layout comes as a value: where the caller names it, the compiler
 // folds its numbers in.
 ghost use Rattle.std.specs.Prelude.{◌≡◌, ◌+◌, ◌*◌, ◌%◌, ◌<◌, ◌≤◌, false, not, ◌&&◌, length, take, drop, ◌==◌, nat_le, slice_index};
-ghost use Rattle.whole.specs.Below.{sumBelow, firstBelow};
+ghost use Rattle.whole.specs.Below.{sum_below, first_below};
 ghost use Rattle.rules.specs.Record as Record;
 ghost use Rattle.rules.specs.declared.Layout as LayoutOf;
 ghost use Rattle.rules.specs.HourFile as HourFile;
@@ -12,8 +12,8 @@ ghost use Rattle.rules.specs.Inner.Layouts.{FitsBody};
 ghost use Rattle.rules.specs.Ranges as Ranges;
 ghost use Rattle.rules.specs.Refusals as Refusals;
 ghost use Rattle.rules.specs.Refusals.{found_at};
-ghost use Rattle.blocks.specs.Part.{recordPart, RecordThere};
-ghost use Rattle.blocks.specs.Broken.{brokenBelow};
+ghost use Rattle.blocks.specs.Part.{record_part, RecordThere};
+ghost use Rattle.blocks.specs.Broken.{broken_below};
 
 use rules::{Found, Layout};
 
@@ -90,7 +90,7 @@ pub fn signed(w: u32) -> i64
 
 // Refusal 1: whether the length is not that of whole blocks, at least one and at most so many.
 pub fn length_bad(layout: Layout, file: &[u8]) -> bool
-    ensures { result ≡ HourFile.lengthBad layout file.now }
+    ensures { result ≡ HourFile.length_bad layout file.now }
 {
     let n = file.len();
     if n == 0 {
@@ -144,7 +144,7 @@ pub fn body(layout: Layout, file: &[u8], b: usize) -> &[u8]
 
 // Word `w` of block `b`.
 fn block_word(file: &[u8], b: usize, w: usize) -> u32
-    ensures { result ≡ HourFile.blockWord file.now b w }
+    ensures { result ≡ HourFile.block_word file.now b w }
 {
     if count(file) < b {
         return 0;
@@ -157,7 +157,7 @@ fn block_word(file: &[u8], b: usize, w: usize) -> u32
 
 // Word `w` of the head: words 8 to 127 of the first block, whatever the layout.
 pub fn head_word(file: &[u8], w: usize) -> u32
-    ensures { (l : LayoutOf.Layout) → result ≡ (HourFile.hourOf l file.now).head w }
+    ensures { (l : LayoutOf.Layout) → result ≡ (HourFile.hour_of l file.now).head w }
 {
     if w < 8 {
         return 0;
@@ -179,7 +179,7 @@ fn added(sum: u32, word: u32) -> u32
 
 // The sum of a block's 128 words, modulo 2^32.
 fn sum_of(block: &[u8]) -> u32
-    ensures { result ≡ sumBelow (HourFile.word block.now) 128 % 0x1_0000_0000 }
+    ensures { result ≡ sum_below (HourFile.word block.now) 128 % 0x1_0000_0000 }
 {
     let mut sum: u32 = 0;
     let mut w = 0;
@@ -192,7 +192,7 @@ fn sum_of(block: &[u8]) -> u32
 
 // The first block whose sum isn't zero.
 pub fn bad_sum(file: &[u8]) -> Found
-    ensures { found_at result ≡ Refusals.badSum file.now }
+    ensures { found_at result ≡ Refusals.bad_sum file.now }
 {
     let n = count(file);
     let mut b = 0;
@@ -209,7 +209,7 @@ pub fn bad_sum(file: &[u8]) -> Found
 
 // The first word of a block, from `from` on, that isn't zero.
 fn first_not_zero(block: &[u8], from: usize) -> Found
-    ensures { found_at result ≡ firstBelow (λ w. nat_le from w && not (HourFile.word block.now w == 0)) 128 }
+    ensures { found_at result ≡ first_below (λ w. nat_le from w && not (HourFile.word block.now w == 0)) 128 }
 {
     let mut w = from;
     while w < 128 {
@@ -224,7 +224,7 @@ fn first_not_zero(block: &[u8], from: usize) -> Found
 // Whether word `w` of block `b` of `n` breaks the layout.
 fn block_word_bad(layout: Layout, block: &[u8], n: u32, held: u32, b: u32, w: usize) -> bool
     requires { FitsBody layout }
-    ensures { result ≡ not (Ranges.keeps (Ranges.blockRule layout n held b w) (HourFile.word block.now w)) }
+    ensures { result ≡ not (Ranges.keeps (Ranges.block_rule layout n held b w) (HourFile.word block.now w)) }
 {
     let rule = wordrules::block_rule(layout, n, held, b, w);
     !wordrules::keeps(rule, word(block, w))
@@ -233,7 +233,7 @@ fn block_word_bad(layout: Layout, block: &[u8], n: u32, held: u32, b: u32, w: us
 // Whether one of words 0 to 6 of block `b` of `n` breaks the layout.
 fn front_bad(layout: Layout, block: &[u8], n: u32, held: u32, b: u32) -> bool
     requires { FitsBody layout }
-    ensures { result ≡ brokenBelow layout 7 n held b block.now }
+    ensures { result ≡ broken_below layout 7 n held b block.now }
 {
     let mut w = 0;
     while w < 7 {
@@ -248,7 +248,7 @@ fn front_bad(layout: Layout, block: &[u8], n: u32, held: u32, b: u32) -> bool
 // Whether block `b` of `n` breaks the layout. The body of the first block is for refusal 4; of another block it is zero past the records.
 fn block_bad(layout: Layout, block: &[u8], n: u32, b: u32) -> bool
     requires { FitsBody layout }
-    ensures { result ≡ brokenBelow layout 128 n (HourFile.word block.now 2) b block.now }
+    ensures { result ≡ broken_below layout 128 n (HourFile.word block.now 2) b block.now }
 {
     let held = word(block, 2);
     let past = 8 + layout.words * (held as usize);
@@ -267,7 +267,7 @@ fn block_bad(layout: Layout, block: &[u8], n: u32, b: u32) -> bool
 // The first block that breaks the layout.
 pub fn bad_block(layout: Layout, file: &[u8]) -> Found
     requires { FitsBody layout × (HourFile.blocks file.now < 0x1_0000_0000) }
-    ensures { found_at result ≡ Refusals.badBlock layout file.now }
+    ensures { found_at result ≡ Refusals.bad_block layout file.now }
 {
     let n = count(file);
     let mut b = 0;
@@ -285,7 +285,7 @@ pub fn bad_block(layout: Layout, file: &[u8]) -> Found
 // How many records a file says it holds, by the count of its last block.
 pub fn records(layout: Layout, file: &[u8]) -> usize
     requires { FitsBody layout }
-    ensures { result ≡ HourFile.recordCount layout file.now }
+    ensures { result ≡ HourFile.record_count layout file.now }
 {
     let n = count(file);
     if n <= 1 {
@@ -297,7 +297,7 @@ pub fn records(layout: Layout, file: &[u8]) -> usize
 // Record `i`, a part of its block's body. Whoever reads several words of a record takes this part once.
 pub fn record(layout: Layout, file: &[u8], i: usize) -> &[u8]
     requires { FitsBody layout × RecordThere layout file.now i }
-    ensures { result.now ≡ recordPart layout file.now i }
+    ensures { result.now ≡ record_part layout file.now i }
 {
     let full = layout.records;
     let size = 4 * layout.words;

@@ -1,26 +1,26 @@
 -- How far an hour is posted: what the functions that go on from there ask of their callers. And what a tally gives, whoever's it is.
 use Rattle.std.specs.Prelude.{ℕ, ◌<◌, ◌≡◌, Bool, not, ◌&&◌, List, eqb, ℤ, pos, nat_abs, get_or}
-use Rattle.whole.specs.Below.{sumBelow}
+use Rattle.whole.specs.Below.{sum_below}
 use Rattle.rules.specs.declared.Tally.{Tally}
-use Rattle.rules.specs.Inner.Posting.{tallyAfter}
+use Rattle.rules.specs.Inner.Posting.{tally_after}
 use Rattle.rules.specs.Inner.Kept.{FileKept}
-use Rattle.rules.specs.HourFile.{hourIn}
+use Rattle.rules.specs.HourFile.{hour_in}
 
 -- the records before i are in the tally, and record i is there to be posted
 pub record TalliedUpTo (s : List ℕ) (t : Tally) (i : ℕ) : Type 0 where
   pub kept : FileKept s
-  pub there : i < (hourIn s).count
-  pub posted : t ≡ tallyAfter (hourIn s) i
+  pub there : i < (hour_in s).count
+  pub posted : t ≡ tally_after (hour_in s) i
 
 -- all records are in the tally
 pub record Tallied (s : List ℕ) (t : Tally) : Type 0 where
   pub kept : FileKept s
-  pub posted : t ≡ tallyAfter (hourIn s) (hourIn s).count
+  pub posted : t ≡ tally_after (hour_in s) (hour_in s).count
 
 -- an area in which nobody demands anything and whose figure isn't 0
 abbrev pub unshared : Tally → List ℤ → ℕ → Bool
 unshared t figures a = eqb (get_or t.demand a 0) 0 && not (eqb (nat_abs (get_or figures a (pos 0))) 0)
 
 -- what the first areas demand together
-abbrev pub demandIn : Tally → ℕ → ℕ
-demandIn t = sumBelow (λ a. get_or t.demand a 0)
+abbrev pub demand_in : Tally → ℕ → ℕ
+demand_in t = sum_below (λ a. get_or t.demand a 0)

@@ -1,16 +1,16 @@
 // By area: the hour's tally, lent to each posting in file order, and what it gives: each area's UFE, refusal 6, and whether
 // anybody demands anything.
 ghost use Rattle.std.specs.Prelude.{◌≡◌, ◌≤◌, ◌<◌, eqb};
-ghost use Rattle.whole.specs.Below.{firstBelow};
+ghost use Rattle.whole.specs.Below.{first_below};
 ghost use Rattle.rules.specs.Record as Record;
 ghost use Rattle.rules.specs.Ufe.{ufe};
 ghost use Rattle.rules.specs.Inner.Posting as Posting;
 ghost use Rattle.rules.specs.Refusals.{found_at};
-ghost use Rattle.rules.specs.Settling.{ufeFigures};
+ghost use Rattle.rules.specs.Settling.{ufe_figures};
 ghost use Rattle.formula.specs.Room.{TallyRoom};
-ghost use Rattle.rules.specs.HourFile.{hourIn};
+ghost use Rattle.rules.specs.HourFile.{hour_in};
 ghost use Rattle.hour.specs.Hour.{Headed};
-ghost use Rattle.byarea.specs.Posted.{Tallied, unshared, demandIn};
+ghost use Rattle.byarea.specs.Posted.{Tallied, unshared, demand_in};
 
 use hour::Head;
 use rules::{Found, Tally};
@@ -27,7 +27,7 @@ fn post(tally: &mut Tally, area: usize, demand: u32, energy: i64)
 // All records, in file order, to one tally that is lent to each posting.
 pub fn tally_of(file: &[u8], head: Head) -> Tally
     requires { Headed file.now head }
-    ensures { result ≡ Posting.tallyAfter (hourIn file.now) (hourIn file.now).count }
+    ensures { result ≡ Posting.tally_after (hour_in file.now) (hour_in file.now).count }
 {
     let n = head.records;
     let mut tally = formula::posting::empty_tally();
@@ -44,8 +44,8 @@ pub fn tally_of(file: &[u8], head: Head) -> Tally
 
 // An area's UFE: its ties, and what its records are accounted for.
 fn ufe_of(file: &[u8], t: Tally, a: usize) -> i64
-    requires { Tallied file.now t × (a < Record.areas (hourIn file.now)) }
-    ensures { result ≡ ufe (hourIn file.now) a }
+    requires { Tallied file.now t × (a < Record.areas (hour_in file.now)) }
+    ensures { result ≡ ufe (hour_in file.now) a }
 {
     let tie_in = hour::head_word(file, 17 + 4 * a) as i64;
     let tie_out = hour::head_word(file, 18 + 4 * a) as i64;
@@ -55,7 +55,7 @@ fn ufe_of(file: &[u8], t: Tally, a: usize) -> i64
 // Eight figures, 0 past the areas.
 pub fn ufe_figures(file: &[u8], head: Head, t: Tally) -> [i64; 8]
     requires { Headed file.now head × Tallied file.now t }
-    ensures { result ≡ ufeFigures (hourIn file.now) }
+    ensures { result ≡ ufe_figures (hour_in file.now) }
 {
     let areas = head.areas;
     let mut ufe = [0i64; 8];
@@ -70,7 +70,7 @@ pub fn ufe_figures(file: &[u8], head: Head, t: Tally) -> [i64; 8]
 // Refusal 6: the first area where nobody demands anything and there is something to share.
 pub fn area_without_demand(areas: usize, t: Tally, ufe: [i64; 8]) -> Found
     requires { areas ≤ 8 }
-    ensures { found_at result ≡ firstBelow (unshared t ufe) areas }
+    ensures { found_at result ≡ first_below (unshared t ufe) areas }
 {
     let mut a = 0;
     while a < areas {
@@ -87,7 +87,7 @@ pub fn area_without_demand(areas: usize, t: Tally, ufe: [i64; 8]) -> Found
 // Whether nobody demands anything in these areas: in an hour without demand there is nothing to share the neutrality amount by.
 pub fn nobody_demands(areas: usize, t: Tally) -> bool
     requires { areas ≤ 8 }
-    ensures { result ≡ eqb (demandIn t areas) 0 }
+    ensures { result ≡ eqb (demand_in t areas) 0 }
 {
     let mut a = 0;
     while a < areas {

@@ -6,27 +6,27 @@ use native.Mathlib.Omega.{arith}
 use lib.IntN.{ℤ, pos}
 use lib.ListN.{length}
 use Rattle.whole.specs.Below.{replacingFirst}
-use Rattle.whole.proofs.Buffers.{getD-replacing, length-replacing}
+use Rattle.whole.proofs.Buffers.{get_or_replacing, length_replacing}
 use Rattle.rules.specs.Record.{Hour, entry_of}
 use Rattle.rules.specs.Deviation.{deviation}
 use Rattle.rules.specs.Charge.{share_of}
 use Rattle.rules.specs.Inner.Kept.{FileKept}
-use Rattle.rules.specs.HourFile.{hourIn}
+use Rattle.rules.specs.HourFile.{hour_in}
 use Rattle.bymember.specs.Lined.{AllWorked}
 
 module _ {s : List ℕ} (kept : FileKept s) where
   abbrev h : Hour
-  h = hourIn s
+  h = hour_in s
 
-  pub all-worked : (old-deviations old-shares : List ℤ) {deviations shares : List ℤ} →
+  pub all_worked : (old-deviations old-shares : List ℤ) {deviations shares : List ℤ} →
       h.count ≤ length old-deviations → h.count ≤ length old-shares →
       deviations ≡ replacingFirst (λ i. deviation (entry_of h i)) h.count old-deviations →
       shares ≡ replacingFirst (share_of h) h.count old-shares → AllWorked s deviations shares
-  all-worked old-deviations old-shares deviations-room shares-room put-deviations put-shares = record {
+  all_worked old-deviations old-shares deviations_room shares_room put-deviations put-shares = record {
     kept = kept;
-    deviations-room =
-        omega (arith, ap length put-deviations, length-replacing (λ i. deviation (entry_of h i)) h.count old-deviations deviations-room);
-    shares-room = omega (arith, ap length put-shares, length-replacing (share_of h) h.count old-shares shares-room);
-    deviations-are = λ i l. rw put-deviations (getD-replacing _ h.count old-deviations i (pos 0) l);
-    shares-are = λ i l. rw put-shares (getD-replacing _ h.count old-shares i (pos 0) l);
+    deviations_room =
+        omega (arith, ap length put-deviations, length_replacing (λ i. deviation (entry_of h i)) h.count old-deviations deviations_room);
+    shares_room = omega (arith, ap length put-shares, length_replacing (share_of h) h.count old-shares shares_room);
+    deviations_are = λ i l. rw put-deviations (get_or_replacing _ h.count old-deviations i (pos 0) l);
+    shares_are = λ i l. rw put-shares (get_or_replacing _ h.count old-shares i (pos 0) l);
   }

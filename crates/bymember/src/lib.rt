@@ -8,7 +8,7 @@ ghost use Rattle.rules.specs.Charge as Charge;
 ghost use Rattle.rules.specs.Settling as Settling;
 ghost use Rattle.rules.specs.Inner.Posting as Posting;
 ghost use Rattle.formula.specs.Room.{LineRoom};
-ghost use Rattle.rules.specs.HourFile.{hourIn};
+ghost use Rattle.rules.specs.HourFile.{hour_in};
 ghost use Rattle.hour.specs.Hour.{Headed};
 ghost use Rattle.bymember.specs.Lined.{Worked, AllWorked};
 
@@ -21,7 +21,7 @@ pub mod neutrality;
 // itself: eight of them would be copied for each record. `neutrality` asks for it where no line may be written yet.
 pub fn grains(file: &[u8], i: usize, price: i64, deviation: i64, share: i64) -> i64
     requires { Worked file.now i price deviation share }
-    ensures { result ≡ Charge.grains (hourIn file.now) i }
+    ensures { result ≡ Charge.grains (hour_in file.now) i }
 {
     let kind = hour::kind_in(hour::record(file, i));
     price * (formula::deviation::entering(kind, deviation) + share)
@@ -29,8 +29,8 @@ pub fn grains(file: &[u8], i: usize, price: i64, deviation: i64, share: i64) -> 
 
 // Touches the member's line and no other.
 fn post_line(lines: &mut [Line], member: usize, grains: i64)
-    requires { (member < length lines.old) × LineRoom (get_or lines.old member Settling.emptyLine) grains }
-    ensures { lines.new ≡ Posting.linesWith lines.old member grains }
+    requires { (member < length lines.old) × LineRoom (get_or lines.old member Settling.empty_line) grains }
+    ensures { lines.new ≡ Posting.lines_with lines.old member grains }
 {
     let before = lines[member];
     lines[member] = formula::posting::line_with(before, grains);
@@ -39,7 +39,7 @@ fn post_line(lines: &mut [Line], member: usize, grains: i64)
 // The first `n` lines empty.
 fn clear_lines(lines: &mut [Line], n: usize)
     requires { n ≤ length lines.old }
-    ensures { lines.new ≡ replacingFirst (λ m. Settling.emptyLine) n lines.old }
+    ensures { lines.new ≡ replacingFirst (λ m. Settling.empty_line) n lines.old }
 {
     let mut m = 0;
     while m < n {
@@ -51,9 +51,9 @@ fn clear_lines(lines: &mut [Line], n: usize)
 // Each record to its member's line, in file order. What a member's line held isn't read; the lines past the members' are unchanged.
 pub fn put_lines(file: &[u8], head: Head, deviations: &[i64], shares: &[i64], lines: &mut [Line])
     requires { Headed file.now head × AllWorked file.now deviations.now shares.now
-        × (Record.members (hourIn file.now) ≤ length lines.old) }
+        × (Record.members (hour_in file.now) ≤ length lines.old) }
     ensures { lines.new
-        ≡ Posting.linesAfter (hourIn file.now) lines.old (hourIn file.now).count }
+        ≡ Posting.lines_after (hour_in file.now) lines.old (hour_in file.now).count }
 {
     clear_lines(lines, head.members);
     let n = head.records;
@@ -71,7 +71,7 @@ pub fn put_lines(file: &[u8], head: Head, deviations: &[i64], shares: &[i64], li
 pub fn put_charges(lines: &[Line], n: usize, charges: &mut [i64])
     requires { (n ≤ length lines.now) × (n ≤ length charges.old) }
     ensures { charges.new
-        ≡ replacingFirst (λ m. Charge.cents (get_or lines.now m Settling.emptyLine).amount) n charges.old }
+        ≡ replacingFirst (λ m. Charge.cents (get_or lines.now m Settling.empty_line).amount) n charges.old }
 {
     let mut m = 0;
     while m < n {

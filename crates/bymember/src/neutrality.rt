@@ -2,16 +2,16 @@
 // minus its share (document 02, A1). The sharing itself is the engine's, `share::share_in_place`. And refusal 12, which settling asks for
 // before it writes to any buffer.
 ghost use Rattle.std.specs.Prelude.{◌≡◌, not, ℕ, ◌≤◌, ◌<◌, eqb, pos, nat_abs, length, get_or};
-ghost use Rattle.whole.specs.Below.{totalBelow, replacingFirst};
+ghost use Rattle.whole.specs.Below.{total_below, replacingFirst};
 ghost use Rattle.rules.specs.Record as Record;
 ghost use Rattle.rules.specs.Charge as Charge;
-ghost use Rattle.rules.specs.Neutrality.{memberDemand, hourDemand, neutrality, final};
-ghost use Rattle.rules.specs.Refusals.{mostGrains, placeZeroIf, noDemand};
+ghost use Rattle.rules.specs.Neutrality.{member_demand, hour_demand, neutrality, final};
+ghost use Rattle.rules.specs.Refusals.{most_grains, place_zero_if, no_demand};
 ghost use Rattle.rules.specs.Inner.Kept.{FileKept};
-ghost use Rattle.rules.specs.HourFile.{hourIn};
-ghost use Rattle.hour.specs.Hour.{pricesOf, Headed};
+ghost use Rattle.rules.specs.HourFile.{hour_in};
+ghost use Rattle.hour.specs.Hour.{prices_of, Headed};
 ghost use Rattle.byarea.specs.Posted.{Tallied};
-ghost use Rattle.bymember.specs.Charged.{Charged, Deviated, Empty, Bounded, lessShare};
+ghost use Rattle.bymember.specs.Charged.{Charged, Deviated, Empty, Bounded, less_share};
 
 use hour::Head;
 use rules::Tally;
@@ -21,7 +21,7 @@ use rules::Tally;
 // The sum of the first `n` charges: N, where they are an hour's. No charge of an hour is over 400,000,000,000 cents in size.
 fn sum_of(charges: &[i64], n: usize) -> i64
     requires { Bounded charges.now n 400000000000 }
-    ensures { result ≡ totalBelow (λ m. get_or charges.now m (pos 0)) n }
+    ensures { result ≡ total_below (λ m. get_or charges.now m (pos 0)) n }
 {
     let mut sum: i64 = 0;
     let mut m = 0;
@@ -34,9 +34,9 @@ fn sum_of(charges: &[i64], n: usize) -> i64
 
 // Each member's demand, of all its loads in all areas, added up in its place.
 fn put_demands(file: &[u8], records: usize, demands: &mut [u64])
-    requires { FileKept file.now × (records ≡ (hourIn file.now).count) × Empty 0 (hourIn file.now) demands.old }
+    requires { FileKept file.now × (records ≡ (hour_in file.now).count) × Empty 0 (hour_in file.now) demands.old }
     ensures { demands.new
-        ≡ replacingFirst (memberDemand (hourIn file.now)) (Record.members (hourIn file.now))
+        ≡ replacingFirst (member_demand (hour_in file.now)) (Record.members (hour_in file.now))
         demands.old }
 {
     let mut i = 0;
@@ -52,7 +52,7 @@ fn take_off(charges: &[i64], all: i64, sizes: &[u64], finals: &mut [i64])
     requires { Bounded charges.now (length sizes.now) 400000000000 × (length sizes.now ≤ length finals.old)
         × ((m : ℕ) → m < length sizes.now → get_or sizes.now m 0 ≤ 400000000000) }
     ensures { finals.new
-        ≡ replacingFirst (lessShare charges.now all sizes.now) (length sizes.now) finals.old }
+        ≡ replacingFirst (less_share charges.now all sizes.now) (length sizes.now) finals.old }
 {
     let mut m = 0;
     while m < sizes.len() {
@@ -63,10 +63,10 @@ fn take_off(charges: &[i64], all: i64, sizes: &[u64], finals: &mut [i64])
 
 // The finals, with room lent in which the members' demands stand, and then the sizes of their shares.
 fn share_out(file: &[u8], records: usize, charges: &[i64], room: &mut [u64], finals: &mut [i64])
-    requires { Charged file.now charges.now × (records ≡ (hourIn file.now).count) × Empty 0 (hourIn file.now) room.old
-        × (Record.members (hourIn file.now) ≤ length finals.old) }
+    requires { Charged file.now charges.now × (records ≡ (hour_in file.now).count) × Empty 0 (hour_in file.now) room.old
+        × (Record.members (hour_in file.now) ≤ length finals.old) }
     ensures { finals.new
-        ≡ replacingFirst (final (hourIn file.now)) (Record.members (hourIn file.now)) finals.old }
+        ≡ replacingFirst (final (hour_in file.now)) (Record.members (hour_in file.now)) finals.old }
 {
     let all = sum_of(charges, room.len());
     put_demands(file, records, room);
@@ -77,9 +77,9 @@ fn share_out(file: &[u8], records: usize, charges: &[i64], room: &mut [u64], fin
 // One a member, into the first places; the places past them are unchanged.
 pub fn put_finals(file: &[u8], head: Head, charges: &[i64], finals: &mut [i64])
     requires { Headed file.now head × Charged file.now charges.now
-        × (Record.members (hourIn file.now) ≤ length finals.old) }
+        × (Record.members (hour_in file.now) ≤ length finals.old) }
     ensures { finals.new
-        ≡ replacingFirst (final (hourIn file.now)) (Record.members (hourIn file.now)) finals.old }
+        ≡ replacingFirst (final (hour_in file.now)) (Record.members (hour_in file.now)) finals.old }
 {
     let n = head.members;
     let mut room = [0u64; 32];
@@ -97,10 +97,10 @@ fn put_amounts(
     deviations: &[i64],
     amounts: &mut [i64],
 )
-    requires { FileKept file.now × (records ≡ (hourIn file.now).count) × (prices ≡ pricesOf (hourIn file.now))
-        × (hourDemand (hourIn file.now) ≡ 0) × Deviated file.now deviations.now × Empty (pos 0) (hourIn file.now) amounts.old }
+    requires { FileKept file.now × (records ≡ (hour_in file.now).count) × (prices ≡ prices_of (hour_in file.now))
+        × (hour_demand (hour_in file.now) ≡ 0) × Deviated file.now deviations.now × Empty (pos 0) (hour_in file.now) amounts.old }
     ensures { amounts.new
-        ≡ replacingFirst (Charge.amount (hourIn file.now)) (Record.members (hourIn file.now))
+        ≡ replacingFirst (Charge.amount (hour_in file.now)) (Record.members (hour_in file.now))
         amounts.old }
 {
     let mut i = 0;
@@ -114,8 +114,8 @@ fn put_amounts(
 
 // The sum of these amounts in cents, each rounded by itself: N, where they are an hour's.
 fn sum_of_cents(amounts: &[i64]) -> i64
-    requires { Bounded amounts.now (length amounts.now) mostGrains }
-    ensures { result ≡ totalBelow (λ m. Charge.cents (get_or amounts.now m (pos 0))) (length amounts.now) }
+    requires { Bounded amounts.now (length amounts.now) most_grains }
+    ensures { result ≡ total_below (λ m. Charge.cents (get_or amounts.now m (pos 0))) (length amounts.now) }
 {
     let mut sum: i64 = 0;
     let mut m = 0;
@@ -128,9 +128,9 @@ fn sum_of_cents(amounts: &[i64]) -> i64
 
 // Whether N isn't 0, with room lent for the records' deviations and the members' amounts.
 fn left_to_share_in(file: &[u8], head: Head, deviations: &mut [i64], amounts: &mut [i64]) -> bool
-    requires { Headed file.now head × (hourDemand (hourIn file.now) ≡ 0) × ((hourIn file.now).count ≤ length deviations.old)
-        × Empty (pos 0) (hourIn file.now) amounts.old }
-    ensures { result ≡ not (eqb (nat_abs (neutrality (hourIn file.now))) 0) }
+    requires { Headed file.now head × (hour_demand (hour_in file.now) ≡ 0) × ((hour_in file.now).count ≤ length deviations.old)
+        × Empty (pos 0) (hour_in file.now) amounts.old }
+    ensures { result ≡ not (eqb (nat_abs (neutrality (hour_in file.now))) 0) }
 {
     byrecord::deviations::put_deviations(file, head, deviations);
     let prices = head.prices;
@@ -142,8 +142,8 @@ fn left_to_share_in(file: &[u8], head: Head, deviations: &mut [i64], amounts: &m
 // so that no buffer of the caller has the charges yet. All deviations are worked at once: record by record the compiler would make a call
 // of each, here and in every other hour.
 fn left_to_share(file: &[u8], head: Head) -> bool
-    requires { Headed file.now head × (hourDemand (hourIn file.now) ≡ 0) }
-    ensures { result ≡ not (eqb (nat_abs (neutrality (hourIn file.now))) 0) }
+    requires { Headed file.now head × (hour_demand (hour_in file.now) ≡ 0) }
+    ensures { result ≡ not (eqb (nat_abs (neutrality (hour_in file.now))) 0) }
 {
     let n = head.members;
     let mut deviations = [0i64; 250];
@@ -154,7 +154,7 @@ fn left_to_share(file: &[u8], head: Head) -> bool
 // Refusal 12: nobody demands anything in the hour, and N isn't 0. N is worked only where nobody demands anything.
 pub fn no_demand(file: &[u8], head: Head, t: Tally) -> bool
     requires { Headed file.now head × Tallied file.now t }
-    ensures { placeZeroIf result ≡ noDemand (hourIn file.now) }
+    ensures { place_zero_if result ≡ no_demand (hour_in file.now) }
 {
     if byarea::nobody_demands(head.areas, t) {
         return left_to_share(file, head);

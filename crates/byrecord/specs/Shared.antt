@@ -1,52 +1,52 @@
 -- How far the UFE of an hour is shared, area by area, and where an area's loads have their demands and then their sizes: in a room lent.
 use Rattle.std.specs.Prelude.{ℕ, ◌≤◌, ◌<◌, ◌≡◌, true, cond, List, ℤ, pos, length, get_or, ltb}
-use Rattle.whole.specs.Below.{countBelow}
-use Rattle.whole.specs.Signed.{withSignOf}
-use Rattle.rules.specs.Record.{Hour, areas, areaOf, isLoad}
+use Rattle.whole.specs.Below.{count_below}
+use Rattle.whole.specs.Signed.{with_sign_of}
+use Rattle.rules.specs.Record.{Hour, areas, area_of, is_load}
 use Rattle.rules.specs.Ufe.{in_area, ufe}
 use Rattle.rules.specs.Charge.{share_of}
-use Rattle.rules.specs.Settling.{ufeFigures}
+use Rattle.rules.specs.Settling.{ufe_figures}
 use Rattle.rules.specs.Inner.Kept.{FileKept}
-use Rattle.rules.specs.HourFile.{hourIn}
+use Rattle.rules.specs.HourFile.{hour_in}
 
 module _ (h : Hour) (a : ℕ) where
   -- how many of area a's loads stand before record i: where a load has its demand and its size
-  abbrev pub loadsBefore : ℕ → ℕ
-  loadsBefore i = countBelow (in_area h a isLoad) i
+  abbrev pub loads_before : ℕ → ℕ
+  loads_before i = count_below (in_area h a is_load) i
 
   -- a record's share once the areas before a are shared
-  unfoldable pub sharesBelow : ℕ → ℤ
-  sharesBelow i = cond (ltb (areaOf h i) a) (share_of h i) (pos 0)
+  unfoldable pub shares_below : ℕ → ℤ
+  shares_below i = cond (ltb (area_of h i) a) (share_of h i) (pos 0)
 
   -- what stands at a record's place once the sizes of area a's loads are put there, with the sign of its UFE
-  unfoldable pub withSizes : ℤ → List ℕ → List ℤ → ℕ → ℤ
-  withSizes figure sizes out i = cond (in_area h a isLoad i) (withSignOf figure (get_or sizes (loadsBefore i) 0)) (get_or out i (pos 0))
+  unfoldable pub with_sizes : ℤ → List ℕ → List ℤ → ℕ → ℤ
+  with_sizes figure sizes out i = cond (in_area h a is_load i) (with_sign_of figure (get_or sizes (loads_before i) 0)) (get_or out i (pos 0))
 
 -- the figures are the hour's, and there is a place for each record's share, and one for each record in the room
 pub record Sharing (s : List ℕ) (figures : List ℤ) (room : List ℕ) (out : List ℤ) : Type 0 where
   pub kept : FileKept s
-  pub figures-of : figures ≡ ufeFigures (hourIn s)
-  pub places : length room ≡ (hourIn s).count
-  pub room_out : (hourIn s).count ≤ length out
+  pub figures_of : figures ≡ ufe_figures (hour_in s)
+  pub places : length room ≡ (hour_in s).count
+  pub room_out : (hour_in s).count ≤ length out
 
 -- no share is put yet
 pub record Cleared (s : List ℕ) (figures : List ℤ) (room : List ℕ) (out : List ℤ) : Type 0 where
   pub sharing : Sharing s figures room out
-  pub zeros : (i : ℕ) → i < (hourIn s).count → get_or out i (pos 0) ≡ pos 0
+  pub zeros : (i : ℕ) → i < (hour_in s).count → get_or out i (pos 0) ≡ pos 0
 
 -- the areas before a are shared, and a is there to be shared with its UFE
 pub record SharedUpTo (s : List ℕ) (a : ℕ) (figure : ℤ) (room : List ℕ) (out : List ℤ) : Type 0 where
   pub kept : FileKept s
-  pub there : a < areas (hourIn s)
-  pub figure-of : figure ≡ ufe (hourIn s) a
-  pub places : length room ≡ (hourIn s).count
-  pub room_out : (hourIn s).count ≤ length out
-  pub shared : (i : ℕ) → i < (hourIn s).count → get_or out i (pos 0) ≡ sharesBelow (hourIn s) a i
+  pub there : a < areas (hour_in s)
+  pub figure_of : figure ≡ ufe (hour_in s) a
+  pub places : length room ≡ (hour_in s).count
+  pub room_out : (hour_in s).count ≤ length out
+  pub shared : (i : ℕ) → i < (hour_in s).count → get_or out i (pos 0) ≡ shares_below (hour_in s) a i
 
 -- sizes of area a's loads in their order, each small enough for a sign, and room for the records' shares
 pub record Sized (s : List ℕ) (a : ℕ) (sizes : List ℕ) (out : List ℤ) : Type 0 where
   pub kept : FileKept s
-  pub as_many : length sizes ≡ (hourIn s).count
+  pub as_many : length sizes ≡ (hour_in s).count
   pub room : length sizes ≤ length out
-  pub small : (i : ℕ) → i < (hourIn s).count → in_area (hourIn s) a isLoad i ≡ true →
-      get_or sizes (loadsBefore (hourIn s) a i) 0 < 9223372036854775808
+  pub small : (i : ℕ) → i < (hour_in s).count → in_area (hour_in s) a is_load i ≡ true →
+      get_or sizes (loads_before (hour_in s) a i) 0 < 9223372036854775808

@@ -5,24 +5,24 @@ ghost use Rattle.whole.specs.Below.{replacingFirst};
 ghost use Rattle.rules.specs.Record.{entry_of};
 ghost use Rattle.rules.specs.Deviation.{deviation};
 ghost use Rattle.rules.specs.Inner.Kept.{FileKept};
-ghost use Rattle.rules.specs.HourFile.{hourIn};
+ghost use Rattle.rules.specs.HourFile.{hour_in};
 ghost use Rattle.hour.specs.Hour.{Headed};
 
 use hour::Head;
 
 // Record `i`'s.
 fn deviation_of(file: &[u8], i: usize) -> i64
-    requires { FileKept file.now × (i < (hourIn file.now).count) }
-    ensures { result ≡ deviation (entry_of (hourIn file.now) i) }
+    requires { FileKept file.now × (i < (hour_in file.now).count) }
+    ensures { result ≡ deviation (entry_of (hour_in file.now) i) }
 {
     formula::deviation::deviation(hour::entry_in(hour::record(file, i)))
 }
 
 // One a record, into the first places; the places past them are unchanged.
 pub fn put_deviations(file: &[u8], head: Head, out: &mut [i64])
-    requires { Headed file.now head × ((hourIn file.now).count ≤ length out.old) }
+    requires { Headed file.now head × ((hour_in file.now).count ≤ length out.old) }
     ensures { out.new
-        ≡ replacingFirst (λ i. deviation (entry_of (hourIn file.now) i)) (hourIn file.now).count
+        ≡ replacingFirst (λ i. deviation (entry_of (hour_in file.now) i)) (hour_in file.now).count
         out.old }
 {
     let n = head.records;

@@ -3,23 +3,23 @@
 // room that the caller lends, and the sizes that then stand there are put back with the UFE's sign. The UFE figures come from the caller
 // and are not worked again, and refusal 6 was checked before. An area without UFE costs nothing.
 ghost use Rattle.std.specs.Prelude.{◌≡◌, true, cond, ◌+◌, ◌≤◌, ◌<◌, pos, length, get_or, set};
-ghost use Rattle.whole.specs.Below.{oneIf, replacingFirst, gatheredBelow};
-ghost use Rattle.whole.specs.Signed.{withSignOf};
+ghost use Rattle.whole.specs.Below.{one_if, replacingFirst, gatheredBelow};
+ghost use Rattle.whole.specs.Signed.{with_sign_of};
 ghost use Rattle.rules.specs.Record as Record;
-ghost use Rattle.rules.specs.Record.{isLoad};
+ghost use Rattle.rules.specs.Record.{is_load};
 ghost use Rattle.rules.specs.Ufe.{in_area, demand};
 ghost use Rattle.rules.specs.Charge.{share_of};
 ghost use Rattle.rules.specs.Inner.Kept.{FileKept};
-ghost use Rattle.rules.specs.HourFile.{hourIn};
+ghost use Rattle.rules.specs.HourFile.{hour_in};
 ghost use Rattle.hour.specs.Hour.{Headed};
-ghost use Rattle.byrecord.specs.Shared.{loadsBefore, sharesBelow, withSizes, Sharing, Cleared, SharedUpTo, Sized};
+ghost use Rattle.byrecord.specs.Shared.{loads_before, shares_below, with_sizes, Sharing, Cleared, SharedUpTo, Sized};
 
 use hour::Head;
 
 // Whether a record is a load of this area: nobody else takes part in the area's UFE.
 fn load_there(file: &[u8], a: usize, i: usize) -> bool
-    requires { FileKept file.now × (i < (hourIn file.now).count) }
-    ensures { result ≡ in_area (hourIn file.now) a isLoad i }
+    requires { FileKept file.now × (i < (hour_in file.now).count) }
+    ensures { result ≡ in_area (hour_in file.now) a is_load i }
 {
     let words = hour::record(file, i);
     if hour::area_in(words) == a {
@@ -30,10 +30,10 @@ fn load_there(file: &[u8], a: usize, i: usize) -> bool
 
 // A load's demand to the next place; how many loads there are then.
 fn put_demand(file: &[u8], a: usize, i: usize, loads: usize, demands: &mut [u64]) -> usize
-    requires { FileKept file.now × (i < (hourIn file.now).count) × (loads < length demands.old) }
-    ensures { (result ≡ loads + oneIf (in_area (hourIn file.now) a isLoad i))
-        × (demands.new ≡ cond (in_area (hourIn file.now) a isLoad i)
-        (set demands.old loads (demand (hourIn file.now) i)) demands.old) }
+    requires { FileKept file.now × (i < (hour_in file.now).count) × (loads < length demands.old) }
+    ensures { (result ≡ loads + one_if (in_area (hour_in file.now) a is_load i))
+        × (demands.new ≡ cond (in_area (hour_in file.now) a is_load i)
+        (set demands.old loads (demand (hour_in file.now) i)) demands.old) }
 {
     if load_there(file, a, i) {
         demands[loads] = hour::demand_of(file, i) as u64;
@@ -44,10 +44,10 @@ fn put_demand(file: &[u8], a: usize, i: usize, loads: usize, demands: &mut [u64]
 
 // The demands of an area's loads, in file order, to the first places of the room; how many loads there are.
 fn put_demands(file: &[u8], a: usize, demands: &mut [u64]) -> usize
-    requires { FileKept file.now × (length demands.old ≡ (hourIn file.now).count) }
-    ensures { (result ≡ loadsBefore (hourIn file.now) a (hourIn file.now).count)
-        × (demands.new ≡ gatheredBelow (in_area (hourIn file.now) a isLoad) (demand (hourIn file.now))
-        (hourIn file.now).count demands.old) }
+    requires { FileKept file.now × (length demands.old ≡ (hour_in file.now).count) }
+    ensures { (result ≡ loads_before (hour_in file.now) a (hour_in file.now).count)
+        × (demands.new ≡ gatheredBelow (in_area (hour_in file.now) a is_load) (demand (hour_in file.now))
+        (hour_in file.now).count demands.old) }
 {
     let mut loads = 0;
     let mut i = 0;
@@ -68,11 +68,11 @@ fn put_share(
     loads: usize,
     out: &mut [i64],
 ) -> usize
-    requires { FileKept file.now × (i < (hourIn file.now).count) × (i < length out.old) × (loads < length sizes.now)
-        × (in_area (hourIn file.now) a isLoad i ≡ true → get_or sizes.now loads 0 < 9223372036854775808) }
-    ensures { (result ≡ loads + oneIf (in_area (hourIn file.now) a isLoad i))
-        × (out.new ≡ cond (in_area (hourIn file.now) a isLoad i)
-        (set out.old i (withSignOf figure (get_or sizes.now loads 0))) out.old) }
+    requires { FileKept file.now × (i < (hour_in file.now).count) × (i < length out.old) × (loads < length sizes.now)
+        × (in_area (hour_in file.now) a is_load i ≡ true → get_or sizes.now loads 0 < 9223372036854775808) }
+    ensures { (result ≡ loads + one_if (in_area (hour_in file.now) a is_load i))
+        × (out.new ≡ cond (in_area (hour_in file.now) a is_load i)
+        (set out.old i (with_sign_of figure (get_or sizes.now loads 0))) out.old) }
 {
     if load_there(file, a, i) {
         out[i] = whole::with_sign_of(figure, sizes[loads]);
@@ -85,8 +85,8 @@ fn put_share(
 fn put_area(file: &[u8], a: usize, figure: i64, sizes: &[u64], out: &mut [i64])
     requires { Sized file.now a sizes.now out.old }
     ensures { out.new
-        ≡ replacingFirst (withSizes (hourIn file.now) a figure sizes.now out.old)
-        (hourIn file.now).count out.old }
+        ≡ replacingFirst (with_sizes (hour_in file.now) a figure sizes.now out.old)
+        (hour_in file.now).count out.old }
 {
     let mut loads = 0;
     let mut i = 0;
@@ -100,7 +100,7 @@ fn put_area(file: &[u8], a: usize, figure: i64, sizes: &[u64], out: &mut [i64])
 fn share_area(file: &[u8], a: usize, figure: i64, room: &mut [u64], out: &mut [i64])
     requires { SharedUpTo file.now a figure room.old out.old }
     ensures { out.new
-        ≡ replacingFirst (sharesBelow (hourIn file.now) (a + 1)) (hourIn file.now).count out.old }
+        ≡ replacingFirst (shares_below (hour_in file.now) (a + 1)) (hour_in file.now).count out.old }
 {
     if figure == 0 {
         return;
@@ -112,9 +112,9 @@ fn share_area(file: &[u8], a: usize, figure: i64, room: &mut [u64], out: &mut [i
 
 // All areas, in the room lent.
 fn share_areas(file: &[u8], areas: usize, figures: [i64; 8], room: &mut [u64], out: &mut [i64])
-    requires { Cleared file.now figures room.old out.old × (areas ≡ Record.areas (hourIn file.now)) }
+    requires { Cleared file.now figures room.old out.old × (areas ≡ Record.areas (hour_in file.now)) }
     ensures { out.new
-        ≡ replacingFirst (share_of (hourIn file.now)) (hourIn file.now).count out.old }
+        ≡ replacingFirst (share_of (hour_in file.now)) (hour_in file.now).count out.old }
 {
     let mut a = 0;
     while a < areas {
@@ -150,8 +150,8 @@ fn clear_room(room: &mut [u64])
 pub fn put_shares(file: &[u8], head: Head, figures: [i64; 8], room: &mut [u64], out: &mut [i64])
     requires { Headed file.now head × Sharing file.now figures room.old out.old }
     ensures shares { out.new
-        ≡ replacingFirst (share_of (hourIn file.now)) (hourIn file.now).count out.old }
-    ensures room { room.new ≡ replacingFirst (λ i. 0) (hourIn file.now).count room.old }
+        ≡ replacingFirst (share_of (hour_in file.now)) (hour_in file.now).count out.old }
+    ensures room { room.new ≡ replacingFirst (λ i. 0) (hour_in file.now).count room.old }
 {
     clear(out, head.records);
     share_areas(file, head.areas, figures, room, out);

@@ -5,23 +5,23 @@ use mathlib.Core.List.{List}
 use Prim.Native.Nat.{ℕ}
 use Rattle.rules.specs.declared.Answer.{Answer}
 use Rattle.rules.specs.declared.Answer.TheVariants.{Accepted}
-use Rattle.rules.specs.Refusals.{verdictOf, verdict, fileRows}
+use Rattle.rules.specs.Refusals.{verdict_of, verdict, file_rows}
 use Rattle.rules.specs.Promised.Demands.{AllWhole}
 use Rattle.rules.specs.Inner.Kept.{FileKept}
-use Rattle.rules.proofs.Rows.{accepts-when-whole, file-numbered, form-whole, one_answer}
-use Rattle.rules.proofs.Kept.{file-kept}
+use Rattle.rules.proofs.Rows.{accepts_when_whole, file_numbered, form_whole, one_answer}
+use Rattle.rules.proofs.Kept.{file_kept}
 
 -- what `examine` promises of its answer
 abbrev pub Examined : List ℕ → Answer → Type 0
-Examined s r = verdictOf r ≡ verdict (fileRows s)
+Examined s r = verdict_of r ≡ verdict (file_rows s)
 
 module _ (s : List ℕ) where
   -- accepted exactly when rows 1 to 5 and 14 are whole
-  pub accepted-when-whole : (r : Answer) → Examined s r → (r ≡ Accepted) ↔ AllWhole (fileRows s)
-  accepted-when-whole r e = let rows = accepts-when-whole (fileRows s) (file-numbered s) in
-      (λ a. rows.0 (sym e ∙ ap verdictOf a), λ w. one_answer r Accepted (e ∙ rows.1 w))
+  pub accepted_when_whole : (r : Answer) → Examined s r → (r ≡ Accepted) ↔ AllWhole (file_rows s)
+  accepted_when_whole r e = let rows = accepts_when_whole (file_rows s) (file_numbered s) in
+      (λ a. rows.0 (sym e ∙ ap verdict_of a), λ w. one_answer r Accepted (e ∙ rows.1 w))
 
   -- the counts, prices, zones, ties, kinds, members, areas, energies and multipliers of an accepted file lie in their ranges; it has at
   -- most 250 records
-  pub accepted-kept : (r : Answer) → Examined s r → r ≡ Accepted → FileKept s
-  accepted-kept r e a = file-kept s (form-whole s ((accepted-when-whole r e).0 a))
+  pub accepted_kept : (r : Answer) → Examined s r → r ≡ Accepted → FileKept s
+  accepted_kept r e a = file_kept s (form_whole s ((accepted_when_whole r e).0 a))

@@ -3,19 +3,19 @@
 use Rattle.std.specs.Prelude.{◌≡◌, List, [], ℕ, ◌+◌, ◌*◌, ◌≤◌, ◌<◌, length, get_or, take, drop}
 use Rattle.rules.specs.declared.Mode.{Mode}
 use Rattle.rules.specs.Record.{Hour}
-use Rattle.rules.specs.HourFile.{word, body, hourOf}
-use Rattle.rules.specs.HourWords.{hourFrom}
+use Rattle.rules.specs.HourFile.{word, body, hour_of}
+use Rattle.rules.specs.HourWords.{hour_from}
 use Rattle.rules.specs.Ranges.{form_of}
-use Rattle.blocks.specs.Part.{recordPart, RecordThere}
+use Rattle.blocks.specs.Part.{record_part, RecordThere}
 use Rattle.examine.specs.declared.search.Source.{Source}
 use Rattle.examine.specs.declared.search.Source.TheVariants.{File, Lists}
 use Rattle.examine.specs.Whole.{BlocksWhole}
 
 -- ---- the hour
 
-abbrev pub hourBy : Mode → Source → (file head records : List ℕ) → Hour
-hourBy mode File file head records = hourOf (form_of mode).layout file
-hourBy mode Lists file head records = hourFrom (form_of mode).layout head records
+abbrev pub hour_by : Mode → Source → (file head records : List ℕ) → Hour
+hour_by mode File file head records = hour_of (form_of mode).layout file
+hour_by mode Lists file head records = hour_from (form_of mode).layout head records
 
 -- what a search asks: that a file's blocks are whole, or that a head has all its words
 abbrev pub HourThere : Mode → Source → (file head : List ℕ) → Type 0
@@ -30,9 +30,9 @@ FirstBody mode Lists file part = Unit {0}
 -- ---- a part of it, as bytes or as words
 
 -- word k
-abbrev pub wordBy : Source → (bytes words : List ℕ) → ℕ → ℕ
-wordBy File bytes words k = word bytes k
-wordBy Lists bytes words k = get_or words k 0
+abbrev pub word_by : Source → (bytes words : List ℕ) → ℕ → ℕ
+word_by File bytes words k = word bytes k
+word_by Lists bytes words k = get_or words k 0
 
 -- the part has it
 abbrev pub WordThere : Source → (bytes words : List ℕ) → ℕ → Type 0
@@ -56,18 +56,18 @@ abbrev pub words_to : Mode → ℕ
 words_to mode = (form_of mode).layout.words
 
 -- in the file
-abbrev pub fileRecord : Mode → Source → List ℕ → ℕ → List ℕ
-fileRecord mode File file i = recordPart (form_of mode).layout file i
-fileRecord mode Lists file i = []
+abbrev pub file_record : Mode → Source → List ℕ → ℕ → List ℕ
+file_record mode File file i = record_part (form_of mode).layout file i
+file_record mode Lists file i = []
 
 abbrev pub FileRecordThere : Mode → Source → List ℕ → ℕ → Type 0
 FileRecordThere mode File file i = RecordThere (form_of mode).layout file i
 FileRecordThere mode Lists file i = Unit {0}
 
 -- in the list
-abbrev pub listRecord : Mode → Source → List ℕ → ℕ → List ℕ
-listRecord mode File records i = []
-listRecord mode Lists records i = take (words_to mode) (drop (words_to mode * i) records)
+abbrev pub list_record : Mode → Source → List ℕ → ℕ → List ℕ
+list_record mode File records i = []
+list_record mode Lists records i = take (words_to mode) (drop (words_to mode * i) records)
 
 abbrev pub ListRecordThere : Mode → Source → List ℕ → ℕ → Type 0
 ListRecordThere mode File records i = Unit {0}

@@ -4,9 +4,9 @@
 // accepted one.
 ghost use Rattle.std.specs.Prelude.{◌≡◌, false};
 ghost use Rattle.rules.specs.HourFile as HourFile;
-ghost use Rattle.rules.specs.Ranges.{form_of, tenMinutesForm};
+ghost use Rattle.rules.specs.Ranges.{form_of, ten_minutes_form};
 ghost use Rattle.rules.specs.Refusals as Refusals;
-ghost use Rattle.examine.specs.Fault.{examineRows};
+ghost use Rattle.examine.specs.Fault.{examine_rows};
 
 use rules::{Answer, Found, Mode};
 
@@ -17,8 +17,8 @@ use search::Source;
 
 // A file of this kind that has passed row 1: accepted, or the first of its rows that it breaks, with its place.
 fn examine_as(mode: Mode, file: &[u8]) -> Answer
-    requires { HourFile.lengthBad (form_of mode).layout file.now ≡ false }
-    ensures { Refusals.verdictOf result ≡ Refusals.verdict (examineRows mode file.now) }
+    requires { HourFile.length_bad (form_of mode).layout file.now ≡ false }
+    ensures { Refusals.verdict_of result ≡ Refusals.verdict (examine_rows mode file.now) }
 {
     if let Found::At(b) = blocks::bad_sum(file) {
         return Answer::BadSum(b);
@@ -34,7 +34,7 @@ fn examine_as(mode: Mode, file: &[u8]) -> Answer
 // An hour file, any bytes: accepted, or the first of refusals 1 to 5 and 14. The length is tested here, in the layout that is named: tested by
 // mode, it would cost six instructions at the next count of records.
 pub fn examine(file: &[u8]) -> Answer
-    ensures { Refusals.verdictOf result ≡ Refusals.verdict (Refusals.fileRows file.now) }
+    ensures { Refusals.verdict_of result ≡ Refusals.verdict (Refusals.file_rows file.now) }
 {
     if blocks::length_bad(rules::hourly(), file) {
         return Answer::BadLength;
@@ -44,7 +44,7 @@ pub fn examine(file: &[u8]) -> Answer
 
 // A ten-minute file, any bytes: accepted, or the first of refusals 1 to 5.
 pub fn examine_ten_minutes(file: &[u8]) -> Answer
-    ensures { Refusals.verdictOf result ≡ Refusals.verdict (Refusals.formRows tenMinutesForm file.now) }
+    ensures { Refusals.verdict_of result ≡ Refusals.verdict (Refusals.form_rows ten_minutes_form file.now) }
 {
     if blocks::length_bad(rules::ten_minutes(), file) {
         return Answer::BadLength;

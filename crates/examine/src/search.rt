@@ -4,15 +4,15 @@
 // that the compiler folds them in. `wordrules` says what each word may be. Row 14 is looked for on the way through row 5, which comes first.
 ghost use Rattle.std.specs.Prelude.{◌≡◌, not, cond, ◌&&◌, List, ◌++◌, ℕ, ◌-◌, ◌≤◌, ◌<◌, ltb, leb, eqb};
 ghost use Rattle.std.proofs.Math.Option.{none};
-ghost use Rattle.whole.specs.Below.{firstBelow};
+ghost use Rattle.whole.specs.Below.{first_below};
 ghost use Rattle.rules.specs.HourFile as HourFile;
 ghost use Rattle.rules.specs.Ranges as Ranges;
 ghost use Rattle.rules.specs.Ranges.{form_of};
 ghost use Rattle.rules.specs.Refusals as Refusals;
 ghost use Rattle.rules.specs.Refusals.{found_at};
-ghost use Rattle.examine.specs.Fault.{faultAt, aboveAt, above_by, aboveIn, comparisonBy};
-ghost use Rattle.examine.specs.Sources.{words_to, hourBy, HourThere, FirstBody, wordBy, WordThere, HasWords};
-ghost use Rattle.examine.specs.Sources.{fileRecord, FileRecordThere, listRecord, ListRecordThere};
+ghost use Rattle.examine.specs.Fault.{fault_at, above_at, above_by, above_in, comparison_by};
+ghost use Rattle.examine.specs.Sources.{words_to, hour_by, HourThere, FirstBody, word_by, WordThere, HasWords};
+ghost use Rattle.examine.specs.Sources.{file_record, FileRecordThere, list_record, ListRecordThere};
 
 use rules::{Answer, Found, Mode};
 
@@ -26,7 +26,7 @@ pub enum Source {
 // Word `k` of a part of the hour, which is so many bytes of the file, or so many words of a list.
 fn word_of(source: Source, bytes: &[u8], words: &[u32], k: usize) -> u32
     requires { WordThere source bytes.now words.now k }
-    ensures { result ≡ wordBy source bytes.now words.now k }
+    ensures { result ≡ word_by source bytes.now words.now k }
 {
     match source {
         Source::File => blocks::whole_word(bytes, k),
@@ -59,7 +59,7 @@ fn head_word_bad(
 ) -> bool
     requires { HasWords 120 source body.now head.now × (8 ≤ w) × (w < 128) }
     ensures { result
-        ≡ not (Ranges.keeps ((form_of mode).headRule zones areas w) (wordBy source body.now head.now (w - 8))) }
+        ≡ not (Ranges.keeps ((form_of mode).head_rule zones areas w) (word_by source body.now head.now (w - 8))) }
 {
     let rule = wordrules::head_rule_of(mode, zones, areas, w);
     !wordrules::keeps(rule, word_of(source, body, head, w - 8))
@@ -69,7 +69,7 @@ fn head_word_bad(
 fn head_not_zero(source: Source, body: &[u8], head: &[u32], from: usize) -> Found
     requires { HasWords 120 source body.now head.now × (8 ≤ from) }
     ensures { found_at result
-        ≡ firstBelow (λ w. leb from w && not (eqb (wordBy source body.now head.now (w - 8)) 0)) 128 }
+        ≡ first_below (λ w. leb from w && not (eqb (word_by source body.now head.now (w - 8)) 0)) 128 }
 {
     let mut w = from;
     while w < 128 {
@@ -86,7 +86,7 @@ fn head_not_zero(source: Source, body: &[u8], head: &[u32], from: usize) -> Foun
 fn bad_head(mode: Mode, source: Source, body: &[u8], head: &[u32]) -> Found
     requires { HasWords 120 source body.now head.now }
     ensures { (file records : List ℕ) → FirstBody mode source file body.now
-        → found_at result ≡ Refusals.badHead (form_of mode) (hourBy mode source file head.now records) }
+        → found_at result ≡ Refusals.bad_head (form_of mode) (hour_by mode source file head.now records) }
 {
     let zones = word_of(source, body, head, 2);
     let areas = word_of(source, body, head, 3);
@@ -113,7 +113,7 @@ enum Fault {
 
 // How many records the hour has.
 fn count(mode: Mode, source: Source, file: &[u8], records: &[u32]) -> usize
-    ensures { (head : List ℕ) → result ≡ (hourBy mode source file.now head records.now).count }
+    ensures { (head : List ℕ) → result ≡ (hour_by mode source file.now head records.now).count }
 {
     let layout = rules::layout_of(mode);
     match source {
@@ -125,7 +125,7 @@ fn count(mode: Mode, source: Source, file: &[u8], records: &[u32]) -> usize
 // The bytes of record `i`, a part of the file; none where the hour stands in lists.
 fn file_record(mode: Mode, source: Source, file: &[u8], i: usize) -> &[u8]
     requires { FileRecordThere mode source file.now i }
-    ensures { result.now ≡ fileRecord mode source file.now i }
+    ensures { result.now ≡ file_record mode source file.now i }
 {
     match source {
         Source::File => blocks::record(rules::layout_of(mode), file, i),
@@ -136,7 +136,7 @@ fn file_record(mode: Mode, source: Source, file: &[u8], i: usize) -> &[u8]
 // The words of record `i`, a part of the list; none where the hour stands in a file.
 fn list_record(mode: Mode, source: Source, records: &[u32], i: usize) -> &[u32]
     requires { ListRecordThere mode source records.now i }
-    ensures { result.now ≡ listRecord mode source records.now i }
+    ensures { result.now ≡ list_record mode source records.now i }
 {
     if let Source::File = source {
         return &records[..0];
@@ -160,7 +160,7 @@ fn record_word_bad(
 ) -> bool
     requires { HasWords (words_to mode) source bytes.now words.now × (w < words_to mode) }
     ensures { result
-        ≡ not (Ranges.keeps ((form_of mode).recordRule members areas kind w) (wordBy source bytes.now words.now w)) }
+        ≡ not (Ranges.keeps ((form_of mode).record_rule members areas kind w) (word_by source bytes.now words.now w)) }
 {
     let word = word_of(source, bytes, words, w);
     !wordrules::record_keeps_as(mode, members, areas, kind, w, word)
@@ -171,7 +171,7 @@ fn record_word_bad(
 fn above_maximum(mode: Mode, source: Source, bytes: &[u8], words: &[u32], kind: u32) -> bool
     requires { HasWords (words_to mode) source bytes.now words.now }
     ensures { result ≡ above_by mode kind
-        (wordBy source bytes.now words.now 3) (wordBy source bytes.now words.now 8) }
+        (word_by source bytes.now words.now 3) (word_by source bytes.now words.now 8) }
 {
     if let Mode::TenMinutes = mode {
         return false;
@@ -205,10 +205,10 @@ fn first_found(found: usize, here: bool, at: usize) -> usize
 // where no record of the whole hour breaks a rule.
 fn first_fault(mode: Mode, source: Source, file: &[u8], head: &[u32], records: &[u32]) -> Fault
     requires { HourThere mode source file.now head.now }
-    ensures fault { faultAt result
-        ≡ Refusals.firstFault (form_of mode) (hourBy mode source file.now head.now records.now) }
-    ensures above { faultAt result ≡ none
-        → aboveAt result ≡ aboveIn mode (hourBy mode source file.now head.now records.now) }
+    ensures fault { fault_at result
+        ≡ Refusals.first_fault (form_of mode) (hour_by mode source file.now head.now records.now) }
+    ensures above { fault_at result ≡ none
+        → above_at result ≡ above_in mode (hour_by mode source file.now head.now records.now) }
 {
     let size = rules::layout_of(mode).words;
     let body = first_body(mode, file);
@@ -252,9 +252,9 @@ pub fn examine_hour(
     records: &[u32],
 ) -> Answer
     requires { HourThere mode source file.now head.now }
-    ensures { Refusals.verdictOf result
-        ≡ Refusals.verdict (let h = hourBy mode source file.now head.now records.now in
-        Refusals.wordRows (form_of mode) h ++ comparisonBy mode h) }
+    ensures { Refusals.verdict_of result
+        ≡ Refusals.verdict (let h = hour_by mode source file.now head.now records.now in
+        Refusals.word_rows (form_of mode) h ++ comparison_by mode h) }
 {
     if let Found::At(w) = bad_head(mode, source, first_body(mode, file), head) {
         return Answer::BadHead(w);

@@ -15,7 +15,7 @@ use wordrules::{ADJUSTMENT, ENERGY, MULTIPLIER, ZERO};
 // Whether the words from `from` on, up to `to`, keep a rule.
 fn span_keeps(rule: Rule, words: &[u8], from: usize, to: usize) -> bool
     requires { 4 * to ≤ length words.now }
-    ensures { result ≡ Span.spanKeeps rule words.now from to }
+    ensures { result ≡ Span.span_keeps rule words.now from to }
 {
     let mut w = from;
     while w < to {
@@ -30,7 +30,7 @@ fn span_keeps(rule: Rule, words: &[u8], from: usize, to: usize) -> bool
 // A generator uses all words.
 fn generator_keeps(words: &[u8]) -> bool
     requires { length words.now ≡ 120 }
-    ensures { result ≡ Span.kindKeeps Kinds.Generator words.now }
+    ensures { result ≡ Span.kind_keeps Kinds.Generator words.now }
 {
     if !span_keeps(ENERGY, words, 4, 6) {
         return false;
@@ -47,7 +47,7 @@ fn generator_keeps(words: &[u8]) -> bool
 // A load metered in real time has no multipliers.
 fn real_time_keeps(words: &[u8]) -> bool
     requires { length words.now ≡ 120 }
-    ensures { result ≡ Span.kindKeeps Kinds.RealTimeLoad words.now }
+    ensures { result ≡ Span.kind_keeps Kinds.RealTimeLoad words.now }
 {
     if !span_keeps(ENERGY, words, 4, 6) {
         return false;
@@ -64,7 +64,7 @@ fn real_time_keeps(words: &[u8]) -> bool
 // A load by profile has no ramp and no multipliers, and of the actuals its hourly reading alone.
 fn profile_keeps(words: &[u8]) -> bool
     requires { length words.now ≡ 120 }
-    ensures { result ≡ Span.kindKeeps Kinds.ProfileLoad words.now }
+    ensures { result ≡ Span.kind_keeps Kinds.ProfileLoad words.now }
 {
     if !span_keeps(ZERO, words, 4, 8) {
         return false;
@@ -81,7 +81,7 @@ fn profile_keeps(words: &[u8]) -> bool
 // An import has no ramp and no actuals.
 fn import_keeps(words: &[u8]) -> bool
     requires { length words.now ≡ 120 }
-    ensures { result ≡ Span.kindKeeps Kinds.Import words.now }
+    ensures { result ≡ Span.kind_keeps Kinds.Import words.now }
 {
     if !span_keeps(ZERO, words, 4, 6) {
         return false;
@@ -98,7 +98,7 @@ fn import_keeps(words: &[u8]) -> bool
 // An export has no ramp, no multipliers and no ancillary figures.
 fn export_keeps(words: &[u8]) -> bool
     requires { length words.now ≡ 120 }
-    ensures { result ≡ Span.kindKeeps Kinds.Export words.now }
+    ensures { result ≡ Span.kind_keeps Kinds.Export words.now }
 {
     if !span_keeps(ZERO, words, 4, 8) {
         return false;
@@ -112,7 +112,7 @@ fn export_keeps(words: &[u8]) -> bool
 // The words that not every kind uses.
 fn kind_keeps(kind: u32, words: &[u8]) -> bool
     requires { length words.now ≡ 120 }
-    ensures { result ≡ Span.kindKeeps (Record.kind_of kind) words.now }
+    ensures { result ≡ Span.kind_keeps (Record.kind_of kind) words.now }
 {
     if kind == 1 {
         return generator_keeps(words);
@@ -135,7 +135,7 @@ fn kind_keeps(kind: u32, words: &[u8]) -> bool
 // All words, in a file of so many members and areas.
 fn record_keeps(members: u32, areas: u32, kind: u32, words: &[u8]) -> bool
     requires { length words.now ≡ 120 }
-    ensures { result ≡ Span.recordKeeps members areas kind words.now }
+    ensures { result ≡ Span.record_keeps members areas kind words.now }
 {
     if members <= blocks::whole_word(words, 1) {
         return false;

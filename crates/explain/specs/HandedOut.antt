@@ -5,9 +5,9 @@ use Rattle.rules.specs.Explanation.{Explanation}
 use Rattle.explain.specs.declared.boundary.NumberedExplained.{NumberedExplained}
 
 -- 0 is none, and the five heads count from 1
-abbrev pub headCounted : ℕ → Option ℕ
-headCounted zero = none
-headCounted (suc k) = some k
+abbrev pub head_counted : ℕ → Option ℕ
+head_counted zero = none
+head_counted (suc k) = some k
 
-abbrev pub explanationOf : NumberedExplained → Explanation
-explanationOf r = record { verdict = record { number = r.number; place = r.place }; heads = r.heads; decided = headCounted r.decided }
+abbrev pub explanation_of : NumberedExplained → Explanation
+explanation_of r = record { verdict = record { number = r.number; place = r.place }; heads = r.heads; decided = head_counted r.decided }

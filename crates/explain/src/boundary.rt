@@ -5,7 +5,7 @@ ghost use Rattle.std.specs.Prelude.{◌≡◌, ℕ, ◌<◌};
 ghost use Rattle.std.proofs.Math.Option.{some};
 ghost use Rattle.rules.specs.Explanation as Explanation;
 ghost use Rattle.rules.specs.Refusals.{found_at};
-ghost use Rattle.explain.specs.HandedOut.{explanationOf, headCounted};
+ghost use Rattle.explain.specs.HandedOut.{explanation_of, head_counted};
 
 use rules::Found;
 
@@ -21,7 +21,7 @@ pub struct NumberedExplained {
 // The head that decided, counted from 1; 0 where none did.
 fn head_number(decided: Found) -> u64
     requires { (k : ℕ) → found_at decided ≡ some k → k < 5 }
-    ensures { headCounted result ≡ found_at decided }
+    ensures { head_counted result ≡ found_at decided }
 {
     let Found::At(place) = decided else {
         return 0;
@@ -32,7 +32,7 @@ fn head_number(decided: Found) -> u64
 // Explains a member's charge.
 #[unsafe(no_mangle)]
 pub extern "C" fn sneupelaar_explain(file: &[u8], member: u32) -> NumberedExplained
-    ensures { explanationOf result ≡ Explanation.explain file.now member }
+    ensures { explanation_of result ≡ Explanation.explain file.now member }
 {
     let explained = crate::explain(file, member);
     let answer = explained.answer;

@@ -4,10 +4,10 @@ ghost use Rattle.rules.specs.Explanation as Explanation;
 ghost use Rattle.rules.specs.Inner.Posting as Posting;
 ghost use Rattle.rules.specs.Refusals.{found_at};
 ghost use Rattle.bymember.specs.Lined.{Worked, AllWorked};
-ghost use Rattle.rules.specs.HourFile.{hourIn};
+ghost use Rattle.rules.specs.HourFile.{hour_in};
 ghost use Rattle.hour.specs.Hour.{Headed};
 ghost use Rattle.explain.specs.Room.{HeadRoom, HeadsRoom};
-ghost use Rattle.explain.specs.Leading.{weightOf};
+ghost use Rattle.explain.specs.Leading.{weight_of};
 
 use hour::Head;
 use rules::{Found, Kind};
@@ -16,7 +16,7 @@ use rules::{Found, Kind};
 
 // Where among the five heads the deviation of a kind stands. An unknown kind enters with nothing.
 fn head_place(kind: Kind) -> usize
-    ensures { (result ≡ Posting.headPlace kind) × (result < 5) }
+    ensures { (result ≡ Posting.head_place kind) × (result < 5) }
 {
     match kind {
         Kind::Generator => 0,
@@ -30,7 +30,7 @@ fn head_place(kind: Kind) -> usize
 
 fn head_with(heads: [i64; 5], place: usize, grains: i64) -> [i64; 5]
     requires { HeadRoom heads place grains }
-    ensures { result ≡ Posting.headWith heads place grains }
+    ensures { result ≡ Posting.head_with heads place grains }
 {
     let mut next = heads;
     next[place] += grains;
@@ -40,7 +40,7 @@ fn head_with(heads: [i64; 5], place: usize, grains: i64) -> [i64; 5]
 // The heads with the grains of a record: of its deviation as it enters, and of its share.
 fn heads_with(heads: [i64; 5], kind: Kind, deviation: i64, share: i64) -> [i64; 5]
     requires { HeadsRoom heads deviation share }
-    ensures { result ≡ Posting.headsWith heads kind deviation share }
+    ensures { result ≡ Posting.heads_with heads kind deviation share }
 {
     let place = head_place(kind);
     let entered = head_with(heads, place, deviation);
@@ -57,8 +57,8 @@ fn posted(
     share: i64,
     heads: [i64; 5],
 ) -> [i64; 5]
-    requires { Worked file.now i price deviation share × (heads ≡ Posting.headsAfter (hourIn file.now) member i) }
-    ensures { result ≡ Posting.headsAfter (hourIn file.now) member (i + 1) }
+    requires { Worked file.now i price deviation share × (heads ≡ Posting.heads_after (hour_in file.now) member i) }
+    ensures { result ≡ Posting.heads_after (hour_in file.now) member (i + 1) }
 {
     if hour::member_of(file, i) != member {
         return heads;
@@ -77,7 +77,7 @@ pub fn heads_of(
     shares: &[i64],
 ) -> [i64; 5]
     requires { Headed file.now head × AllWorked file.now deviations.now shares.now }
-    ensures { result ≡ Explanation.heads (hourIn file.now) member }
+    ensures { result ≡ Explanation.heads (hour_in file.now) member }
 {
     let n = head.records;
     let mut heads = [0i64; 5];
@@ -97,7 +97,7 @@ pub fn heads_of(
 
 // Both above zero, or both below.
 fn same_sign(charge: i64, head: i64) -> bool
-    ensures { result ≡ Explanation.sameSign charge head }
+    ensures { result ≡ Explanation.same_sign charge head }
 {
     if 0 < charge {
         return 0 < head;
@@ -110,7 +110,7 @@ fn same_sign(charge: i64, head: i64) -> bool
 
 // A head's size if it has the charge's sign, 0 if not: then it is never the largest.
 fn weight(charge: i64, head: i64) -> u64
-    ensures { result ≡ weightOf charge head }
+    ensures { result ≡ weight_of charge head }
 {
     if same_sign(charge, head) {
         return whole::size_of(head);
@@ -120,7 +120,7 @@ fn weight(charge: i64, head: i64) -> u64
 
 // Of the heads with the charge's sign the largest in size, on a tie the first; nothing where the charge is zero.
 pub fn decided(charge: i64, heads: [i64; 5]) -> Found
-    ensures { found_at result ≡ Explanation.decidedBy charge heads }
+    ensures { found_at result ≡ Explanation.decided_by charge heads }
 {
     let mut best = 5;
     let mut most: u64 = 0;

@@ -11,7 +11,7 @@ pub mod boundary;
 mod heads;
 
 fn unexplained(answer: Answer) -> Explained
-    ensures { result ≡ record { answer = answer; heads = Explanation.noHeads; decided = Nothing } }
+    ensures { result ≡ record { answer = answer; heads = Explanation.no_heads; decided = Nothing } }
 {
     Explained {
         answer: answer,

@@ -5,31 +5,31 @@ use Rattle.rules.specs.Record.{Entry}
 use Rattle.rules.specs.Inner.Kept.{EntryRoom}
 
 module _ {r : Entry} (k : EntryRoom r) where
-  open k use {S-in, A-in, J-in, N-in, O-in, M-in, F-in, H-in}
+  open k use {S_in, A_in, J_in, N_in, O_in, M_in, F_in, H_in}
 
   abbrev pub S : Num
-  S = at0 S-in
+  S = at0 S_in
 
   abbrev pub A : Num
-  A = at0 A-in
+  A = at0 A_in
 
   abbrev pub J : Num
-  J = at J-in
+  J = at J_in
 
   abbrev pub N : Num
-  N = at0 N-in
+  N = at0 N_in
 
   abbrev pub O : Num
-  O = at0 O-in
+  O = at0 O_in
 
   abbrev pub M : Num
-  M = at0 M-in
+  M = at0 M_in
 
   abbrev pub F : Num
-  F = at0 F-in
+  F = at0 F_in
 
   abbrev pub H : Num
-  H = at0 H-in
+  H = at0 H_in
 
   -- (A - J)×H
   abbrev pub adjusted : Num

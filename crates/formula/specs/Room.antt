@@ -6,11 +6,11 @@ use Rattle.rules.specs.declared.Line.{Line}
 use Rattle.rules.specs.declared.Tally.{Tally}
 
 pub record TallyRoom (t : Tally) (a demand : ℕ) (energy : ℤ) : Type 0 where
-  pub area-there : a < 8
-  pub records-fit : t.records + 1 < 0x1_0000_0000
-  pub demand-fits : get_or t.demand a 0 + demand < 0x1_0000_0000
-  pub energy-fits : SFits w64 (get_or t.energy a (pos 0) +ℤ energy)
+  pub area_there : a < 8
+  pub records_fit : t.records + 1 < 0x1_0000_0000
+  pub demand_fits : get_or t.demand a 0 + demand < 0x1_0000_0000
+  pub energy_fits : SFits w64 (get_or t.energy a (pos 0) +ℤ energy)
 
 pub record LineRoom (l : Line) (grains : ℤ) : Type 0 where
-  pub amount-fits : SFits w64 (l.amount +ℤ grains)
-  pub records-fit : l.records + 1 < 0x1_0000_0000
+  pub amount_fits : SFits w64 (l.amount +ℤ grains)
+  pub records_fit : l.records + 1 < 0x1_0000_0000

@@ -1,8 +1,8 @@
 // What a record was scheduled for, against what it did, in units of 1/10,000 kWh: document 01's formulas, a line each.
 ghost use Rattle.std.specs.Prelude.{◌≡◌};
-ghost use Rattle.whole.specs.Signed.{Under, minℤ, maxℤ};
+ghost use Rattle.whole.specs.Signed.{Under, min_ℤ, max_ℤ};
 ghost use Rattle.rules.specs.Deviation as Deviation;
-ghost use Rattle.rules.specs.Charge.{enteringAs};
+ghost use Rattle.rules.specs.Charge.{entering_as};
 ghost use Rattle.rules.specs.Inner.Posting as Posting;
 ghost use Rattle.rules.specs.Inner.Kept.{EntryKept, EntryRoom};
 ghost use Rattle.formula.specs.Meant.{meant};
@@ -11,41 +11,41 @@ use crate::entry::Entry;
 use rules::Kind;
 
 fn least(x: i64, y: i64) -> i64
-    ensures { result ≡ minℤ x y }
+    ensures { result ≡ min_ℤ x y }
 {
     if x <= y { x } else { y }
 }
 
 fn most(x: i64, y: i64) -> i64
-    ensures { result ≡ maxℤ x y }
+    ensures { result ≡ max_ℤ x y }
 {
     if x <= y { y } else { x }
 }
 
 fn generator_deviation(r: Entry) -> i64
     requires { EntryRoom (meant r) }
-    ensures { result ≡ Deviation.generatorDeviation (meant r) }
+    ensures { result ≡ Deviation.generator_deviation (meant r) }
 {
     r.s * r.f - ((r.a - r.j) * r.h - 10000 * r.n) - 10000 * least(0, r.m - r.a - (r.o - r.n))
 }
 
 fn load_deviation(r: Entry) -> i64
     requires { EntryRoom (meant r) }
-    ensures { result ≡ Deviation.loadDeviation (meant r) }
+    ensures { result ≡ Deviation.load_deviation (meant r) }
 {
     10000 * (r.s - ((r.a - r.j) + r.n) - most(0, (r.o - r.n) - r.a))
 }
 
 fn import_deviation(r: Entry) -> i64
     requires { EntryRoom (meant r) }
-    ensures { result ≡ Deviation.importDeviation (meant r) }
+    ensures { result ≡ Deviation.import_deviation (meant r) }
 {
     r.s * r.f - (r.a - r.j) * r.h + 10000 * r.n
 }
 
 fn export_deviation(r: Entry) -> i64
     requires { EntryRoom (meant r) }
-    ensures { result ≡ Deviation.exportDeviation (meant r) }
+    ensures { result ≡ Deviation.export_deviation (meant r) }
 {
     10000 * (r.s - r.a - r.j)
 }
@@ -68,7 +68,7 @@ pub fn deviation(r: Entry) -> i64
 // A deviation, already worked, as it enters an amount: added for generators and imports, taken off for loads and exports.
 pub fn entering(kind: Kind, deviation: i64) -> i64
     requires { Under deviation 144000000000 }
-    ensures { result ≡ enteringAs kind deviation }
+    ensures { result ≡ entering_as kind deviation }
 {
     match kind {
         Kind::Generator => deviation,

@@ -1,6 +1,6 @@
 // A record's numbers, under document 01's letters, and the kind that a word names.
 ghost use Rattle.std.specs.Prelude.{◌≡◌};
-ghost use Rattle.rules.specs.Record.{kind_of, isLoad};
+ghost use Rattle.rules.specs.Record.{kind_of, is_load};
 
 use rules::Kind;
 
@@ -34,7 +34,7 @@ pub fn kind_of(word: u32) -> Kind
 
 // Both kinds of load.
 pub fn is_load(kind: Kind) -> bool
-    ensures { result ≡ isLoad kind }
+    ensures { result ≡ is_load kind }
 {
     match kind {
         Kind::Generator => false,

@@ -9,7 +9,7 @@ ghost use Rattle.formula.specs.Room.{TallyRoom, LineRoom};
 use rules::{Line, Tally};
 
 pub fn empty_tally() -> Tally
-    ensures { result ≡ Posting.emptyTally }
+    ensures { result ≡ Posting.empty_tally }
 {
     Tally {
         records: 0,
@@ -32,7 +32,7 @@ pub fn tallied(t: Tally, area: usize, demand: u32, energy: i64) -> Tally
 }
 
 pub fn empty_line() -> Line
-    ensures { result ≡ Settling.emptyLine }
+    ensures { result ≡ Settling.empty_line }
 {
     Line {
         amount: 0,
@@ -43,7 +43,7 @@ pub fn empty_line() -> Line
 // A member's line with one record more, of so many grains.
 pub fn line_with(l: Line, grains: i64) -> Line
     requires { LineRoom l grains }
-    ensures { result ≡ Posting.lineWith l grains }
+    ensures { result ≡ Posting.line_with l grains }
 {
     Line {
         amount: l.amount + grains,

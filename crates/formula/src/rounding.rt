@@ -6,7 +6,7 @@ ghost use Rattle.rules.specs.Charge as Charge;
 // whole cents, have the amount's sign. A cent more is due exactly where their sum is above `half` in size; the last quotient is then 1 or -1.
 pub fn cents_of(amount: i64, half: u32) -> i64
     requires { 0 < half }
-    ensures { result ≡ Charge.centsOf (2 * half) amount }
+    ensures { result ≡ Charge.cents_of (2 * half) amount }
 {
     let h = half as i64;
     let cent = 2 * h;

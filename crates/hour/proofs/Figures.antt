@@ -11,13 +11,13 @@ use lib.Seq.{ext_get_or}
 use borrow.Author.Tests.{lt-ltb, ltb-true, ltb-false}
 use Rattle.whole.specs.Below.{valuesBelow, replacingFirst}
 use Rattle.whole.proofs.Tests.{split}
-use Rattle.whole.proofs.Buffers.{length-values, getD-values, length-replacing, getD-replacing, get_d_kept}
+use Rattle.whole.proofs.Buffers.{length_values, get_or_values, length_replacing, get_or_replacing, get_d_kept}
 use Rattle.rules.specs.Record.{Hour, members, areas, price}
 use Rattle.rules.specs.Ufe.{ufe}
-use Rattle.rules.specs.Settling.{ufeFigures}
+use Rattle.rules.specs.Settling.{ufe_figures}
 use Rattle.hour.specs.declared.Head.{Head}
-use Rattle.rules.specs.HourFile.{hourIn}
-use Rattle.hour.specs.Hour.{pricesOf, head_of, Headed}
+use Rattle.rules.specs.HourFile.{hour_in}
+use Rattle.hour.specs.Hour.{prices_of, head_of, Headed}
 
 module _ (f : ℕ → ℤ) (n : ℕ) (few : n ≤ 8) where
   abbrev zeros : List ℤ
@@ -27,47 +27,47 @@ module _ (f : ℕ → ℤ) (n : ℕ) (few : n ≤ 8) where
   figures = valuesBelow (λ a. cond (ltb a n) (f a) (pos 0)) 8
 
   -- eight zeros of which the areas' places are written
-  pub eight-filled : replacingFirst f n zeros ≡ figures
-  eight-filled = ext_get_or (pos 0) _ _ (length-replacing f n zeros few ∙ sym (length-values _ 8)) (λ a l.
-      let m : a < 8 = omega (arith, length-replacing f n zeros few) in
-      let figure = getD-values _ 8 a (pos 0) m in
+  pub eight_filled : replacingFirst f n zeros ≡ figures
+  eight_filled = ext_get_or (pos 0) _ _ (length_replacing f n zeros few ∙ sym (length_values _ 8)) (λ a l.
+      let m : a < 8 = omega (arith, length_replacing f n zeros few) in
+      let figure = get_or_values _ 8 a (pos 0) m in
       split (ltb a n)
-      (λ t. getD-replacing f n zeros a (pos 0) (ltb-true a n t) ∙ sym (figure ∙ rw t))
+      (λ t. get_or_replacing f n zeros a (pos 0) (ltb-true a n t) ∙ sym (figure ∙ rw t))
       (λ e. get_d_kept f n zeros a (pos 0) (ltb-false a n e) ∙ get_or-replicate 8 a (pos 0) (pos 0) m ∙ sym (figure ∙ rw e)))
 
-  own-figure : (a : ℕ) → a < n → get_or figures a (pos 0) ≡ f a
-  own-figure a there = getD-values _ 8 a (pos 0) (omega arith) ∙ rw (lt-ltb a n there)
+  own_figure : (a : ℕ) → a < n → get_or figures a (pos 0) ≡ f a
+  own_figure a there = get_or_values _ 8 a (pos 0) (omega arith) ∙ rw (lt-ltb a n there)
 
 module _ (h : Hour) (few : areas h ≤ 8) (a : ℕ) (there : a < areas h) where
-  pub figure-at : get_or (ufeFigures h) a (pos 0) ≡ ufe h a
-  unfolding ufeFigures
-  figure-at = own-figure (ufe h) (areas h) few a there
+  pub figure_at : get_or (ufe_figures h) a (pos 0) ≡ ufe h a
+  unfolding ufe_figures
+  figure_at = own_figure (ufe h) (areas h) few a there
 
-  pub price-at : get_or (pricesOf h) a (pos 0) ≡ price h a
-  unfolding pricesOf
-  price-at = own-figure (price h) (areas h) few a there
+  pub price_at : get_or (prices_of h) a (pos 0) ≡ price h a
+  unfolding prices_of
+  price_at = own_figure (price h) (areas h) few a there
 
 -- ---- the head that was read once
 
 module _ {s : List ℕ} {x : Head} (p : Headed s x) where
   abbrev hour : Hour
-  hour = hourIn s
+  hour = hour_in s
 
-  pub head-members : x.members ≡ members hour
+  pub head_members : x.members ≡ members hour
   unfolding head_of
-  head-members = ap (λ (y : Head). y.members) p.head-is
+  head_members = ap (λ (y : Head). y.members) p.head_is
 
-  pub head-areas : x.areas ≡ areas hour
+  pub head_areas : x.areas ≡ areas hour
   unfolding head_of
-  head-areas = ap (λ (y : Head). y.areas) p.head-is
+  head_areas = ap (λ (y : Head). y.areas) p.head_is
 
-  pub head-records : x.records ≡ hour.count
+  pub head_records : x.records ≡ hour.count
   unfolding head_of
-  head-records = ap (λ (y : Head). y.records) p.head-is
+  head_records = ap (λ (y : Head). y.records) p.head_is
 
-  pub head-prices : x.prices ≡ pricesOf hour
+  pub head_prices : x.prices ≡ prices_of hour
   unfolding head_of
-  head-prices = ap (λ (y : Head). y.prices) p.head-is
+  head_prices = ap (λ (y : Head). y.prices) p.head_is
 
-  pub head-price : (a : ℕ) → a < areas hour → get_or x.prices a (pos 0) ≡ price hour a
-  head-price a there = rw head-prices (price-at hour p.kept.hour-kept.areas-most a there)
+  pub head_price : (a : ℕ) → a < areas hour → get_or x.prices a (pos 0) ≡ price hour a
+  head_price a there = rw head_prices (price_at hour p.kept.hour_kept.areas_most a there)

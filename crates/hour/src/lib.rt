@@ -4,12 +4,12 @@
 ghost use Rattle.std.specs.Prelude.{◌≡◌, ◌<◌, length};
 ghost use Rattle.rules.specs.Record as Record;
 ghost use Rattle.rules.specs.HourFile as HourFile;
-ghost use Rattle.rules.specs.HourFile.{hourly, word, hourIn};
-ghost use Rattle.rules.specs.Inner.Posting.{demandBy, demandOf};
+ghost use Rattle.rules.specs.HourFile.{hourly, word, hour_in};
+ghost use Rattle.rules.specs.Inner.Posting.{demand_by, demand_of};
 ghost use Rattle.rules.specs.Inner.Kept.{FileKept};
-ghost use Rattle.blocks.specs.Part.{recordPart, RecordThere};
+ghost use Rattle.blocks.specs.Part.{record_part, RecordThere};
 ghost use Rattle.formula.specs.Meant.{meant};
-ghost use Rattle.hour.specs.Hour.{pricesOf, head_of};
+ghost use Rattle.hour.specs.Hour.{prices_of, head_of};
 
 use formula::entry::Entry;
 use rules::Kind;
@@ -25,14 +25,14 @@ pub fn body(file: &[u8], b: usize) -> &[u8]
 
 // Word `w` of the head.
 pub fn head_word(file: &[u8], w: usize) -> u32
-    ensures { result ≡ (HourFile.hourIn file.now).head w }
+    ensures { result ≡ (HourFile.hour_in file.now).head w }
 {
     blocks::head_word(file, w)
 }
 
 // How many records the file says it holds, by the count of its last block.
 pub fn records(file: &[u8]) -> usize
-    ensures { result ≡ (HourFile.hourIn file.now).count }
+    ensures { result ≡ (HourFile.hour_in file.now).count }
 {
     blocks::records(rules::hourly(), file)
 }
@@ -40,7 +40,7 @@ pub fn records(file: &[u8]) -> usize
 // Record `i`, a part of the file itself. Whoever reads several words of a record takes this part once.
 pub fn record(file: &[u8], i: usize) -> &[u8]
     requires { RecordThere hourly file.now i }
-    ensures { result.now ≡ recordPart hourly file.now i }
+    ensures { result.now ≡ record_part hourly file.now i }
 {
     blocks::record(rules::hourly(), file, i)
 }
@@ -59,8 +59,8 @@ pub struct Head {
 
 // The zone price of an area, in cents per MWh.
 fn price(file: &[u8], a: usize) -> i64
-    requires { FileKept file.now × (a < Record.areas (hourIn file.now)) }
-    ensures { result ≡ Record.price (hourIn file.now) a }
+    requires { FileKept file.now × (a < Record.areas (hour_in file.now)) }
+    ensures { result ≡ Record.price (hour_in file.now) a }
 {
     let zone = blocks::whole_word(file, 16 + 4 * a) as usize;
     blocks::signed(blocks::whole_word(file, 12 + zone))
@@ -68,8 +68,8 @@ fn price(file: &[u8], a: usize) -> i64
 
 // Eight prices, 0 past the areas.
 fn prices(file: &[u8], areas: usize) -> [i64; 8]
-    requires { FileKept file.now × (areas ≡ Record.areas (hourIn file.now)) }
-    ensures { result ≡ pricesOf (hourIn file.now) }
+    requires { FileKept file.now × (areas ≡ Record.areas (hour_in file.now)) }
+    ensures { result ≡ prices_of (hour_in file.now) }
 {
     let mut prices = [0i64; 8];
     let mut a = 0;
@@ -83,7 +83,7 @@ fn prices(file: &[u8], areas: usize) -> [i64; 8]
 // The head of a file that keeps its ranges.
 pub fn head_of(file: &[u8]) -> Head
     requires { FileKept file.now }
-    ensures { result ≡ head_of (hourIn file.now) }
+    ensures { result ≡ head_of (hour_in file.now) }
 {
     let areas = head_word(file, 11) as usize;
     let prices = prices(file, areas);
@@ -150,7 +150,7 @@ pub fn entry_in(words: &[u8]) -> Entry
 
 fn demand_in(words: &[u8]) -> u32
     requires { length words.now ≡ 48 }
-    ensures { result ≡ demandBy (Record.entry (word words.now)) }
+    ensures { result ≡ demand_by (Record.entry (word words.now)) }
 {
     if formula::entry::is_load(kind_in(words)) {
         return blocks::whole_word(words, 4);
@@ -161,31 +161,31 @@ fn demand_in(words: &[u8]) -> u32
 // ---- a record by its place, in a file that keeps its ranges
 
 pub fn member_of(file: &[u8], i: usize) -> usize
-    requires { FileKept file.now × (i < (hourIn file.now).count) }
-    ensures { result ≡ Record.memberOf (hourIn file.now) i }
+    requires { FileKept file.now × (i < (hour_in file.now).count) }
+    ensures { result ≡ Record.member_of (hour_in file.now) i }
 {
     member_in(record(file, i))
 }
 
 pub fn area_of(file: &[u8], i: usize) -> usize
-    requires { FileKept file.now × (i < (hourIn file.now).count) }
-    ensures { result ≡ Record.areaOf (hourIn file.now) i }
+    requires { FileKept file.now × (i < (hour_in file.now).count) }
+    ensures { result ≡ Record.area_of (hour_in file.now) i }
 {
     area_in(record(file, i))
 }
 
 // A record's numbers under document 01's letters.
 pub fn entry_of(file: &[u8], i: usize) -> Entry
-    requires { FileKept file.now × (i < (hourIn file.now).count) }
-    ensures { meant result ≡ Record.entry_of (hourIn file.now) i }
+    requires { FileKept file.now × (i < (hour_in file.now).count) }
+    ensures { meant result ≡ Record.entry_of (hour_in file.now) i }
 {
     entry_in(record(file, i))
 }
 
 // What a record demands of its area's UFE: only a load demands.
 pub fn demand_of(file: &[u8], i: usize) -> u32
-    requires { FileKept file.now × (i < (hourIn file.now).count) }
-    ensures { result ≡ demandOf (hourIn file.now) i }
+    requires { FileKept file.now × (i < (hour_in file.now).count) }
+    ensures { result ≡ demand_of (hour_in file.now) i }
 {
     demand_in(record(file, i))
 }

@@ -1,7 +1,7 @@
 -- Amounts read and written at each limit and one past it, shares by both engines, columns and lines, computed.
 use mathlib.Core.Path.{refl}
 use mathlib.Core.Option.{bind}
-use Rattle.whole.specs.Below.{valuesBelow, sumBelow, totalBelow, countBelow}
+use Rattle.whole.specs.Below.{valuesBelow, sum_below, total_below, count_below}
 use Rattle.rules.specs.Record
 use Rattle.rules.specs.Ufe
 use Rattle.rules.specs.HourWords
@@ -12,16 +12,16 @@ use Rattle.rules.specs.Settling
 use Rattle.rules.specs.Statement
 use Rattle.rules.specs.Figures.Amounts
 
-pub amounts-right : Amounts.AmountsRight
-unfolding valuesBelow sumBelow totalBelow countBelow bind Record.signed Record.kind_of Record.zoneOf Record.tieIn Record.tieOut Ufe.in_area
-    Ufe.areaSum Ufe.losses Ufe.ufe HourWords.hourFrom Share.better Share.firstLargest Share.is_at Share.handedOut Share.allDemand
-    Share.wholePart Share.remainder Share.unitsLeft Share.shareSize Share.ahead Share.rankedSize Share.share Text.digitsUpTo Text.decimal
-    Text.amountText Text.amountField Text.blankCount Text.digitCount Text.digitsValue Text.pastBlanks Text.signAt Text.dollarsAt
-    Text.centsAt Text.withMinus Text.amountIn Refusals.verdict Refusals.outOfRange Refusals.tooNarrow Refusals.writeAmountRows
-    Settling.emptyLine Settling.ufeFigures Settling.write Settling.read Statement.column Statement.memberLine Amounts.amountsRead
+pub amounts_right : Amounts.AmountsRight
+unfolding valuesBelow sum_below total_below count_below bind Record.signed Record.kind_of Record.zone_of Record.tie_in Record.tie_out Ufe.in_area
+    Ufe.area_sum Ufe.losses Ufe.ufe HourWords.hour_from Share.better Share.first_largest Share.is_at Share.handed_out Share.all_demand
+    Share.whole_part Share.remainder Share.units_left Share.share_size Share.ahead Share.ranked_size Share.share Text.digits_up_to Text.decimal
+    Text.amount_text Text.amount_field Text.blank_count Text.digit_count Text.digits_value Text.past_blanks Text.sign_at Text.dollars_at
+    Text.cents_at Text.with_minus Text.amount_in Refusals.verdict Refusals.out_of_range Refusals.too_narrow Refusals.write_amount_rows
+    Settling.empty_line Settling.ufe_figures Settling.write Settling.read Statement.column Statement.member_line Amounts.amounts_read
     Amounts.written Amounts.shares
-amounts-right = record {
-  of-reading = (refl, (refl, (refl, (refl, (refl, (refl, (refl, (refl, (refl, (refl, (refl, (refl, (refl, (refl, (refl, (refl, (refl, (refl, (refl, (refl, (refl, (refl, (refl, (refl, (refl, (refl, (refl, (refl, tt))))))))))))))))))))))))))));
-  of-writing = (refl, (refl, (refl, (refl, (refl, (refl, (refl, (refl, (refl, (refl, (refl, (refl, tt))))))))))));
-  of-sharing = (refl, (refl, (refl, (refl, (refl, (refl, tt))))));
+amounts_right = record {
+  of_reading = (refl, (refl, (refl, (refl, (refl, (refl, (refl, (refl, (refl, (refl, (refl, (refl, (refl, (refl, (refl, (refl, (refl, (refl, (refl, (refl, (refl, (refl, (refl, (refl, (refl, (refl, (refl, (refl, tt))))))))))))))))))))))))))));
+  of_writing = (refl, (refl, (refl, (refl, (refl, (refl, (refl, (refl, (refl, (refl, (refl, (refl, tt))))))))))));
+  of_sharing = (refl, (refl, (refl, (refl, (refl, (refl, tt))))));
 }

@@ -2,7 +2,7 @@
 use mathlib.Core.Path.{refl}
 use mathlib.Core.Option.{or_else}
 use Rattle.whole.specs.Below
-use Rattle.whole.specs.Signed.{minℤ, maxℤ}
+use Rattle.whole.specs.Signed.{min_ℤ, max_ℤ}
 use Rattle.rules.specs.Record
 use Rattle.rules.specs.Deviation
 use Rattle.rules.specs.Ufe
@@ -16,23 +16,23 @@ use Rattle.rules.specs.Refusals
 use Rattle.rules.specs.Statement
 use Rattle.rules.specs.Explanation
 use Rattle.rules.specs.Figures.Files.{word_bytes, sealed}
-use Rattle.rules.specs.Figures.EveryKind.{everyKind}
+use Rattle.rules.specs.Figures.EveryKind.{every_kind}
 use Rattle.rules.specs.Figures.FiveHeads.{ExplainedRight, unscheduled, explanations}
 
-pub explained-right : ExplainedRight
-unfolding Below.sumBelow Below.totalBelow Below.firstBelow or_else minℤ maxℤ Record.signed Record.kind_of Record.actual Record.entry
-    Record.memberOf Record.areaOf Record.entry_of Record.zonePrice Record.zoneOf Record.tieIn Record.tieOut Record.price
-    Deviation.generatorUnavailable Deviation.generatorDeviation Deviation.loadUnavailable Deviation.loadDeviation Deviation.deviation
-    Ufe.in_area Ufe.areaSum Ufe.losses Ufe.ufe Ufe.areaDemand Share.better Share.firstLargest Share.is_at Share.handedOut Share.allDemand
-    Share.wholePart Share.remainder Share.unitsLeft Share.shareSize Share.share Charge.entering Charge.nearestCent Charge.cents
-    Charge.share_of Charge.grains Charge.amount Charge.charge Text.digitsUpTo Text.decimal HourFile.word HourFile.blocks HourFile.blockWord
-    HourFile.blockSum HourFile.lengthBad HourFile.recordCount HourFile.recordWord HourFile.hourOf Ranges.keeps Ranges.firstBroken
-    Ranges.countRule Ranges.pastRule Ranges.blockRule Ranges.areaRule Ranges.headRule Ranges.rulesOf Ranges.recordRule Refusals.verdict
-    Refusals.badLength Refusals.badSum Refusals.badBlock Refusals.badHead Refusals.badWord Refusals.badRecord Refusals.scheduledAbove
-    Refusals.aboveMaximum Refusals.badArea Refusals.badAmount Neutrality.neutrality Neutrality.memberDemand Neutrality.hourDemand
-    Refusals.noDemand Refusals.blockRows Refusals.wordRows Refusals.comparisonRows Refusals.sumRows Refusals.formRows
-    Refusals.fileRows Refusals.hourRows word_bytes Deviation.importDeviation Deviation.exportDeviation Refusals.noMember
-    Refusals.explainRows Statement.refusedLine Explanation.pricedSum Explanation.heads Explanation.sameSign Explanation.decidedBy
-    Explanation.decided Explanation.explain Explanation.signedDecimal Explanation.headLine Explanation.decidedLine
-    Explanation.explanationLines Explanation.worded Explanation.explanation sealed everyKind unscheduled explanations Neutrality.neutralityShare
-explained-right = (refl, (refl, (refl, (refl, (refl, (refl, (refl, (refl, (refl, (refl, (refl, (refl, tt))))))))))))
+pub explained_right : ExplainedRight
+unfolding Below.sum_below Below.total_below Below.first_below or_else min_ℤ max_ℤ Record.signed Record.kind_of Record.actual Record.entry
+    Record.member_of Record.area_of Record.entry_of Record.zone_price Record.zone_of Record.tie_in Record.tie_out Record.price
+    Deviation.generator_unavailable Deviation.generator_deviation Deviation.load_unavailable Deviation.load_deviation Deviation.deviation
+    Ufe.in_area Ufe.area_sum Ufe.losses Ufe.ufe Ufe.area_demand Share.better Share.first_largest Share.is_at Share.handed_out Share.all_demand
+    Share.whole_part Share.remainder Share.units_left Share.share_size Share.share Charge.entering Charge.nearest_cent Charge.cents
+    Charge.share_of Charge.grains Charge.amount Charge.charge Text.digits_up_to Text.decimal HourFile.word HourFile.blocks HourFile.block_word
+    HourFile.block_sum HourFile.length_bad HourFile.record_count HourFile.record_word HourFile.hour_of Ranges.keeps Ranges.first_broken
+    Ranges.count_rule Ranges.past_rule Ranges.block_rule Ranges.area_rule Ranges.head_rule Ranges.rules_of Ranges.record_rule Refusals.verdict
+    Refusals.bad_length Refusals.bad_sum Refusals.bad_block Refusals.bad_head Refusals.bad_word Refusals.bad_record Refusals.scheduled_above
+    Refusals.above_maximum Refusals.bad_area Refusals.bad_amount Neutrality.neutrality Neutrality.member_demand Neutrality.hour_demand
+    Refusals.no_demand Refusals.block_rows Refusals.word_rows Refusals.comparison_rows Refusals.sum_rows Refusals.form_rows
+    Refusals.file_rows Refusals.hour_rows word_bytes Deviation.import_deviation Deviation.export_deviation Refusals.no_member
+    Refusals.explain_rows Statement.refused_line Explanation.priced_sum Explanation.heads Explanation.same_sign Explanation.decided_by
+    Explanation.decided Explanation.explain Explanation.signed_decimal Explanation.head_line Explanation.decided_line
+    Explanation.explanation_lines Explanation.worded Explanation.explanation sealed every_kind unscheduled explanations Neutrality.neutrality_share
+explained_right = (refl, (refl, (refl, (refl, (refl, (refl, (refl, (refl, (refl, (refl, (refl, (refl, tt))))))))))))

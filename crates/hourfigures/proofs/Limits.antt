@@ -8,19 +8,19 @@ use Rattle.rules.specs.HourWords
 use Rattle.rules.specs.Ranges
 use Rattle.rules.specs.Refusals
 use Rattle.rules.specs.Figures.Files.{word_bytes}
-use Rattle.rules.specs.Figures.Printed.{printedFile}
+use Rattle.rules.specs.Figures.Printed.{printed_file}
 use Rattle.rules.specs.Figures.Limits
 
-pub limits-right : Limits.LimitsRight
-unfolding Below.valuesBelow Below.firstBelow or_else Record.signed Record.kind_of HourWords.hourFrom Ranges.keeps Ranges.firstBroken
-    Ranges.areaRule Ranges.headRule Ranges.rulesOf Ranges.recordRule Refusals.badHead Refusals.badWord Limits.faults Limits.ownPlaces
-    Limits.recordFault Limits.recordLimits Limits.headFault Limits.fullHead Limits.headLimits Ranges.countRule Ranges.pastRule
-    Ranges.blockRule Limits.blockFault Limits.blockLimits Limits.wordFigures
-    HourFile.word HourFile.lengthBad HourFile.blocks HourFile.blockWord HourFile.recordCount HourFile.recordWord HourFile.hourOf
-    HourWords.byte_of word_bytes printedFile
-limits-right = record {
-  of-records = (refl, (refl, (refl, (refl, (refl, (refl, (refl, (refl, (refl, (refl, (refl, (refl, (refl, (refl, (refl, tt)))))))))))))));
-  of-the-head = (refl, (refl, (refl, (refl, (refl, (refl, (refl, (refl, (refl, (refl, (refl, (refl, (refl, (refl, (refl, tt)))))))))))))));
+pub limits_right : Limits.LimitsRight
+unfolding Below.valuesBelow Below.first_below or_else Record.signed Record.kind_of HourWords.hour_from Ranges.keeps Ranges.first_broken
+    Ranges.area_rule Ranges.head_rule Ranges.rules_of Ranges.record_rule Refusals.bad_head Refusals.bad_word Limits.faults Limits.own_places
+    Limits.record_fault Limits.record_limits Limits.head_fault Limits.full_head Limits.head_limits Ranges.count_rule Ranges.past_rule
+    Ranges.block_rule Limits.block_fault Limits.block_limits Limits.word_figures
+    HourFile.word HourFile.length_bad HourFile.blocks HourFile.block_word HourFile.record_count HourFile.record_word HourFile.hour_of
+    HourWords.byte_of word_bytes printed_file
+limits_right = record {
+  of_records = (refl, (refl, (refl, (refl, (refl, (refl, (refl, (refl, (refl, (refl, (refl, (refl, (refl, (refl, (refl, tt)))))))))))))));
+  of_the_head = (refl, (refl, (refl, (refl, (refl, (refl, (refl, (refl, (refl, (refl, (refl, (refl, (refl, (refl, (refl, tt)))))))))))))));
   of_blocks = (refl, (refl, (refl, (refl, (refl, (refl, (refl, (refl, tt))))))));
   of_words = (
     refl,

@@ -2,8 +2,8 @@
 use mathlib.Core.Path.{refl}
 use Rattle.rules.specs.Figures.Numbered.{NumberedRight}
 
-pub numbered-right : NumberedRight
-numbered-right = (
+pub numbered_right : NumberedRight
+numbered_right = (
   refl,
   (refl, (refl, (refl, (refl, (refl, (refl, (refl, (refl, (refl, (refl, (refl, (refl, (refl, (refl, (refl, tt))))))))))))))),
 )

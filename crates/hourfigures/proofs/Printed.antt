@@ -2,7 +2,7 @@
 use mathlib.Core.Path.{refl}
 use mathlib.Core.Option.{or_else}
 use Rattle.whole.specs.Below
-use Rattle.whole.specs.Signed.{minℤ, maxℤ}
+use Rattle.whole.specs.Signed.{min_ℤ, max_ℤ}
 use Rattle.rules.specs.Record
 use Rattle.rules.specs.Deviation
 use Rattle.rules.specs.Ufe
@@ -15,23 +15,23 @@ use Rattle.rules.specs.Ranges
 use Rattle.rules.specs.Refusals
 use Rattle.rules.specs.Settling
 use Rattle.rules.specs.Statement
-use Rattle.rules.specs.Figures.Files.{word_bytes, usedBuffers}
-use Rattle.rules.specs.Figures.Printed.{PrintedRight, printedFile, printedSettlement}
+use Rattle.rules.specs.Figures.Files.{word_bytes, used_buffers}
+use Rattle.rules.specs.Figures.Printed.{PrintedRight, printed_file, printed_settlement}
 
-pub printed-right : PrintedRight
-unfolding Below.countBelow Below.sumBelow Below.totalBelow Below.valuesBelow Below.replacingFirst Below.firstBelow or_else minℤ maxℤ
-    Record.signed Record.kind_of Record.actual Record.entry Record.memberOf Record.areaOf Record.entry_of Record.zonePrice Record.zoneOf
-    Record.tieIn Record.tieOut Record.price Deviation.generatorUnavailable Deviation.generatorDeviation Deviation.loadUnavailable
-    Deviation.loadDeviation Deviation.deviation Ufe.in_area Ufe.areaSum Ufe.losses Ufe.ufe Ufe.areaDemand Share.better Share.firstLargest
-    Share.is_at Share.handedOut Share.allDemand Share.wholePart Share.remainder Share.unitsLeft Share.shareSize Share.share Charge.entering
-    Charge.nearestCent Charge.cents Charge.share_of Charge.grains Charge.amount Charge.recordsOf Charge.charge Text.digitsUpTo Text.decimal
-    Text.amountText Text.amountField HourFile.word HourFile.blocks HourFile.blockWord HourFile.blockSum HourFile.lengthBad
-    HourFile.recordCount HourFile.recordWord HourFile.hourOf Ranges.keeps Ranges.firstBroken Ranges.countRule Ranges.pastRule
-    Ranges.blockRule Ranges.areaRule Ranges.headRule Ranges.rulesOf Ranges.recordRule Refusals.verdict Refusals.badLength Refusals.badSum
-    Refusals.badBlock Refusals.badHead Refusals.badWord Refusals.badRecord Refusals.scheduledAbove Refusals.aboveMaximum Refusals.badArea
-    Refusals.badAmount Neutrality.neutrality Neutrality.memberDemand Neutrality.hourDemand Neutrality.neutralityShare Neutrality.final
-    Refusals.noDemand Refusals.tooShort Refusals.outOfRange Refusals.tooNarrow Refusals.blockRows Refusals.wordRows Refusals.comparisonRows
-    Refusals.sumRows Refusals.formRows Refusals.fileRows Refusals.hourRows Refusals.settleRows Refusals.writeAmountRows Settling.line_of
-    Settling.filled Settling.ufeFigures Settling.settle Settling.write Statement.firstLine Statement.column Statement.memberLine
-    Statement.memberLines Statement.sheetOf Statement.statement word_bytes printedFile usedBuffers printedSettlement
-printed-right = record { settled = refl; stated = refl }
+pub printed_right : PrintedRight
+unfolding Below.count_below Below.sum_below Below.total_below Below.valuesBelow Below.replacingFirst Below.first_below or_else min_ℤ max_ℤ
+    Record.signed Record.kind_of Record.actual Record.entry Record.member_of Record.area_of Record.entry_of Record.zone_price Record.zone_of
+    Record.tie_in Record.tie_out Record.price Deviation.generator_unavailable Deviation.generator_deviation Deviation.load_unavailable
+    Deviation.load_deviation Deviation.deviation Ufe.in_area Ufe.area_sum Ufe.losses Ufe.ufe Ufe.area_demand Share.better Share.first_largest
+    Share.is_at Share.handed_out Share.all_demand Share.whole_part Share.remainder Share.units_left Share.share_size Share.share Charge.entering
+    Charge.nearest_cent Charge.cents Charge.share_of Charge.grains Charge.amount Charge.records_of Charge.charge Text.digits_up_to Text.decimal
+    Text.amount_text Text.amount_field HourFile.word HourFile.blocks HourFile.block_word HourFile.block_sum HourFile.length_bad
+    HourFile.record_count HourFile.record_word HourFile.hour_of Ranges.keeps Ranges.first_broken Ranges.count_rule Ranges.past_rule
+    Ranges.block_rule Ranges.area_rule Ranges.head_rule Ranges.rules_of Ranges.record_rule Refusals.verdict Refusals.bad_length Refusals.bad_sum
+    Refusals.bad_block Refusals.bad_head Refusals.bad_word Refusals.bad_record Refusals.scheduled_above Refusals.above_maximum Refusals.bad_area
+    Refusals.bad_amount Neutrality.neutrality Neutrality.member_demand Neutrality.hour_demand Neutrality.neutrality_share Neutrality.final
+    Refusals.no_demand Refusals.too_short Refusals.out_of_range Refusals.too_narrow Refusals.block_rows Refusals.word_rows Refusals.comparison_rows
+    Refusals.sum_rows Refusals.form_rows Refusals.file_rows Refusals.hour_rows Refusals.settle_rows Refusals.write_amount_rows Settling.line_of
+    Settling.filled Settling.ufe_figures Settling.settle Settling.write Statement.first_line Statement.column Statement.member_line
+    Statement.member_lines Statement.sheet_of Statement.statement word_bytes printed_file used_buffers printed_settlement
+printed_right = record { settled = refl; stated = refl }

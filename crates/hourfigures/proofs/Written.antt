@@ -11,15 +11,15 @@ use Rattle.rules.specs.Refusals
 use Rattle.rules.specs.Statement
 use Rattle.rules.specs.RawHour
 use Rattle.rules.specs.Figures.Files.{word_bytes}
-use Rattle.rules.specs.Figures.Printed.{printedFile}
-use Rattle.rules.specs.Figures.Written.{WrittenRight, printedWords, writtenCases}
+use Rattle.rules.specs.Figures.Printed.{printed_file}
+use Rattle.rules.specs.Figures.Written.{WrittenRight, printed_words, written_cases}
 
-pub written-right : WrittenRight
-unfolding Below.sumBelow Below.valuesBelow Below.firstBelow or_else Record.signed Record.kind_of Text.digitsUpTo Text.decimal HourFile.word
-    HourWords.hourFrom HourWords.byte_of HourWords.closing HourWords.openBlock HourWords.blocksFor HourWords.heldIn HourWords.bodyWord
-    HourWords.openWord HourWords.fileWord HourWords.fileByte HourWords.fileLength HourWords.fileOf Ranges.keeps Ranges.firstBroken
-    Ranges.areaRule Ranges.headRule Ranges.rulesOf Ranges.recordRule Refusals.verdict Refusals.badLists Refusals.badHead Refusals.badWord
-    Refusals.badRecord Refusals.scheduledAbove Refusals.aboveMaximum Refusals.wordRows Refusals.comparisonRows Refusals.listFormRows
-    Refusals.listRows Statement.refusedLine RawHour.rawWords RawHour.rawRows RawHour.rawWritten word_bytes printedFile printedWords
-    writtenCases
-written-right = (refl, (refl, tt))
+pub written_right : WrittenRight
+unfolding Below.sum_below Below.valuesBelow Below.first_below or_else Record.signed Record.kind_of Text.digits_up_to Text.decimal HourFile.word
+    HourWords.hour_from HourWords.byte_of HourWords.closing HourWords.open_block HourWords.blocks_for HourWords.held_in HourWords.body_word
+    HourWords.open_word HourWords.file_word HourWords.file_byte HourWords.file_length HourWords.file_of Ranges.keeps Ranges.first_broken
+    Ranges.area_rule Ranges.head_rule Ranges.rules_of Ranges.record_rule Refusals.verdict Refusals.bad_lists Refusals.bad_head Refusals.bad_word
+    Refusals.bad_record Refusals.scheduled_above Refusals.above_maximum Refusals.word_rows Refusals.comparison_rows Refusals.list_form_rows
+    Refusals.list_rows Statement.refused_line RawHour.raw_words RawHour.raw_rows RawHour.raw_written word_bytes printed_file printed_words
+    written_cases
+written_right = (refl, (refl, tt))

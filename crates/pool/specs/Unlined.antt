@@ -3,7 +3,7 @@ use Rattle.std.specs.Prelude.{ℕ, List, ℤ, replicate}
 use Rattle.rules.specs.declared.Line.{Line}
 use Rattle.rules.specs.declared.Settled.{Settled}
 use Rattle.rules.specs.Refusals.{Buffers}
-use Rattle.rules.specs.Settling.{emptyLine}
+use Rattle.rules.specs.Settling.{empty_line}
 use Rattle.rules.specs.Promised.Demands.{Fits}
 use Rattle.pool.specs.Buffers.{buffers}
 
@@ -17,13 +17,13 @@ pub record Unlined : Type 0 where
 abbrev pub unlined : (charges finals shares deviations : List ℤ) → Unlined
 unlined charges finals shares deviations = record { charges = charges; finals = finals; shares = shares; deviations = deviations }
 
-abbrev pub withLines : Unlined → List Line → Buffers
-withLines b lines = buffers b.charges b.finals b.shares b.deviations lines
+abbrev pub with_lines : Unlined → List Line → Buffers
+with_lines b lines = buffers b.charges b.finals b.shares b.deviations lines
 
-abbrev pub ownLines : List Line
-ownLines = replicate 32 emptyLine
+abbrev pub own_lines : List Line
+own_lines = replicate 32 empty_line
 
 -- what was answered and left behind is what `settle` says, with the lines that it was let see
 pub record FitsUnlined (s : List ℕ) (b : Unlined) (answered : Settled) (after : Unlined) : Type 0 where
   pub lines : List Line
-  pub fits : Fits s (withLines b ownLines) answered (withLines after lines)
+  pub fits : Fits s (with_lines b own_lines) answered (with_lines after lines)

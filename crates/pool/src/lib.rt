@@ -5,8 +5,8 @@ ghost use Rattle.whole.specs.Below.{replacingFirst};
 ghost use Rattle.rules.specs.Settling as Settling;
 ghost use Rattle.rules.specs.Charge.{share_of};
 ghost use Rattle.rules.specs.Promised.Demands.{Fits};
-ghost use Rattle.rules.specs.Refusals.{accepted, verdict, fileRows};
-ghost use Rattle.rules.specs.HourFile.{hourIn};
+ghost use Rattle.rules.specs.Refusals.{accepted, verdict, file_rows};
+ghost use Rattle.rules.specs.HourFile.{hour_in};
 ghost use Rattle.hour.specs.Hour.{Headed};
 ghost use Rattle.pool.specs.Buffers.{buffers};
 ghost use Rattle.pool.specs.AsSettled.{AsSettled};
@@ -55,7 +55,7 @@ fn answered(
     shares: usize,
     deviations: usize,
 ) -> Settled
-    requires { (verdict (fileRows file.now) ≡ accepted) × Headed file.now head }
+    requires { (verdict (file_rows file.now) ≡ accepted) × Headed file.now head }
     ensures { AsSettled file.now charges finals lines shares deviations result }
 {
     let tally = byarea::tally_of(file, head);
@@ -77,10 +77,10 @@ fn answered(
 
 // Each record's share, with a room of settling's own lent: a place for each record that an hour can have.
 fn put_shares(file: &[u8], head: Head, figures: [i64; 8], shares: &mut [i64])
-    requires { Headed file.now head × (figures ≡ Settling.ufeFigures (hourIn file.now))
-        × ((hourIn file.now).count ≤ length shares.old) }
+    requires { Headed file.now head × (figures ≡ Settling.ufe_figures (hour_in file.now))
+        × ((hour_in file.now).count ≤ length shares.old) }
     ensures { shares.new
-        ≡ replacingFirst (share_of (hourIn file.now)) (hourIn file.now).count shares.old }
+        ≡ replacingFirst (share_of (hour_in file.now)) (hour_in file.now).count shares.old }
 {
     let n = head.records;
     let mut room = [0u64; 250];

@@ -19,27 +19,27 @@ unfolding shown
 no_room {longest} text {out} short = rw (lt-ltb (length out) longest short) (refl, refl)
 
 module _ {longest : ℕ} {text out : List ℕ} where
-  pub put-shown : {n : ℕ} {after : List ℕ} → longest ≤ length out → length text ≤ longest → Put out 0 text n after →
+  pub put_shown : {n : ℕ} {after : List ℕ} → longest ≤ length out → length text ≤ longest → Put out 0 text n after →
       (n ≡ (shown longest text out).count) × (after ≡ (shown longest text out).out)
   unfolding shown
-  put-shown room fits put = rw (le-ltb (length out) longest room) (put_first put (omega arith))
+  put_shown room fits put = rw (le-ltb (length out) longest room) (put_first put (omega arith))
 
   -- no second result fits
-  pub one-shown : {n m : ℕ} {a b : List ℕ} → HasShown longest text out n a → HasShown longest text out m b → (n ≡ m) × (a ≡ b)
-  one-shown f g = (f.count-is ∙ sym g.count-is, f.out-is ∙ sym g.out-is)
+  pub one_shown : {n m : ℕ} {a b : List ℕ} → HasShown longest text out n a → HasShown longest text out m b → (n ≡ m) × (a ≡ b)
+  one_shown f g = (f.count_is ∙ sym g.count_is, f.out_is ∙ sym g.out_is)
 
   module _ {after : List ℕ} {n : ℕ} (f : HasShown longest text out n after) where
     -- where there is room, the bytes handed back are the text, all of it and nothing else
-    pub whole-text : longest ≤ length out → take n after ≡ text
+    pub whole_text : longest ≤ length out → take n after ≡ text
     unfolding shown
-    whole-text room = rw (f.count-is, f.out-is, le-ltb (length out) longest room) (take-append_seam text _)
+    whole_text room = rw (f.count_is, f.out_is, le-ltb (length out) longest room) (take-append_seam text _)
 
     -- where there is none, nothing is put
     pub nothing_put : length out < longest → (n ≡ 0) × (after ≡ out)
-    nothing_put short = (f.count-is ∙ sym (no_room text short).0, f.out-is ∙ sym (no_room text short).1)
+    nothing_put short = (f.count_is ∙ sym (no_room text short).0, f.out_is ∙ sym (no_room text short).1)
 
     -- the bytes put are bytes of the slice
-    pub count-within : n ≤ length after
+    pub count_within : n ≤ length after
     unfolding shown
-    count-within =
-        rw (f.count-is, f.out-is) (split (ltb (length out) longest) (λ e. rw e zero-le) (λ e. rw (e, length-append) (omega arith)))
+    count_within =
+        rw (f.count_is, f.out_is) (split (ltb (length out) longest) (λ e. rw e zero-le) (λ e. rw (e, length-append) (omega arith)))

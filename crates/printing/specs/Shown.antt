@@ -14,5 +14,5 @@ shown longest text out = cond (ltb (length out) longest)
 
 -- what was answered and left behind is what `shown` says
 pub record HasShown (longest : ℕ) (text out : List ℕ) (count : ℕ) (after : List ℕ) : Type 0 where
-  pub count-is : count ≡ (shown longest text out).count
-  pub out-is : after ≡ (shown longest text out).out
+  pub count_is : count ≡ (shown longest text out).count
+  pub out_is : after ≡ (shown longest text out).out

@@ -1,8 +1,8 @@
 // The lines of a statement (document 01, "The printed statement") and of an explanation as bytes, from numbers and answers alone: each is
 // put into a lent slice, and the place after it is handed back.
 ghost use Rattle.std.specs.Prelude.{◌+◌, ◌≤◌, ◌<◌, nat_abs, length};
-ghost use Rattle.rules.specs.Refusals.{refusedAt, verdictOf};
-ghost use Rattle.rules.specs.Statement.{firstLine, column, memberLine, refusedLine, chargeLine};
+ghost use Rattle.rules.specs.Refusals.{refused_at, verdict_of};
+ghost use Rattle.rules.specs.Statement.{first_line, column, member_line, refused_line, charge_line};
 ghost use Rattle.printing.specs.Put.{Put};
 ghost use Rattle.printing.specs.Charged.{charged};
 
@@ -15,7 +15,7 @@ mod text;
 // Line 1. The room is for twenty digits of each number.
 pub fn put_first_line(out: &mut [u8], hour: u64, members: u64, records: u64) -> usize
     requires { 84 ≤ length out.old }
-    ensures { Put out.old 0 (firstLine hour members records) result out.new }
+    ensures { Put out.old 0 (first_line hour members records) result out.new }
 {
     let after_hour = put_count(out, 0, b"hour ", hour);
     let after_members = put_count(out, after_hour, b" members ", members);
@@ -47,7 +47,7 @@ fn put_charged(out: &mut [u8], at: usize, member: usize, charge: i64) -> usize
 // A member's line: two digits, a blank, the charge, a blank, the final amount.
 pub fn put_member(out: &mut [u8], at: usize, member: usize, charge: i64, final_amount: i64) -> usize
     requires { (at + 33 ≤ length out.old) × (member < 100) × (nat_abs charge ≤ 999999999999) × (nat_abs final_amount ≤ 999999999999) }
-    ensures { Put out.old at (memberLine member charge final_amount) result out.new }
+    ensures { Put out.old at (member_line member charge final_amount) result out.new }
 {
     let after_charge = put_charged(out, at, member, charge);
     let after_blank = put_bytes(out, after_charge, b" ");
@@ -58,7 +58,7 @@ pub fn put_member(out: &mut [u8], at: usize, member: usize, charge: i64, final_a
 // A member's line of a ten-minute file, which has no finals: two digits, a blank, the charge.
 pub fn put_charge(out: &mut [u8], at: usize, member: usize, charge: i64) -> usize
     requires { (at + 18 ≤ length out.old) × (member < 100) × (nat_abs charge ≤ 999999999999) }
-    ensures { Put out.old at (chargeLine member charge) result out.new }
+    ensures { Put out.old at (charge_line member charge) result out.new }
 {
     let after_charge = put_charged(out, at, member, charge);
     put_bytes(out, after_charge, b"\n")
@@ -67,7 +67,7 @@ pub fn put_charge(out: &mut [u8], at: usize, member: usize, charge: i64) -> usiz
 // A refusal's number and place, and nothing else. The room is for twenty digits of each.
 fn put_refusal(out: &mut [u8], number: u64, place: u64) -> usize
     requires { 53 ≤ length out.old }
-    ensures { Put out.old 0 (refusedLine (refusedAt number place)) result out.new }
+    ensures { Put out.old 0 (refused_line (refused_at number place)) result out.new }
 {
     let after_number = put_count(out, 0, b"refused ", number);
     let after_place = put_count(out, after_number, b" at ", place);
@@ -77,7 +77,7 @@ fn put_refusal(out: &mut [u8], number: u64, place: u64) -> usize
 // The line of a refused call.
 pub fn put_refused(out: &mut [u8], answer: Answer) -> usize
     requires { 53 ≤ length out.old }
-    ensures { Put out.old 0 (refusedLine (verdictOf answer)) result out.new }
+    ensures { Put out.old 0 (refused_line (verdict_of answer)) result out.new }
 {
     let number = answer::number_of(answer);
     let place = answer::place_of(answer) as u64;

@@ -9,27 +9,27 @@ use mir.Val.{to_z, of_z}
 use lib.IntN.{ℤ, pos}
 use lib.ListN.{get_or}
 use Rattle.whole.proofs.Machine.{read_back}
-use Rattle.whole.proofs.Ranges.{u-fits}
-use Rattle.rules.specs.Statement.{memberLines}
+use Rattle.whole.proofs.Ranges.{u_fits}
+use Rattle.rules.specs.Statement.{member_lines}
 use Rattle.bymember.specs.Charged.{Bounded}
 use Rattle.printing.specs.Put.{Put}
-use Rattle.printing.proofs.Putting.{put-nothing}
+use Rattle.printing.proofs.Putting.{put_nothing}
 
 module _ (line : ℕ → List ℕ) where
-  pub put-none : (o : List ℕ) (at : ℕ) → Put o at (memberLines line 0) at o
-  unfolding memberLines
-  put-none o at = put-nothing o at
+  pub put_none : (o : List ℕ) (at : ℕ) → Put o at (member_lines line 0) at o
+  unfolding member_lines
+  put_none o at = put_nothing o at
 
-  pub next-line : (m : ℕ) → memberLines line m ++ line m ≡ memberLines line (m + 1)
-  unfolding memberLines
-  next-line m = rw (add-one m)
+  pub next_line : (m : ℕ) → member_lines line m ++ line m ≡ member_lines line (m + 1)
+  unfolding member_lines
+  next_line m = rw (add-one m)
 
-  pub same_lines : (other : ℕ → List ℕ) (n : ℕ) → ((m : ℕ) → m < n → line m ≡ other m) → memberLines line n ≡ memberLines other n
-  unfolding memberLines
+  pub same_lines : (other : ℕ → List ℕ) (n : ℕ) → ((m : ℕ) → m < n → line m ≡ other m) → member_lines line n ≡ member_lines other n
+  unfolding member_lines
   same_lines other zero each = refl
   same_lines other (suc n) each = rw (same_lines other n (λ m l. each m (omega arith)), each n (omega arith))
 
 -- a number that stands at a member's place, as it is read back
 pub held : {numbers : List ℤ} {n : ℕ} → Bounded numbers n 999999999999 → (m : ℕ) → m < n →
     to_z w64 (of_z w64 (get_or numbers m (pos 0))) ≡ get_or numbers m (pos 0)
-held b m l = read_back (u-fits (b.small m l) tt)
+held b m l = read_back (u_fits (b.small m l) tt)

@@ -6,72 +6,72 @@ use native.Mathlib.Omega.{arith}
 use lib.IntN.{ℤ, pos}
 use lib.ListN.{length, get_or}
 use borrow.Author.Tests.{eqb-false, le-ltb}
-use Rattle.whole.proofs.Ranges.{u-le}
-use Rattle.whole.proofs.Buffers.{getD-replacing, length-replacing}
+use Rattle.whole.proofs.Ranges.{u_le}
+use Rattle.whole.proofs.Buffers.{get_or_replacing, length_replacing}
 use Rattle.rules.specs.declared.Answer.{Answer}
 use Rattle.rules.specs.declared.Answer.TheVariants.{Accepted}
 use Rattle.rules.specs.Record.{members}
-use Rattle.rules.specs.Ranges.{tenMinutesForm}
-use Rattle.rules.specs.Refusals.{accepted, verdictOf, verdict, formRows}
-use Rattle.rules.specs.TenMinutes.{tenMinutesIn, tenMinutesCharge, tenMinutesRows, settleTenMinutes}
-use Rattle.rules.specs.Statement.{memberLines, chargeLine, chargedLines, refusedLine, tenMinutesStatement}
+use Rattle.rules.specs.Ranges.{ten_minutes_form}
+use Rattle.rules.specs.Refusals.{accepted, verdict_of, verdict, form_rows}
+use Rattle.rules.specs.TenMinutes.{ten_minutes_in, ten_minutes_charge, ten_minutes_rows, settle_ten_minutes}
+use Rattle.rules.specs.Statement.{member_lines, charge_line, charged_lines, refused_line, ten_minutes_statement}
 use Rattle.rules.specs.Promised.TenMinutes.{AcceptsTenMinutes}
-use Rattle.rules.proofs.Rows.{last-decides-nothing}
-use Rattle.rules.proofs.IntervalsKept.{ten-minutes-file-kept}
-use Rattle.rules.proofs.IntervalBounds.{charge-under}
+use Rattle.rules.proofs.Rows.{last_decides_nothing}
+use Rattle.rules.proofs.IntervalsKept.{ten_minutes_file_kept}
+use Rattle.rules.proofs.IntervalBounds.{charge_under}
 use Rattle.rules.proofs.TenMinutes.{fills}
-use Rattle.rules.proofs.TenMinutesSheet.{ten-minutes-kept, sheet-accepted, sheet-refused}
+use Rattle.rules.proofs.TenMinutesSheet.{ten_minutes_kept, sheet_accepted, sheet_refused}
 use Rattle.answer.proofs.Refusing.{numbered}
 use Rattle.bymember.specs.Charged.{Bounded}
 use Rattle.tenminutes.proofs.Settled.{Settles}
-use Rattle.report.specs.TenMinutes.{chargeLinesOf, ChargesPrintable}
+use Rattle.report.specs.TenMinutes.{charge_lines_of, ChargesPrintable}
 use Rattle.report.proofs.Lines.{same_lines}
 
 -- the lines of an hour's members, with its charges
-module _ {s : List ℕ} {charges : List ℤ} (p : ChargesPrintable s charges) {n : ℕ} (all : n ≡ members (tenMinutesIn s)) where
-  pub charges-bounded : Bounded charges n 999999999999
-  charges-bounded = record {
-    few = omega (arith, all, p.kept.hour-kept.members-most);
+module _ {s : List ℕ} {charges : List ℤ} (p : ChargesPrintable s charges) {n : ℕ} (all : n ≡ members (ten_minutes_in s)) where
+  pub charges_bounded : Bounded charges n 999999999999
+  charges_bounded = record {
+    few = omega (arith, all, p.kept.hour_kept.members_most);
     room = omega (arith, all, p.room);
-    small = λ m l. rw (p.charges-are m (omega (arith, all))) (u-le (charge-under p.kept.hour-kept m) (omega arith));
+    small = λ m l. rw (p.charges_are m (omega (arith, all))) (u_le (charge_under p.kept.hour_kept m) (omega arith));
   }
 
-  pub lines_are : let h = tenMinutesIn s in chargeLinesOf charges n ≡ memberLines (λ m. chargeLine m (tenMinutesCharge h m)) (members h)
-  lines_are = rw (← all) (same_lines _ _ n (λ m l. rw (p.charges-are m (omega (arith, all)))))
+  pub lines_are : let h = ten_minutes_in s in charge_lines_of charges n ≡ member_lines (λ m. charge_line m (ten_minutes_charge h m)) (members h)
+  lines_are = rw (← all) (same_lines _ _ n (λ m l. rw (p.charges_are m (omega (arith, all)))))
 
 -- room for 32 members is enough for every file: row 11 decides nothing
-room-for-all : (s : List ℕ) (c : List ℤ) → 32 ≤ length c → (settleTenMinutes s c).verdict ≡ verdict (formRows tenMinutesForm s)
-unfolding settleTenMinutes tenMinutesRows
-room-for-all s c room = last-decides-nothing (formRows tenMinutesForm s) 11 _ (λ whole.
-    let kept = (ten-minutes-file-kept s whole).hour-kept in
-    rw (le-ltb (length c) (members (tenMinutesIn s)) (omega (arith, kept.members-most))) refl)
+room_for_all : (s : List ℕ) (c : List ℤ) → 32 ≤ length c → (settle_ten_minutes s c).verdict ≡ verdict (form_rows ten_minutes_form s)
+unfolding settle_ten_minutes ten_minutes_rows
+room_for_all s c room = last_decides_nothing (form_rows ten_minutes_form s) 11 _ (λ whole.
+    let kept = (ten_minutes_file_kept s whole).hour_kept in
+    rw (le-ltb (length c) (members (ten_minutes_in s)) (omega (arith, kept.members_most))) refl)
 
 -- what settling answered and left: the statement by the answer, and the charges that stand in it
 module _ {s : List ℕ} {before after : List ℤ} {a : Answer} (room : 32 ≤ length before) (settled : Settles s before a after) where
-  same-verdict : verdictOf a ≡ verdict (formRows tenMinutesForm s)
-  same-verdict = settled.verdict-is ∙ room-for-all s before room
+  same_verdict : verdict_of a ≡ verdict (form_rows ten_minutes_form s)
+  same_verdict = settled.verdict_is ∙ room_for_all s before room
 
-  pub refused-sheet : (a ≡ Accepted → ⊥) → refusedLine (verdictOf a) ≡ tenMinutesStatement s
-  refused-sheet n = rw same-verdict (sym (sheet-refused s (eqb-false _ _ (rw same-verdict at (numbered a n)))))
+  pub refused_sheet : (a ≡ Accepted → ⊥) → refused_line (verdict_of a) ≡ ten_minutes_statement s
+  refused_sheet n = rw same_verdict (sym (sheet_refused s (eqb-false _ _ (rw same_verdict at (numbered a n)))))
 
   module _ (accepts : a ≡ Accepted) where
-    passed : verdict (formRows tenMinutesForm s) ≡ accepted
-    passed = sym same-verdict ∙ ap verdictOf accepts
+    passed : verdict (form_rows ten_minutes_form s) ≡ accepted
+    passed = sym same_verdict ∙ ap verdict_of accepts
 
-    pub accepted-sheet : chargedLines (tenMinutesIn s) ≡ tenMinutesStatement s
-    accepted-sheet = sym (sheet-accepted s passed)
+    pub accepted_sheet : charged_lines (ten_minutes_in s) ≡ ten_minutes_statement s
+    accepted_sheet = sym (sheet_accepted s passed)
 
     written : AcceptsTenMinutes s before
-    written = sym settled.verdict-is ∙ ap verdictOf accepts
+    written = sym settled.verdict_is ∙ ap verdict_of accepts
 
     pub printable : ChargesPrintable s after
     printable =
-        let h = tenMinutesIn s in
-        let kept = ten-minutes-kept s passed in
-        let filled = settled.charges-are ∙ fills s before written in
-        let enough : members h ≤ length before = omega (arith, kept.hour-kept.members-most) in
+        let h = ten_minutes_in s in
+        let kept = ten_minutes_kept s passed in
+        let filled = settled.charges_are ∙ fills s before written in
+        let enough : members h ≤ length before = omega (arith, kept.hour_kept.members_most) in
         record {
           kept = kept;
-          room = rw (filled, length-replacing (tenMinutesCharge h) (members h) before enough) enough;
-          charges-are = λ m l. rw filled (getD-replacing (tenMinutesCharge h) (members h) before m (pos 0) l);
+          room = rw (filled, length_replacing (ten_minutes_charge h) (members h) before enough) enough;
+          charges_are = λ m l. rw filled (get_or_replacing (ten_minutes_charge h) (members h) before m (pos 0) l);
         }

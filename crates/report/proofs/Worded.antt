@@ -5,22 +5,22 @@ use Prim.Native.Nat.{ℕ, ◌≤◌}
 use lib.ListN.{length}
 use Rattle.rules.specs.declared.Answer.TheVariants.{Accepted}
 use Rattle.rules.specs.declared.Explained.{Explained}
-use Rattle.rules.specs.Refusals.{verdictOf}
-use Rattle.rules.specs.Statement.{refusedLine}
-use Rattle.rules.specs.Explanation.{explain, explanationLines, memberAsked, hourAsked, explanation, worded}
+use Rattle.rules.specs.Refusals.{verdict_of}
+use Rattle.rules.specs.Statement.{refused_line}
+use Rattle.rules.specs.Explanation.{explain, explanation_lines, member_asked, hour_asked, explanation, worded}
 use Rattle.rules.proofs.Worded.{four_bytes}
 use Rattle.answer.proofs.Refusing.{numbered}
 use Rattle.explain.specs.Answered.{answered}
 
-pub worded-refused : (e : Explained) → (e.answer ≡ Accepted → ⊥) → refusedLine (verdictOf e.answer) ≡ worded (answered e)
+pub worded_refused : (e : Explained) → (e.answer ≡ Accepted → ⊥) → refused_line (verdict_of e.answer) ≡ worded (answered e)
 unfolding worded
-worded-refused e n = sym (rw (numbered e.answer n) refl)
+worded_refused e n = sym (rw (numbered e.answer n) refl)
 
-pub worded-accepted : (e : Explained) → e.answer ≡ Accepted →
-    explanationLines e.heads (answered e).decided ≡ worded (answered e)
+pub worded_accepted : (e : Explained) → e.answer ≡ Accepted →
+    explanation_lines e.heads (answered e).decided ≡ worded (answered e)
 unfolding worded
-worded-accepted e a = sym (rw a refl)
+worded_accepted e a = sym (rw a refl)
 
 -- of an input with four bytes or more
-pub asked : (s : List ℕ) → 4 ≤ length s → worded (explain (hourAsked s) (memberAsked s)) ≡ explanation s
+pub asked : (s : List ℕ) → 4 ≤ length s → worded (explain (hour_asked s) (member_asked s)) ≡ explanation s
 asked s l = sym (four_bytes s l)

@@ -4,9 +4,9 @@ use Rattle.rules.specs.declared.Answer.{Answer}
 use Rattle.rules.specs.declared.Answer.TheVariants.{Accepted}
 use Rattle.rules.specs.Record.{members}
 use Rattle.rules.specs.Neutrality.{final}
-use Rattle.rules.specs.Refusals.{verdictOf, verdict, hourRows}
-use Rattle.rules.specs.Statement.{memberLine, memberLines, statement}
-use Rattle.rules.specs.HourFile.{hourIn}
+use Rattle.rules.specs.Refusals.{verdict_of, verdict, hour_rows}
+use Rattle.rules.specs.Statement.{member_line, member_lines, statement}
+use Rattle.rules.specs.HourFile.{hour_in}
 use Rattle.bymember.specs.Charged.{Charged}
 use Rattle.printing.specs.Shown.{Shown, shown, HasShown}
 
@@ -18,16 +18,16 @@ abbrev pub HasStated : (s out : List ℕ) (count : ℕ) (after : List ℕ) → T
 HasStated s out count after = HasShown 1095 (statement s) out count after
 
 -- a line for each of the first members, with these charges and finals
-abbrev pub memberLinesOf : (charges finals : List ℤ) → ℕ → List ℕ
-memberLinesOf charges finals = memberLines (λ m. memberLine m (get_or charges m (pos 0)) (get_or finals m (pos 0)))
+abbrev pub member_lines_of : (charges finals : List ℤ) → ℕ → List ℕ
+member_lines_of charges finals = member_lines (λ m. member_line m (get_or charges m (pos 0)) (get_or finals m (pos 0)))
 
 -- the file keeps its ranges, and its hour's charges and finals stand in the first places
 pub record Printable (s : List ℕ) (charges finals : List ℤ) : Type 0 where
   pub charged : Charged s charges
-  pub room : members (hourIn s) ≤ length finals
-  pub finals-are : (m : ℕ) → m < members (hourIn s) → get_or finals m (pos 0) ≡ final (hourIn s) m
+  pub room : members (hour_in s) ≤ length finals
+  pub finals_are : (m : ℕ) → m < members (hour_in s) → get_or finals m (pos 0) ≡ final (hour_in s) m
 
 -- the answer that the statement's rows give, and the charges and finals where it is acceptance
 pub record Answered (s : List ℕ) (answer : Answer) (charges finals : List ℤ) : Type 0 where
-  pub verdict-is : verdictOf answer ≡ verdict (hourRows s)
+  pub verdict_is : verdict_of answer ≡ verdict (hour_rows s)
   pub printable : answer ≡ Accepted → Printable s charges finals

@@ -8,7 +8,7 @@ ghost use Rattle.report.specs.Worded.{explained};
 
 use rules::{Answer, Explained};
 
-// The most bytes that the explanation of any byte string has: six lines of five numbers of 64 bits (`explanation-fits` of `rules`).
+// The most bytes that the explanation of any byte string has: six lines of five numbers of 64 bits (`explanation_fits` of `rules`).
 pub const LONGEST: usize = 165;
 
 fn put_explained(explained: Explained, out: &mut [u8]) -> usize

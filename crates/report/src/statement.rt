@@ -2,21 +2,21 @@
 // byte string, and whole or not at all.
 ghost use Rattle.std.specs.Prelude.{◌≡◌, ◌+◌, ◌*◌, ◌≤◌, length};
 ghost use Rattle.rules.specs.Statement as Statement;
-ghost use Rattle.rules.specs.HourFile.{hourIn};
+ghost use Rattle.rules.specs.HourFile.{hour_in};
 ghost use Rattle.bymember.specs.Charged.{Bounded};
 ghost use Rattle.printing.specs.Put.{Put};
-ghost use Rattle.report.specs.Stated.{memberLinesOf, Printable, Answered, stated};
+ghost use Rattle.report.specs.Stated.{member_lines_of, Printable, Answered, stated};
 
 use rules::Answer;
 
-// The most bytes that the statement of any byte string has: 39 for line 1, and 33 for each of 32 members (`statement-fits` of `rules`).
+// The most bytes that the statement of any byte string has: 39 for line 1, and 33 for each of 32 members (`statement_fits` of `rules`).
 pub const LONGEST: usize = 1095;
 
 // A line a member, in order, with its charge and its final.
 fn put_members(members: usize, charges: &[i64], finals: &[i64], out: &mut [u8], at: usize) -> usize
     requires { Bounded charges.now members 999999999999 × Bounded finals.now members 999999999999
         × (at + 33 * members ≤ length out.old) }
-    ensures { Put out.old at (memberLinesOf charges.now finals.now members) result out.new }
+    ensures { Put out.old at (member_lines_of charges.now finals.now members) result out.new }
 {
     let mut place = at;
     let mut m = 0;
@@ -30,7 +30,7 @@ fn put_members(members: usize, charges: &[i64], finals: &[i64], out: &mut [u8], 
 // Line 1, with the hour's number and the counts as the file has them, and a line for each member.
 fn put_accepted(file: &[u8], charges: &[i64], finals: &[i64], out: &mut [u8]) -> usize
     requires { Printable file.now charges.now finals.now × (1095 ≤ length out.old) }
-    ensures { Put out.old 0 (Statement.acceptedLines (hourIn file.now)) result out.new }
+    ensures { Put out.old 0 (Statement.accepted_lines (hour_in file.now)) result out.new }
 {
     let hour = hour::head_word(file, 8) as u64;
     let head = hour::head_of(file);

@@ -5,7 +5,7 @@ ghost use Rattle.whole.specs.Below.{valuesBelow};
 ghost use Rattle.rules.specs.HourFile as HourFile;
 ghost use Rattle.rules.specs.RawHour as RawHour;
 ghost use Rattle.printing.specs.Put.{Put};
-ghost use Rattle.report.specs.Filing.{inputBad, filing, wordsWritten};
+ghost use Rattle.report.specs.Filing.{input_bad, filing, words_written};
 
 use rules::Answer;
 
@@ -14,7 +14,7 @@ pub const LONGEST: usize = 13312;
 
 // Whether so many bytes are no whole words, fewer than a head's, or more than a head's and 250 records'.
 fn input_bad(bytes: usize) -> bool
-    ensures { result ≡ inputBad bytes }
+    ensures { result ≡ input_bad bytes }
 {
     if bytes % 4 != 0 {
         return true;
@@ -41,7 +41,7 @@ fn put_words(input: &[u8], words: &mut [u32])
 // The file of a head, the first 120 words, and records, the others; or the line of the refusal.
 fn put_hour(words: &[u32], out: &mut [u8]) -> usize
     requires { (120 ≤ length words.now) × (13312 ≤ length out.old) }
-    ensures { Put out.old 0 (wordsWritten words.now) result out.new }
+    ensures { Put out.old 0 (words_written words.now) result out.new }
 {
     let filed = writer::write_hour(&words[..120], &words[120..], out);
     let answer = filed.answer;
@@ -53,8 +53,8 @@ fn put_hour(words: &[u32], out: &mut [u8]) -> usize
 
 // The same of the input's words, for which as many places are lent.
 fn put_input(input: &[u8], words: &mut [u32], out: &mut [u8]) -> usize
-    requires { (inputBad (length input.now) ≡ false) × (length words.old ≡ length input.now / 4) × (13312 ≤ length out.old) }
-    ensures { Put out.old 0 (RawHour.rawWritten input.now) result out.new }
+    requires { (input_bad (length input.now) ≡ false) × (length words.old ≡ length input.now / 4) × (13312 ≤ length out.old) }
+    ensures { Put out.old 0 (RawHour.raw_written input.now) result out.new }
 {
     put_words(input, words);
     put_hour(words, out)

@@ -10,131 +10,131 @@ use lib.IntN.{pos}
 use lib.ListN.{get_or}
 use borrow.Author.Tests.{leb-true, eqb-true, eqb-false, le-leb, lt-leb, ne_eqb}
 use Rattle.whole.proofs.Tests.{split, never-some, if_some}
-use Rattle.whole.proofs.Buffers.{getD-replacing}
+use Rattle.whole.proofs.Buffers.{get_or_replacing}
 use Rattle.rules.specs.declared.Line.{Line}
-use Rattle.rules.specs.Record.{Hour, members, zones, areaOf, zoneOf}
+use Rattle.rules.specs.Record.{Hour, members, zones, area_of, zone_of}
 use Rattle.rules.specs.Charge.{amount, charge}
-use Rattle.rules.specs.HourFile.{hourIn}
-use Rattle.rules.specs.Refusals.{row, accepted, refusedAt, verdict, noMember, hourRows, explainRows, Buffers}
-use Rattle.rules.specs.Refusals.{blockRows, wordRows, comparisonRows, sumRows, formRows, fileRows}
-use Rattle.rules.specs.Settling.{isAccepted, settle, filled, line_of, emptyLine}
-use Rattle.rules.specs.Explanation.{heads, noHeads, decided, explain}
+use Rattle.rules.specs.HourFile.{hour_in}
+use Rattle.rules.specs.Refusals.{row, accepted, refused_at, verdict, no_member, hour_rows, explain_rows, Buffers}
+use Rattle.rules.specs.Refusals.{block_rows, word_rows, comparison_rows, sum_rows, form_rows, file_rows}
+use Rattle.rules.specs.Settling.{is_accepted, settle, filled, line_of, empty_line}
+use Rattle.rules.specs.Explanation.{heads, no_heads, decided, explain}
 use Rattle.rules.specs.Promised.Demands.{Accepts, AllWhole, ByTheTable}
 use Rattle.rules.specs.Promised.Deciding.{Explains, Explaining}
-use Rattle.rules.proofs.Rows.{Numbered, numbered-on, accepts-when-whole, zero-accepts, by-the-table, refused-first, passed_on, hour-numbered}
-use Rattle.rules.proofs.Rows.{has_row, only_row, settle-whole, settle-fills}
-use Rattle.rules.proofs.Kept.{passed-kept}
-use Rattle.rules.proofs.Demands.{zone-there}
-use Rattle.rules.proofs.Heads.{heads-add-up, heads-by-tariff}
-use Rattle.rules.proofs.Decided.{named-decides, one-decides, decides, always-one, none-for-zero}
+use Rattle.rules.proofs.Rows.{Numbered, numbered_on, accepts_when_whole, zero_accepts, by_the_table, refused_first, passed_on, hour_numbered}
+use Rattle.rules.proofs.Rows.{has_row, only_row, settle_whole, settle_fills}
+use Rattle.rules.proofs.Kept.{passed_kept}
+use Rattle.rules.proofs.Demands.{zone_there}
+use Rattle.rules.proofs.Heads.{heads_add_up, heads_by_tariff}
+use Rattle.rules.proofs.Decided.{named_decides, one_decides, decides, always_one, none_for_zero}
 
 -- ---- the rows
 
 module _ (s : List ℕ) (m : ℕ) where
   abbrev h : Hour
-  h = hourIn s
+  h = hour_in s
 
   -- what settling refuses, an explanation refuses alike
-  pub rows-refused-alike : (verdict (hourRows s) ≡ accepted → ⊥) → verdict (explainRows s m) ≡ verdict (hourRows s)
-  unfolding explainRows
-  rows-refused-alike = refused-first (hourRows s) (row 13 (noMember h m) ∷ [])
+  pub rows_refused_alike : (verdict (hour_rows s) ≡ accepted → ⊥) → verdict (explain_rows s m) ≡ verdict (hour_rows s)
+  unfolding explain_rows
+  rows_refused_alike = refused_first (hour_rows s) (row 13 (no_member h m) ∷ [])
 
-  pub explain-numbered : Numbered (explainRows s m)
-  unfolding explainRows
-  explain-numbered = numbered-on (hourRows s) (row 13 (noMember h m) ∷ []) (hour-numbered s) (omega arith)
+  pub explain_numbered : Numbered (explain_rows s m)
+  unfolding explain_rows
+  explain_numbered = numbered_on (hour_rows s) (row 13 (no_member h m) ∷ []) (hour_numbered s) (omega arith)
 
   -- what it accepts, 13 decides
-  rows-passed : AllWhole (hourRows s) → verdict (explainRows s m) ≡ verdict (row 13 (noMember h m) ∷ [])
-  unfolding explainRows
-  rows-passed = passed_on (hourRows s) (row 13 (noMember h m) ∷ [])
+  rows_passed : AllWhole (hour_rows s) → verdict (explain_rows s m) ≡ verdict (row 13 (no_member h m) ∷ [])
+  unfolding explain_rows
+  rows_passed = passed_on (hour_rows s) (row 13 (no_member h m) ∷ [])
 
-  pub rows-member : AllWhole (hourRows s) → m < members h → verdict (explainRows s m) ≡ accepted
-  unfolding noMember verdict
-  rows-member w l = rows-passed w ∙ rw (lt-leb (members h) m l) refl
+  pub rows_member : AllWhole (hour_rows s) → m < members h → verdict (explain_rows s m) ≡ accepted
+  unfolding no_member verdict
+  rows_member w l = rows_passed w ∙ rw (lt-leb (members h) m l) refl
 
-  pub rows-no-member : AllWhole (hourRows s) → members h ≤ m → verdict (explainRows s m) ≡ refusedAt 13 0
-  unfolding noMember verdict
-  rows-no-member w l = rows-passed w ∙ rw (le-leb (members h) m l) refl
+  pub rows_no_member : AllWhole (hour_rows s) → members h ≤ m → verdict (explain_rows s m) ≡ refused_at 13 0
+  unfolding no_member verdict
+  rows_no_member w l = rows_passed w ∙ rw (le-leb (members h) m l) refl
 
-  past-count : noMember h m ≡ some 0 → members h ≤ m
-  unfolding noMember
-  past-count e = leb-true (members h) m (if_some (leb (members h) m) (some 0) 0 e).0
+  past_count : no_member h m ≡ some 0 → members h ≤ m
+  unfolding no_member
+  past_count e = leb-true (members h) m (if_some (leb (members h) m) (some 0) 0 e).0
 
   -- ---- what is answered
 
-  pub explain-verdict : (explain s m).verdict ≡ verdict (explainRows s m)
+  pub explain_verdict : (explain s m).verdict ≡ verdict (explain_rows s m)
   unfolding explain
-  explain-verdict = split (isAccepted (verdict (explainRows s m))) (λ t. rw t refl) (λ t. rw t refl)
+  explain_verdict = split (is_accepted (verdict (explain_rows s m))) (λ t. rw t refl) (λ t. rw t refl)
 
-  pub explain-accepted : verdict (explainRows s m) ≡ accepted →
+  pub explain_accepted : verdict (explain_rows s m) ≡ accepted →
       explain s m ≡ record { verdict = accepted; heads = heads h m; decided = decided h m }
   unfolding explain
-  explain-accepted e = rw e refl
+  explain_accepted e = rw e refl
 
-  pub explain-refused : ((verdict (explainRows s m)).number ≡ 0 → ⊥) →
-      explain s m ≡ record { verdict = verdict (explainRows s m); heads = noHeads; decided = none }
+  pub explain_refused : ((verdict (explain_rows s m)).number ≡ 0 → ⊥) →
+      explain s m ≡ record { verdict = verdict (explain_rows s m); heads = no_heads; decided = none }
   unfolding explain
-  explain-refused r = rw (ne_eqb (verdict (explainRows s m)).number 0 r) refl
+  explain_refused r = rw (ne_eqb (verdict (explain_rows s m)).number 0 r) refl
 
-  explain-by-the-table : ByTheTable (explainRows s m) (explain s m).verdict
-  explain-by-the-table = by-the-table explain-numbered explain-verdict
+  explain_by_the_table : ByTheTable (explain_rows s m) (explain s m).verdict
+  explain_by_the_table = by_the_table explain_numbered explain_verdict
 
-  nothing_said : ((explain s m).verdict ≡ accepted → ⊥) → ((explain s m).heads ≡ noHeads) × ((explain s m).decided ≡ none)
-  nothing_said r = let e = explain-refused (λ z. r (explain-verdict ∙ zero-accepts (explainRows s m) explain-numbered z)) in
+  nothing_said : ((explain s m).verdict ≡ accepted → ⊥) → ((explain s m).heads ≡ no_heads) × ((explain s m).decided ≡ none)
+  nothing_said r = let e = explain_refused (λ z. r (explain_verdict ∙ zero_accepts (explain_rows s m) explain_numbered z)) in
       rw e (refl, refl)
 
-  no_member : ((explain s m).verdict ≡ refusedAt 13 0) ↔ ((verdict (hourRows s) ≡ accepted) × (members h ≤ m))
-  unfolding explainRows hourRows fileRows formRows blockRows wordRows comparisonRows sumRows has_row
-  no_member = let answers = only_row 12 0 (noMember h m) [] refl (hourRows s) (hour-numbered s) refl in (
-    λ e. let broken = answers.0 (sym explain-verdict ∙ e) in (broken.0, past-count broken.1),
-    λ l. explain-verdict ∙ rows-no-member ((accepts-when-whole (hourRows s) (hour-numbered s)).0 l.0) l.1,
+  no_member_lem : ((explain s m).verdict ≡ refused_at 13 0) ↔ ((verdict (hour_rows s) ≡ accepted) × (members h ≤ m))
+  unfolding explain_rows hour_rows file_rows form_rows block_rows word_rows comparison_rows sum_rows has_row
+  no_member_lem = let answers = only_row 12 0 (no_member h m) [] refl (hour_rows s) (hour_numbered s) refl in (
+    λ e. let broken = answers.0 (sym explain_verdict ∙ e) in (broken.0, past_count broken.1),
+    λ l. explain_verdict ∙ rows_no_member ((accepts_when_whole (hour_rows s) (hour_numbered s)).0 l.0) l.1,
   )
 
   -- the head that decided is one of the five
-  pub one-of-five : (k : ℕ) → (explain s m).decided ≡ some k → k < 5
+  pub one_of_five : (k : ℕ) → (explain s m).decided ≡ some k → k < 5
   unfolding decided
-  one-of-five k e = split (isAccepted (verdict (explainRows s m)))
-      (λ t. (named-decides _ (heads h m) k
-      (rw (explain-accepted (zero-accepts (explainRows s m) explain-numbered (eqb-true _ _ t))) at e)).one-of-five)
-      (λ t. never-some (sym (rw (explain-refused (eqb-false _ _ t)) at e)))
+  one_of_five k e = split (is_accepted (verdict (explain_rows s m)))
+      (λ t. (named_decides _ (heads h m) k
+      (rw (explain_accepted (zero_accepts (explain_rows s m) explain_numbered (eqb-true _ _ t))) at e)).one_of_five)
+      (λ t. never-some (sym (rw (explain_refused (eqb-false _ _ t)) at e)))
 
 -- ---- what is said of a member
 
-explains : (h : Hour) (m : ℕ) → ((i : ℕ) → i < h.count → zoneOf h (areaOf h i) < zones h) →
+explains : (h : Hour) (m : ℕ) → ((i : ℕ) → i < h.count → zone_of h (area_of h i) < zones h) →
     Explains h m (amount h m) (charge h m) (heads h m) (decided h m)
 unfolding decided charge
 explains h m there = record {
-  by-formula = heads-by-tariff h m there;
-  add-up = heads-add-up h m;
+  by_formula = heads_by_tariff h m there;
+  add_up = heads_add_up h m;
   decides = decides (charge h m) (heads h m);
-  always-one = always-one (heads h m) (amount h m) (heads-add-up h m);
-  none-for-zero = none-for-zero (heads h m) (amount h m) (heads-add-up h m);
+  always_one = always_one (heads h m) (amount h m) (heads_add_up h m);
+  none_for_zero = none_for_zero (heads h m) (amount h m) (heads_add_up h m);
 }
 
 module _ (s : List ℕ) (b : Buffers) (m : ℕ) (a : Accepts s b) where
   abbrev g : Hour
-  g = hourIn s
+  g = hour_in s
 
-  line-amount : m < members g → (get_or (settle s b).buffers.lines m emptyLine).amount ≡ amount g m
+  line_amount : m < members g → (get_or (settle s b).buffers.lines m empty_line).amount ≡ amount g m
   unfolding filled line_of
-  line-amount l = rw (settle-fills s b a).0 (ap (λ (x : Line). x.amount) (getD-replacing (line_of g) (members g) b.lines m emptyLine l))
+  line_amount l = rw (settle_fills s b a).0 (ap (λ (x : Line). x.amount) (get_or_replacing (line_of g) (members g) b.lines m empty_line l))
 
-  charge-there : m < members g → get_or (settle s b).buffers.charges m (pos 0) ≡ charge g m
+  charge_there : m < members g → get_or (settle s b).buffers.charges m (pos 0) ≡ charge g m
   unfolding filled
-  charge-there l = rw (settle-fills s b a).0 (getD-replacing (charge g) (members g) b.charges m (pos 0) l)
+  charge_there l = rw (settle_fills s b a).0 (get_or_replacing (charge g) (members g) b.charges m (pos 0) l)
 
   explained : m < members g → ((explain s m).verdict ≡ accepted) × Explains g m
-      (get_or (settle s b).buffers.lines m emptyLine).amount (get_or (settle s b).buffers.charges m (pos 0))
+      (get_or (settle s b).buffers.lines m empty_line).amount (get_or (settle s b).buffers.charges m (pos 0))
       (explain s m).heads (explain s m).decided
-  explained l = let v = rows-member s m (settle-whole s b a).0 l in
-      (explain-verdict s m ∙ v, rw (explain-accepted s m v, line-amount l, charge-there l) (explains g m (zone-there g (passed-kept s (settle-whole s b a).0).hour-kept)))
+  explained l = let v = rows_member s m (settle_whole s b a).0 l in
+      (explain_verdict s m ∙ v, rw (explain_accepted s m v, line_amount l, charge_there l) (explains g m (zone_there g (passed_kept s (settle_whole s b a).0).hour_kept)))
 
 pub explaining : Explaining
 explaining = record {
-  by-the-table = explain-by-the-table;
+  by_the_table = explain_by_the_table;
   nothing_said = nothing_said;
   explained = explained;
-  one-decides = one-decides;
-  no_member = no_member;
-  refused-alike = λ s m r. explain-verdict s m ∙ rows-refused-alike s m r;
+  one_decides = one_decides;
+  no_member = no_member_lem;
+  refused_alike = λ s m r. explain_verdict s m ∙ rows_refused_alike s m r;
 }

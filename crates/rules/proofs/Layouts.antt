@@ -6,18 +6,18 @@ use Rattle.rules.specs.declared.Layout.{Layout}
 use Rattle.rules.specs.declared.Mode.{Mode}
 use Rattle.rules.specs.declared.Mode.TheVariants.{Hourly, TenMinutes}
 use Rattle.rules.specs.Ranges.{form_of}
-use Rattle.rules.specs.HourFile.{hourly, tenMinutes}
+use Rattle.rules.specs.HourFile.{hourly, ten_minutes}
 use Rattle.rules.specs.Inner.Layouts.{FitsBody}
 
-pub hourly-fits : FitsBody hourly
-hourly-fits = record { some-records = omega arith; some_words = omega arith; no_longer = omega arith }
+pub hourly_fits : FitsBody hourly
+hourly_fits = record { some_records = omega arith; some_words = omega arith; no_longer = omega arith }
 
-pub ten-minutes-fits : FitsBody tenMinutes
-ten-minutes-fits = record { some-records = omega arith; some_words = omega arith; no_longer = omega arith }
+pub ten_minutes_fits : FitsBody ten_minutes
+ten_minutes_fits = record { some_records = omega arith; some_words = omega arith; no_longer = omega arith }
 
-pub mode-fits : (m : Mode) → FitsBody (form_of m).layout
-mode-fits Hourly = hourly-fits
-mode-fits TenMinutes = ten-minutes-fits
+pub mode_fits : (m : Mode) → FitsBody (form_of m).layout
+mode_fits Hourly = hourly_fits
+mode_fits TenMinutes = ten_minutes_fits
 
 module _ {l : Layout} (fit : FitsBody l) where
   abbrev records : ℕ
@@ -26,12 +26,12 @@ module _ {l : Layout} (fit : FitsBody l) where
   abbrev words : ℕ
   words = l.words
 
-  pub few-to-a-block : records ≤ 120
-  few-to-a-block = omega (arith, fit.no_longer, mul-le-mul_right records fit.some_words)
+  pub few_to_a_block : records ≤ 120
+  few_to_a_block = omega (arith, fit.no_longer, mul-le-mul_right records fit.some_words)
 
-  pub few-to-a-record : words ≤ 120
-  few-to-a-record = omega (arith, fit.no_longer, mul-le-mul_left words fit.some-records)
+  pub few_to_a_record : words ≤ 120
+  few_to_a_record = omega (arith, fit.no_longer, mul-le-mul_left words fit.some_records)
 
   -- record i ends in its body
-  pub ends-inside : (i : ℕ) → words * (i % records) + words ≤ 120
-  ends-inside i = omega (arith, fit.no_longer, mul-le-mul_left words (mod-lt i fit.some-records))
+  pub ends_inside : (i : ℕ) → words * (i % records) + words ≤ 120
+  ends_inside i = omega (arith, fit.no_longer, mul-le-mul_left words (mod-lt i fit.some_records))

@@ -6,10 +6,10 @@ use Rattle.whole.specs.Below
 use Rattle.rules.specs.HourFile
 use Rattle.rules.specs.Ranges
 use Rattle.rules.specs.Refusals
-use Rattle.rules.specs.Figures.Files.{word_bytes, sealed, first, plainHead}
+use Rattle.rules.specs.Figures.Files.{word_bytes, sealed, first, plain_head}
 
-pub missing-block : Refusals.verdict (Refusals.fileRows (first 1 (plainHead 2))) ≡ Refusals.refusedAt 3 0
-unfolding Below.sumBelow Below.firstBelow or_else HourFile.word HourFile.blocks HourFile.blockWord HourFile.blockSum HourFile.lengthBad
-    HourFile.recordCount Ranges.keeps Ranges.firstBroken Ranges.countRule Ranges.pastRule Ranges.blockRule Refusals.verdict
-    Refusals.badLength Refusals.badSum Refusals.badBlock Refusals.blockRows Refusals.formRows Refusals.fileRows word_bytes sealed
-missing-block = refl
+pub missing_block : Refusals.verdict (Refusals.file_rows (first 1 (plain_head 2))) ≡ Refusals.refused_at 3 0
+unfolding Below.sum_below Below.first_below or_else HourFile.word HourFile.blocks HourFile.block_word HourFile.block_sum HourFile.length_bad
+    HourFile.record_count Ranges.keeps Ranges.first_broken Ranges.count_rule Ranges.past_rule Ranges.block_rule Refusals.verdict
+    Refusals.bad_length Refusals.bad_sum Refusals.bad_block Refusals.block_rows Refusals.form_rows Refusals.file_rows word_bytes sealed
+missing_block = refl

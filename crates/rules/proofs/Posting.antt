@@ -10,128 +10,128 @@ use lib.Dec.{eqb}
 use lib.IntN.{ℤ, pos, +ℤ_idr, ◌+ℤ◌, ◌-ℤ◌, ◌*ℤ◌}
 use lib.ListN.{length, get_or, length-set, get_or-replicate}
 use lib.Seq.{get_or-set_other}
-use Rattle.whole.specs.Below.{oneIf, countBelow, sumBelow, totalBelow, replacingFirst}
+use Rattle.whole.specs.Below.{one_if, count_below, sum_below, total_below, replacingFirst}
 use Rattle.whole.proofs.Tests.{never, cond_both}
-use Rattle.whole.proofs.Sums.{grown-if}
-use Rattle.whole.proofs.Totals.{added-if}
-use Rattle.whole.proofs.Buffers.{getD-changed, replacing-changed, replacing-ext}
+use Rattle.whole.proofs.Sums.{grown_if}
+use Rattle.whole.proofs.Totals.{added_if}
+use Rattle.whole.proofs.Buffers.{get_or_changed, replacing_changed, replacing_ext}
 use Rattle.rules.specs.declared.Kind.{Kind}
 use Rattle.rules.specs.declared.Kind.TheVariants.{Generator, RealTimeLoad, ProfileLoad, Import, Export, Unknown}
 use Rattle.rules.specs.declared.Line.{Line}
-use Rattle.rules.specs.Record.{Hour, members, tieIn, tieOut, memberOf, areaOf, actual, entry, entry_of, kind_of, isLoad, isImport}
-use Rattle.rules.specs.Deviation.{unitsPerKWh}
-use Rattle.rules.specs.Ufe.{D, in_area, ufe, demand, areaDemand}
-use Rattle.rules.specs.Share.{allDemand}
-use Rattle.rules.specs.Charge.{grains, amount, recordsOf}
-use Rattle.rules.specs.Settling.{line_of, emptyLine}
-use Rattle.rules.specs.Inner.Posting.{accounted, emptyTally, tallied, demandBy, demandOf, tallyAfter, lineWith, linesWith, linesAfter}
-use Rattle.rules.proofs.Tariff.{ufe-by-record}
+use Rattle.rules.specs.Record.{Hour, members, tie_in, tie_out, member_of, area_of, actual, entry, entry_of, kind_of, is_load, is_import}
+use Rattle.rules.specs.Deviation.{units_per_kwh}
+use Rattle.rules.specs.Ufe.{D, in_area, ufe, demand, area_demand}
+use Rattle.rules.specs.Share.{all_demand}
+use Rattle.rules.specs.Charge.{grains, amount, records_of}
+use Rattle.rules.specs.Settling.{line_of, empty_line}
+use Rattle.rules.specs.Inner.Posting.{accounted, empty_tally, tallied, demand_by, demand_of, tally_after, line_with, lines_with, lines_after}
+use Rattle.rules.proofs.Tariff.{ufe_by_record}
 
 -- ---- D
 
 -- a load is no import
-load-no-import : (k : Kind) → isLoad k ≡ true → isImport k ≡ false
-load-no-import Generator e = refl
-load-no-import RealTimeLoad e = refl
-load-no-import ProfileLoad e = refl
-load-no-import Import e = never e refl
-load-no-import Export e = refl
-load-no-import Unknown e = refl
+load_no_import : (k : Kind) → is_load k ≡ true → is_import k ≡ false
+load_no_import Generator e = refl
+load_no_import RealTimeLoad e = refl
+load_no_import ProfileLoad e = refl
+load_no_import Import e = never e refl
+load_no_import Export e = refl
+load_no_import Unknown e = refl
 
 -- What a record demands is its A, which is never below 0.
-pub demand-is-actual : (h : Hour) (i : ℕ) → pos (demand h i) ≡ (entry_of h i).A
+pub demand_is_actual : (h : Hour) (i : ℕ) → pos (demand h i) ≡ (entry_of h i).A
 unfolding entry_of entry
-demand-is-actual h i = refl
+demand_is_actual h i = refl
 
 -- A load's is word 4 of its record.
-pub load_word : (w : ℕ → ℕ) → isLoad (kind_of (w 0)) ≡ true → D (entry w) ≡ w 4
+pub load_word : (w : ℕ → ℕ) → is_load (kind_of (w 0)) ≡ true → D (entry w) ≡ w 4
 unfolding actual entry
-load_word w is-load = rw (load-no-import (kind_of (w 0)) is-load)
+load_word w is-load = rw (load_no_import (kind_of (w 0)) is-load)
 
 -- ---- the tally
 
 module _ (h : Hour) where
   -- The tally counts the records posted.
-  pub tally-records : (n : ℕ) → (tallyAfter h n).records ≡ n
-  unfolding tallyAfter emptyTally tallied
-  tally-records zero = refl
-  tally-records (suc n) = let e = tally-records n in omega arith
+  pub tally_records : (n : ℕ) → (tally_after h n).records ≡ n
+  unfolding tally_after empty_tally tallied
+  tally_records zero = refl
+  tally_records (suc n) = let e = tally_records n in omega arith
 
   -- It has eight places for demands and eight for energies.
-  pub tally-demand-length : (n : ℕ) → length (tallyAfter h n).demand ≡ 8
-  unfolding tallyAfter emptyTally tallied
-  tally-demand-length zero = refl
-  tally-demand-length (suc n) = length-set (tallyAfter h n).demand (areaOf h n) _ ∙ tally-demand-length n
+  pub tally_demand_length : (n : ℕ) → length (tally_after h n).demand ≡ 8
+  unfolding tally_after empty_tally tallied
+  tally_demand_length zero = refl
+  tally_demand_length (suc n) = length-set (tally_after h n).demand (area_of h n) _ ∙ tally_demand_length n
 
-  pub tally-energy-length : (n : ℕ) → length (tallyAfter h n).energy ≡ 8
-  unfolding tallyAfter emptyTally tallied
-  tally-energy-length zero = refl
-  tally-energy-length (suc n) = length-set (tallyAfter h n).energy (areaOf h n) _ ∙ tally-energy-length n
+  pub tally_energy_length : (n : ℕ) → length (tally_after h n).energy ≡ 8
+  unfolding tally_after empty_tally tallied
+  tally_energy_length zero = refl
+  tally_energy_length (suc n) = length-set (tally_after h n).energy (area_of h n) _ ∙ tally_energy_length n
 
   module _ (a : ℕ) (area : a < 8) where
     -- After n records an area's demand is that of its loads among them.
-    pub tally-demand : (n : ℕ) → get_or (tallyAfter h n).demand a 0 ≡ sumBelow (λ i. cond (in_area h a isLoad i) (demand h i) 0) n
-    unfolding tallyAfter emptyTally tallied demandBy in_area sumBelow
-    tally-demand zero = get_or-replicate 8 a 0 0 area
-    tally-demand (suc n) =
-        getD-changed (λ x. x + demandOf h n) (tallyAfter h n).demand (areaOf h n) a 0 (let e = tally-demand-length n in omega arith)
-        ∙ grown-if (eqb (areaOf h n) a) (get_or (tallyAfter h n).demand a 0) (demandOf h n)
-        ∙ ap₂ (λ (x y : ℕ). x + y) (tally-demand n) (sym (cond_both (eqb (areaOf h n) a) (isLoad (entry_of h n).kind) (demand h n)))
+    pub tally_demand : (n : ℕ) → get_or (tally_after h n).demand a 0 ≡ sum_below (λ i. cond (in_area h a is_load i) (demand h i) 0) n
+    unfolding tally_after empty_tally tallied demand_by in_area sum_below
+    tally_demand zero = get_or-replicate 8 a 0 0 area
+    tally_demand (suc n) =
+        get_or_changed (λ x. x + demand_of h n) (tally_after h n).demand (area_of h n) a 0 (let e = tally_demand_length n in omega arith)
+        ∙ grown_if (eqb (area_of h n) a) (get_or (tally_after h n).demand a 0) (demand_of h n)
+        ∙ ap₂ (λ (x y : ℕ). x + y) (tally_demand n) (sym (cond_both (eqb (area_of h n) a) (is_load (entry_of h n).kind) (demand h n)))
 
     -- After n records an area's energy is what its records among them are accounted for.
-    pub tally-energy : (n : ℕ) →
-        get_or (tallyAfter h n).energy a (pos 0) ≡ totalBelow (λ i. cond (eqb (areaOf h i) a) (accounted (entry_of h i)) (pos 0)) n
-    unfolding tallyAfter emptyTally tallied totalBelow
-    tally-energy zero = get_or-replicate 8 a (pos 0) (pos 0) area
-    tally-energy (suc n) =
-        getD-changed (λ x. x +ℤ accounted (entry_of h n)) (tallyAfter h n).energy (areaOf h n) a (pos 0)
-        (let e = tally-energy-length n in omega arith)
-        ∙ added-if (eqb (areaOf h n) a) (get_or (tallyAfter h n).energy a (pos 0)) (accounted (entry_of h n))
-        ∙ ap (λ (x : ℤ). x +ℤ cond (eqb (areaOf h n) a) (accounted (entry_of h n)) (pos 0)) (tally-energy n)
+    pub tally_energy : (n : ℕ) →
+        get_or (tally_after h n).energy a (pos 0) ≡ total_below (λ i. cond (eqb (area_of h i) a) (accounted (entry_of h i)) (pos 0)) n
+    unfolding tally_after empty_tally tallied total_below
+    tally_energy zero = get_or-replicate 8 a (pos 0) (pos 0) area
+    tally_energy (suc n) =
+        get_or_changed (λ x. x +ℤ accounted (entry_of h n)) (tally_after h n).energy (area_of h n) a (pos 0)
+        (let e = tally_energy_length n in omega arith)
+        ∙ added_if (eqb (area_of h n) a) (get_or (tally_after h n).energy a (pos 0)) (accounted (entry_of h n))
+        ∙ ap (λ (x : ℤ). x +ℤ cond (eqb (area_of h n) a) (accounted (entry_of h n)) (pos 0)) (tally_energy n)
 
     -- Once all records are posted, the tally has each area's demand, T, and all of its UFE that its ties do not bring.
-    pub tally-gives-demands : get_or (tallyAfter h h.count).demand a 0 ≡ areaDemand h a
-    unfolding areaDemand allDemand
-    tally-gives-demands = tally-demand h.count
+    pub tally_gives_demands : get_or (tally_after h h.count).demand a 0 ≡ area_demand h a
+    unfolding area_demand all_demand
+    tally_gives_demands = tally_demand h.count
 
-    pub tally-gives-ufe : ufe h a ≡ unitsPerKWh *ℤ (tieIn h a -ℤ tieOut h a) +ℤ get_or (tallyAfter h h.count).energy a (pos 0)
-    tally-gives-ufe = ufe-by-record h a ∙ ap (λ (x : ℤ). unitsPerKWh *ℤ (tieIn h a -ℤ tieOut h a) +ℤ x) (sym (tally-energy h.count))
+    pub tally_gives_ufe : ufe h a ≡ units_per_kwh *ℤ (tie_in h a -ℤ tie_out h a) +ℤ get_or (tally_after h h.count).energy a (pos 0)
+    tally_gives_ufe = ufe_by_record h a ∙ ap (λ (x : ℤ). units_per_kwh *ℤ (tie_in h a -ℤ tie_out h a) +ℤ x) (sym (tally_energy h.count))
 
 -- ---- the members' lines
 
 -- A posting touches one line and no other.
-pub one-line-touched : (ls : List Line) (m k : ℕ) (g : ℤ) → m ≢ k → get_or (linesWith ls m g) k emptyLine ≡ get_or ls k emptyLine
-unfolding linesWith
-one-line-touched ls m k g other = get_or-set_other ls m k (lineWith (get_or ls m emptyLine) g) emptyLine (λ e. other (sym e))
+pub one_line_touched : (ls : List Line) (m k : ℕ) (g : ℤ) → m ≢ k → get_or (lines_with ls m g) k empty_line ≡ get_or ls k empty_line
+unfolding lines_with
+one_line_touched ls m k g other = get_or-set_other ls m k (line_with (get_or ls m empty_line) g) empty_line (λ e. other (sym e))
 
 -- a posting adds to its own member's line, and nothing to another's
-line-grows : (own : Bool) (l : Line) (g : ℤ) →
-    cond own (lineWith l g) l ≡ record { amount = l.amount +ℤ cond own g (pos 0); records = l.records + oneIf own }
-unfolding lineWith
-line-grows true l g = refl
-line-grows false l g = λ i. record { amount = sym (+ℤ_idr l.amount) i; records = sym (add-zero l.records) i }
+line_grows : (own : Bool) (l : Line) (g : ℤ) →
+    cond own (line_with l g) l ≡ record { amount = l.amount +ℤ cond own g (pos 0); records = l.records + one_if own }
+unfolding line_with
+line_grows true l g = refl
+line_grows false l g = λ i. record { amount = sym (+ℤ_idr l.amount) i; records = sym (add-zero l.records) i }
 
 module _ (h : Hour) where
   -- a member's line of the first n records
-  abbrev pub lineAfter : (n m : ℕ) → Line
-  lineAfter n m = record {
-    amount = totalBelow (λ i. cond (eqb (memberOf h i) m) (grains h i) (pos 0)) n;
-    records = countBelow (λ i. eqb (memberOf h i) m) n;
+  abbrev pub line_after : (n m : ℕ) → Line
+  line_after n m = record {
+    amount = total_below (λ i. cond (eqb (member_of h i) m) (grains h i) (pos 0)) n;
+    records = count_below (λ i. eqb (member_of h i) m) n;
   }
 
   module _ (old : List Line) where
     -- After n records each member's line is that of these records, and the lines past the members' hold what they held.
-    pub lines_after : (n : ℕ) → ((i : ℕ) → i < n → memberOf h i < members h) →
-        linesAfter h old n ≡ replacingFirst (lineAfter n) (members h) old
-    unfolding linesAfter linesWith emptyLine totalBelow countBelow
-    lines_after zero there = refl
-    lines_after (suc n) there =
-        rw (lines_after n (λ i l. there i (omega arith))) (
-        replacing-changed (λ l. lineWith l (grains h n)) (lineAfter n) (members h) old (memberOf h n) emptyLine (there n (omega arith))
-        ∙ replacing-ext _ _ (members h) old (λ m l. line-grows (eqb (memberOf h n) m) (lineAfter n m) (grains h n)))
+    pub lines_after_lem : (n : ℕ) → ((i : ℕ) → i < n → member_of h i < members h) →
+        lines_after h old n ≡ replacingFirst (line_after n) (members h) old
+    unfolding lines_after lines_with empty_line total_below count_below
+    lines_after_lem zero there = refl
+    lines_after_lem (suc n) there =
+        rw (lines_after_lem n (λ i l. there i (omega arith))) (
+        replacing_changed (λ l. line_with l (grains h n)) (line_after n) (members h) old (member_of h n) empty_line (there n (omega arith))
+        ∙ replacing_ext _ _ (members h) old (λ m l. line_grows (eqb (member_of h n) m) (line_after n m) (grains h n)))
 
     -- Once all records are posted, each member's line holds its exact amount and its record count.
-    pub lines_are : ((i : ℕ) → i < h.count → memberOf h i < members h) →
-        linesAfter h old h.count ≡ replacingFirst (line_of h) (members h) old
-    unfolding line_of amount recordsOf
-    lines_are there = lines_after h.count there
+    pub lines_are : ((i : ℕ) → i < h.count → member_of h i < members h) →
+        lines_after h old h.count ≡ replacingFirst (line_of h) (members h) old
+    unfolding line_of amount records_of
+    lines_are there = lines_after_lem h.count there

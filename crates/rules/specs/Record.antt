@@ -17,8 +17,8 @@ signed w = cond (ltb w 0x8000_0000) (pos w) (pos w -ℤ pos 0x1_0000_0000)
 -- ---- the first body: "First body" of "The hour file"
 
 module _ (h : Hour) where
-  abbrev pub hourNumber : ℕ
-  hourNumber = h.head 8
+  abbrev pub hour_number : ℕ
+  hour_number = h.head 8
 
   abbrev pub members : ℕ
   members = h.head 9
@@ -30,56 +30,56 @@ module _ (h : Hour) where
   areas = h.head 11
 
   -- words 12 to 15, in cents per MWh ("Units and ranges")
-  unfoldable pub zonePrice : ℕ → ℤ
-  zonePrice z = signed (h.head (12 + z))
+  unfoldable pub zone_price : ℕ → ℤ
+  zone_price z = signed (h.head (12 + z))
 
   -- words 16 to 47, four an area: zone, tie in, tie out, zero
-  unfoldable pub zoneOf : ℕ → ℕ
-  zoneOf a = h.head (16 + 4 * a)
+  unfoldable pub zone_of : ℕ → ℕ
+  zone_of a = h.head (16 + 4 * a)
 
-  unfoldable pub tieIn : ℕ → ℤ
-  tieIn a = pos (h.head (17 + 4 * a))
+  unfoldable pub tie_in : ℕ → ℤ
+  tie_in a = pos (h.head (17 + 4 * a))
 
-  unfoldable pub tieOut : ℕ → ℤ
-  tieOut a = pos (h.head (18 + 4 * a))
+  unfoldable pub tie_out : ℕ → ℤ
+  tie_out a = pos (h.head (18 + 4 * a))
 
   -- the zone price of an area
   unfoldable pub price : ℕ → ℤ
-  price a = zonePrice (zoneOf a)
+  price a = zone_price (zone_of a)
 
 -- ---- records: "Record words" and "Kinds" of "The hour file"
 
 -- word 0: the five kinds, by their numbers
-abbrev pub kindNumber : Kind → ℕ
-kindNumber Generator = 1
-kindNumber RealTimeLoad = 2
-kindNumber ProfileLoad = 3
-kindNumber Import = 4
-kindNumber Export = 5
-kindNumber Unknown = 0
+abbrev pub kind_number : Kind → ℕ
+kind_number Generator = 1
+kind_number RealTimeLoad = 2
+kind_number ProfileLoad = 3
+kind_number Import = 4
+kind_number Export = 5
+kind_number Unknown = 0
 
 unfoldable pub kind_of : ℕ → Kind
 kind_of k = get_or (Unknown ∷ Generator ∷ RealTimeLoad ∷ ProfileLoad ∷ Import ∷ Export ∷ []) k Unknown
 
-abbrev pub isGenerator : Kind → Bool
-isGenerator k = eqb (kindNumber k) 1
+abbrev pub is_generator : Kind → Bool
+is_generator k = eqb (kind_number k) 1
 
 -- metered in real time
-abbrev pub isRealTime : Kind → Bool
-isRealTime k = eqb (kindNumber k) 2
+abbrev pub is_real_time : Kind → Bool
+is_real_time k = eqb (kind_number k) 2
 
-abbrev pub isProfile : Kind → Bool
-isProfile k = eqb (kindNumber k) 3
+abbrev pub is_profile : Kind → Bool
+is_profile k = eqb (kind_number k) 3
 
-abbrev pub isImport : Kind → Bool
-isImport k = eqb (kindNumber k) 4
+abbrev pub is_import : Kind → Bool
+is_import k = eqb (kind_number k) 4
 
-abbrev pub isExport : Kind → Bool
-isExport k = eqb (kindNumber k) 5
+abbrev pub is_export : Kind → Bool
+is_export k = eqb (kind_number k) 5
 
 -- both kinds of load
-abbrev pub isLoad : Kind → Bool
-isLoad k = isRealTime k || isProfile k
+abbrev pub is_load : Kind → Bool
+is_load k = is_real_time k || is_profile k
 
 -- "The sums": S scheduled, A actual, J adjustment, N ancillary, O obligation, M maximum, F and H the scheduled and the hour-ahead
 -- multiplier
@@ -96,7 +96,7 @@ pub record Entry : Type 0 where
 
 -- A: what was metered; document 02, A3: an import's is S, to which 000, D 3.19, deems it equal
 unfoldable pub actual : Kind → (scheduled metered : ℕ) → ℕ
-actual kind scheduled metered = cond (isImport kind) scheduled metered
+actual kind scheduled metered = cond (is_import kind) scheduled metered
 
 -- twelve words as an entry: words 3 to 10 under their letters
 unfoldable pub entry : (ℕ → ℕ) → Entry
@@ -113,11 +113,11 @@ entry w = record {
 }
 
 module _ (h : Hour) (i : ℕ) where
-  unfoldable pub memberOf : ℕ
-  memberOf = h.rec i 1
+  unfoldable pub member_of : ℕ
+  member_of = h.rec i 1
 
-  unfoldable pub areaOf : ℕ
-  areaOf = h.rec i 2
+  unfoldable pub area_of : ℕ
+  area_of = h.rec i 2
 
   unfoldable pub entry_of : Entry
   entry_of = entry (h.rec i)

@@ -7,25 +7,25 @@ use Rattle.rules.specs.declared.Line.{Line}
 use Rattle.rules.specs.Record.{Hour, members, areas, entry_of}
 use Rattle.rules.specs.Deviation.{deviation}
 use Rattle.rules.specs.Ufe.{ufe}
-use Rattle.rules.specs.Charge.{share_of, amount, recordsOf, charge}
+use Rattle.rules.specs.Charge.{share_of, amount, records_of, charge}
 use Rattle.rules.specs.Neutrality.{final}
-use Rattle.rules.specs.Text.{amountField, amountIn}
-use Rattle.rules.specs.HourFile.{hourly, hourIn}
-use Rattle.rules.specs.HourWords.{hourFrom, fileByte, fileLength}
-use Rattle.rules.specs.Refusals.{Verdict, accepted, refusedAt, verdict, Buffers, settleRows, writeHourRows, writeAmountRows}
+use Rattle.rules.specs.Text.{amount_field, amount_in}
+use Rattle.rules.specs.HourFile.{hourly, hour_in}
+use Rattle.rules.specs.HourWords.{hour_from, file_byte, file_length}
+use Rattle.rules.specs.Refusals.{Verdict, accepted, refused_at, verdict, Buffers, settle_rows, write_hour_rows, write_amount_rows}
 
-abbrev pub isAccepted : Verdict → Bool
-isAccepted v = eqb v.number 0
+abbrev pub is_accepted : Verdict → Bool
+is_accepted v = eqb v.number 0
 
 -- ---- settling
 
 -- nothing posted yet, as of a member without records
-unfoldable pub emptyLine : Line
-emptyLine = record { amount = pos 0; records = 0 }
+unfoldable pub empty_line : Line
+empty_line = record { amount = pos 0; records = 0 }
 
 -- a member's exact amount and its record count
 unfoldable pub line_of : Hour → ℕ → Line
-line_of h m = record { amount = amount h m; records = recordsOf h m }
+line_of h m = record { amount = amount h m; records = records_of h m }
 
 -- one charge, one final and one line a member, one share and one deviation a record; places past those are unchanged
 unfoldable pub filled : Hour → Buffers → Buffers
@@ -38,11 +38,11 @@ filled h b = record {
 }
 
 -- eight UFE figures, 0 for areas past the count
-unfoldable pub ufeFigures : Hour → List ℤ
-ufeFigures h = valuesBelow (λ a. cond (ltb a (areas h)) (ufe h a) (pos 0)) 8
+unfoldable pub ufe_figures : Hour → List ℤ
+ufe_figures h = valuesBelow (λ a. cond (ltb a (areas h)) (ufe h a) (pos 0)) 8
 
-abbrev pub noFigures : List ℤ
-noFigures = replicate 8 (pos 0)
+abbrev pub no_figures : List ℤ
+no_figures = replicate 8 (pos 0)
 
 pub record Settlement : Type 0 where
   pub verdict : Verdict
@@ -51,10 +51,10 @@ pub record Settlement : Type 0 where
 
 -- a refusal changes no buffer, and all its UFE figures are 0
 unfoldable pub settle : List ℕ → Buffers → Settlement
-settle s b = let v = verdict (settleRows s b) in let h = hourIn s in
-    cond (isAccepted v)
-    (record { verdict = v; ufe = ufeFigures h; buffers = filled h b })
-    (record { verdict = v; ufe = noFigures; buffers = b })
+settle s b = let v = verdict (settle_rows s b) in let h = hour_in s in
+    cond (is_accepted v)
+    (record { verdict = v; ufe = ufe_figures h; buffers = filled h b })
+    (record { verdict = v; ufe = no_figures; buffers = b })
 
 -- ---- writing an hour file from a head and records
 
@@ -65,10 +65,10 @@ pub record HourWritten : Type 0 where
   pub file : List ℕ
 
 -- the buffer's first bytes are the file, and those past its last block are unchanged; a refusal changes none, and its length is 0
-unfoldable pub writeHour : (head records file : List ℕ) → HourWritten
-writeHour head records file = let v = verdict (writeHourRows head records (length file)) in let h = hourFrom hourly head records in
-    cond (isAccepted v)
-    (record { verdict = v; length = fileLength hourly h; file = replacingFirst (fileByte hourly h) (fileLength hourly h) file })
+unfoldable pub write_hour : (head records file : List ℕ) → HourWritten
+write_hour head records file = let v = verdict (write_hour_rows head records (length file)) in let h = hour_from hourly head records in
+    cond (is_accepted v)
+    (record { verdict = v; length = file_length hourly h; file = replacingFirst (file_byte hourly h) (file_length hourly h) file })
     (record { verdict = v; length = 0; file = file })
 
 -- ---- writing an amount into a field, whose length is the width
@@ -78,8 +78,8 @@ pub record Written : Type 0 where
   pub field : List ℕ
 
 unfoldable pub write : List ℕ → ℤ → Written
-write field z = let v = verdict (writeAmountRows (length field) z) in
-    record { verdict = v; field = cond (isAccepted v) (amountField (length field) z) field }
+write field z = let v = verdict (write_amount_rows (length field) z) in
+    record { verdict = v; field = cond (is_accepted v) (amount_field (length field) z) field }
 
 -- ---- reading an amount; a refused reading gives amount 0
 
@@ -87,9 +87,9 @@ pub record ReadAmount : Type 0 where
   pub verdict : Verdict
   pub amount : ℤ
 
-abbrev pub orRefused : Option ℤ → ReadAmount
-orRefused none = record { verdict = refusedAt 10 0; amount = pos 0 }
-orRefused (some z) = record { verdict = accepted; amount = z }
+abbrev pub or_refused : Option ℤ → ReadAmount
+or_refused none = record { verdict = refused_at 10 0; amount = pos 0 }
+or_refused (some z) = record { verdict = accepted; amount = z }
 
 unfoldable pub read : List ℕ → ReadAmount
-read field = orRefused (amountIn field)
+read field = or_refused (amount_in field)

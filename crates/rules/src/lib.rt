@@ -131,7 +131,7 @@ pub fn hourly() -> Layout
 
 // The file of ten-minute settlement.
 pub fn ten_minutes() -> Layout
-    ensures { result ≡ HourFile.tenMinutes }
+    ensures { result ≡ HourFile.ten_minutes }
 {
     Layout {
         first: 3,

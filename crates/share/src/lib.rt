@@ -1,11 +1,11 @@
-// A size shared over demands in whole units, by largest remainders: `rules`' definition `shareSize`, with everybody taking part.
+// A size shared over demands in whole units, by largest remainders: `rules`' definition `share_size`, with everybody taking part.
 // Who takes no part is not passed. Sizes only: the sign is put on by the caller.
 // Nothing is held for a demand, neither whole part nor remainder: each is worked out again where it is needed, and the sizes come to stand
 // where the demands stood. The units left over go to the largest remainders down to some bound, which is found by bisection.
 ghost use Rattle.std.specs.Prelude.{◌≡◌, ◌/◌, ◌≤◌, ◌<◌, ltb, eqb, length};
-ghost use Rattle.whole.specs.Below.{oneIf, replacingFirst};
-ghost use Rattle.share.specs.Shareable.{demanded, Shareable, sharesIn};
-ghost use Rattle.share.specs.Steps.{Dividing, left_of, countAbove, Between, Suffices, size_of};
+ghost use Rattle.whole.specs.Below.{one_if, replacingFirst};
+ghost use Rattle.share.specs.Shareable.{demanded, Shareable, shares_in};
+ghost use Rattle.share.specs.Steps.{Dividing, left_of, count_above, Between, Suffices, size_of};
 
 // ---- the steps
 
@@ -24,7 +24,7 @@ fn total(demands: &[u64]) -> u64
 }
 
 fn one_if_above(bound: u64, x: u64) -> u64
-    ensures { (result ≡ oneIf (ltb bound x)) × (result ≤ 1) }
+    ensures { (result ≡ one_if (ltb bound x)) × (result ≤ 1) }
 {
     if bound < x {
         return 1;
@@ -33,7 +33,7 @@ fn one_if_above(bound: u64, x: u64) -> u64
 }
 
 fn one_if_equal(x: u64, bound: u64) -> u64
-    ensures { result ≡ oneIf (eqb x bound) }
+    ensures { result ≡ one_if (eqb x bound) }
 {
     if x == bound {
         return 1;
@@ -51,7 +51,7 @@ struct Over {
 // A division gives both, so that the search below has its first count without a pass of its own.
 fn left_over(demands: &[u64], size: u64, t: u64) -> Over
     requires { Dividing demands.now size t }
-    ensures { (result.units ≡ left_of demands.now size) × (result.above ≡ countAbove demands.now size (t / 2)) }
+    ensures { (result.units ≡ left_of demands.now size) × (result.above ≡ count_above demands.now size (t / 2)) }
 {
     let half = t / 2;
     let mut handed: u64 = 0;
@@ -73,7 +73,7 @@ fn left_over(demands: &[u64], size: u64, t: u64) -> Over
 // How many remainders are above `bound`.
 fn count_above(demands: &[u64], size: u64, t: u64, bound: u64) -> u64
     requires { Dividing demands.now size t }
-    ensures { result ≡ countAbove demands.now size bound }
+    ensures { result ≡ count_above demands.now size bound }
 {
     let mut count: u64 = 0;
     let mut i = 0;
@@ -118,8 +118,8 @@ fn search(demands: &[u64], size: u64, t: u64, units: u64, from: u64, to: u64, le
 
 // The same from 0 to `t`, where `above` remainders are above half of it.
 fn threshold(demands: &[u64], size: u64, t: u64, units: u64, above: u64) -> Cut
-    requires { Dividing demands.now size t × (units ≤ countAbove demands.now size 0)
-        × (above ≡ countAbove demands.now size (t / 2)) }
+    requires { Dividing demands.now size t × (units ≤ count_above demands.now size 0)
+        × (above ≡ count_above demands.now size (t / 2)) }
     ensures { Suffices demands.now size units result.bound result.spare }
 {
     let half = t / 2;
@@ -151,7 +151,7 @@ fn put_sizes(places: &mut [u64], size: u64, t: u64, bound: u64, spare: u64)
 // The sizes of the shares of `size` over the demands, each in the place of its demand. Where all demands are 0 the shares are too.
 pub fn share_in_place(places: &mut [u64], size: u64)
     requires { Shareable places.old size places.old }
-    ensures { places.new ≡ sharesIn places.old size places.old }
+    ensures { places.new ≡ shares_in places.old size places.old }
 {
     let t = total(places);
     if t == 0 {

@@ -11,59 +11,59 @@ use borrow.Author.Tests.{leb-true, leb-false}
 use Rattle.whole.proofs.Tests.{split}
 use Rattle.rules.specs.declared.Answer.{Answer}
 use Rattle.rules.specs.declared.Settled.{Settled}
-use Rattle.rules.specs.HourFile.{hourly, lengthBad, blocks, body}
+use Rattle.rules.specs.HourFile.{hourly, length_bad, blocks, body}
 use Rattle.rules.specs.Promised.Demands.{Fits}
-use Rattle.rules.specs.Refusals.{Verdict, refusedAt, verdictOf, number_of, place_of, Buffers}
+use Rattle.rules.specs.Refusals.{Verdict, refused_at, verdict_of, number_of, place_of, Buffers}
 use Rattle.rules.specs.Settling.{settle}
-use Rattle.rules.proofs.Words.{body-length, body-empty-bad, body-empty-past}
+use Rattle.rules.proofs.Words.{body_length, body_empty_bad, body_empty_past}
 use Rattle.sneupelaar.specs.declared.NumberedSettled.{NumberedSettled}
 use Rattle.sneupelaar.specs.declared.Part.{Part}
-use Rattle.sneupelaar.specs.HandedOut.{settlement, bodyPart}
+use Rattle.sneupelaar.specs.HandedOut.{settlement, body_part}
 
-pub numbered-verdict : (a : Answer) {n p : ℕ} → n ≡ number_of a → p ≡ place_of a → refusedAt n p ≡ verdictOf a
-numbered-verdict a e f = ap₂ refusedAt e f
+pub numbered_verdict : (a : Answer) {n p : ℕ} → n ≡ number_of a → p ≡ place_of a → refused_at n p ≡ verdict_of a
+numbered_verdict a e f = ap₂ refused_at e f
 
 -- what settling answered and left behind, by its number and place
-pub numbered-fits : (s : List ℕ) (b : Buffers) {r : Settled} {after : Buffers} {out : NumberedSettled} → Fits s b r after →
+pub numbered_fits : (s : List ℕ) (b : Buffers) {r : Settled} {after : Buffers} {out : NumberedSettled} → Fits s b r after →
     out ≡ record { number = number_of r.answer; place = place_of r.answer; ufe = r.ufe } → settlement out after ≡ settle s b
-numbered-fits s b {r} {after} {out} f e =
+numbered_fits s b {r} {after} {out} f e =
     ap (λ (o : NumberedSettled). settlement o after) e
-    ∙ ap₂ (λ (v : Verdict) (u : List ℤ). record { verdict = v; ufe = u; buffers = after }) f.verdict-is f.ufe-is
-    ∙ ap (λ (x : Buffers). record { verdict = (settle s b).verdict; ufe = (settle s b).ufe; buffers = x }) f.buffers-are
+    ∙ ap₂ (λ (v : Verdict) (u : List ℤ). record { verdict = v; ufe = u; buffers = after }) f.verdict_is f.ufe_is
+    ∙ ap (λ (x : Buffers). record { verdict = (settle s b).verdict; ufe = (settle s b).ufe; buffers = x }) f.buffers_are
 
 -- ---- where a body stands
 
 module _ (s : List ℕ) (b : ℕ) where
   -- the bytes from there on, so many, are the body
-  pub part-is-body : take (bodyPart s b).length (drop (bodyPart s b).from s) ≡ body hourly s b
-  unfolding bodyPart body
-  part-is-body = split (lengthBad hourly s || leb (blocks s) b) (λ t. rw t) (λ f. rw f)
+  pub part_is_body : take (body_part s b).length (drop (body_part s b).from s) ≡ body hourly s b
+  unfolding body_part body
+  part_is_body = split (length_bad hourly s || leb (blocks s) b) (λ t. rw t) (λ f. rw f)
 
   -- what the contract says of the part handed out
-  pub handed_out : {p : Part} → bodyPart s b ≡ p → (p ≡ bodyPart s b) × (take p.length (drop p.from s) ≡ body hourly s b)
-  handed_out e = (sym e, ap (λ (q : Part). take q.length (drop q.from s)) (sym e) ∙ part-is-body)
+  pub handed_out : {p : Part} → body_part s b ≡ p → (p ≡ body_part s b) × (take p.length (drop p.from s) ≡ body hourly s b)
+  handed_out e = (sym e, ap (λ (q : Part). take q.length (drop q.from s)) (sym e) ∙ part_is_body)
 
   pub record Absent : Type 0 where
     pub empty : length (body hourly s b) ≡ 0
-    pub part : bodyPart s b ≡ record { from = 0; length = 0 }
+    pub part : body_part s b ≡ record { from = 0; length = 0 }
 
   pub record There : Type 0 where
     pub full : length (body hourly s b) ≡ 480
-    pub part : bodyPart s b ≡ record { from = 512 * b + 32; length = 480 }
-    pub before-end : b < blocks s
+    pub part : body_part s b ≡ record { from = 512 * b + 32; length = 480 }
+    pub before_end : b < blocks s
 
-  pub absent-or-there : {P : Type 0} → (Absent → P) → (There → P) → P
-  unfolding bodyPart
-  absent-or-there absent there = split (lengthBad hourly s)
-      (λ bad. absent (record { empty = ap length (body-empty-bad hourly s b bad); part = rw bad }))
+  pub absent_or_there : {P : Type 0} → (Absent → P) → (There → P) → P
+  unfolding body_part
+  absent_or_there absent there = split (length_bad hourly s)
+      (λ bad. absent (record { empty = ap length (body_empty_bad hourly s b bad); part = rw bad }))
       (λ good. split (leb (blocks s) b)
-      (λ past. absent (record { empty = ap length (body-empty-past hourly s b (leb-true _ _ past)); part = rw (good, past) }))
-      (λ within. let before-end = leb-false _ _ within in
-      there (record { full = body-length hourly s b good before-end; part = rw (good, within); before-end = before-end })))
+      (λ past. absent (record { empty = ap length (body_empty_past hourly s b (leb-true _ _ past)); part = rw (good, past) }))
+      (λ within. let before_end = leb-false _ _ within in
+      there (record { full = body_length hourly s b good before_end; part = rw (good, within); before_end = before_end })))
 
-  pub none-there : {n : ℕ} → n ≡ length (body hourly s b) → n ≡ 0 → bodyPart s b ≡ record { from = 0; length = 0 }
-  none-there e z = absent-or-there (λ a. a.part) (λ t. absurd (omega (arith, e, z, t.full)))
+  pub none_there : {n : ℕ} → n ≡ length (body hourly s b) → n ≡ 0 → body_part s b ≡ record { from = 0; length = 0 }
+  none_there e z = absent_or_there (λ a. a.part) (λ t. absurd (omega (arith, e, z, t.full)))
 
-  pub one-there : {n : ℕ} → n ≡ length (body hourly s b) → (n ≡ 0 → ⊥) →
-      (bodyPart s b ≡ record { from = 512 * b + 32; length = n }) × (b < blocks s)
-  one-there e some = absent-or-there (λ a. absurd (some (e ∙ a.empty))) (λ t. (t.part ∙ rw (sym (e ∙ t.full)), t.before-end))
+  pub one_there : {n : ℕ} → n ≡ length (body hourly s b) → (n ≡ 0 → ⊥) →
+      (body_part s b ≡ record { from = 512 * b + 32; length = n }) × (b < blocks s)
+  one_there e some = absent_or_there (λ a. absurd (some (e ∙ a.empty))) (λ t. (t.part ∙ rw (sym (e ∙ t.full)), t.before_end))

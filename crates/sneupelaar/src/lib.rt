@@ -5,7 +5,7 @@ ghost use Rattle.rules.specs.HourFile.{body, hourly};
 ghost use Rattle.rules.specs.Refusals.{number_of, place_of};
 ghost use Rattle.rules.specs.Settling as Settling;
 ghost use Rattle.pool.specs.Buffers.{buffers};
-ghost use Rattle.sneupelaar.specs.HandedOut.{bodyPart, readAmount, settlement, written};
+ghost use Rattle.sneupelaar.specs.HandedOut.{body_part, read_amount, settlement, written};
 
 use rules::{Line, Settled};
 
@@ -86,7 +86,7 @@ pub extern "C" fn sneupelaar_write(cents: i64, field: &mut [u8]) -> NumberedAnsw
 // Reads the amount that stands in the whole field.
 #[unsafe(no_mangle)]
 pub extern "C" fn sneupelaar_read(field: &[u8]) -> NumberedReading
-    ensures { readAmount result ≡ Settling.read field.now }
+    ensures { read_amount result ≡ Settling.read field.now }
 {
     let reading = amount::read(field);
     let answer = reading.answer;
@@ -100,7 +100,7 @@ pub extern "C" fn sneupelaar_read(field: &[u8]) -> NumberedReading
 // The block reader: which bytes of the file are the body of a block.
 #[unsafe(no_mangle)]
 pub extern "C" fn sneupelaar_body(file: &[u8], block: usize) -> Part
-    ensures part { result ≡ bodyPart file.now block }
+    ensures part { result ≡ body_part file.now block }
     ensures bytes { take result.length (drop result.from file.now) ≡ body hourly file.now block }
 {
     let length = hour::body(file, block).len();

@@ -2,7 +2,7 @@
 use mathlib.Core.Path.{refl}
 use mathlib.Core.Option.{or_else}
 use Rattle.whole.specs.Below
-use Rattle.whole.specs.Signed.{minℤ, maxℤ}
+use Rattle.whole.specs.Signed.{min_ℤ, max_ℤ}
 use Rattle.rules.specs.Record
 use Rattle.rules.specs.Deviation
 use Rattle.rules.specs.Charge
@@ -18,24 +18,24 @@ use Rattle.rules.specs.Figures.Files.{word_bytes, sealed}
 use Rattle.rules.specs.Figures.Limits
 use Rattle.rules.specs.Figures.EveryInterval as Figures
 
-pub every-interval-right : Figures.EveryIntervalRight
-unfolding Below.sumBelow Below.totalBelow Below.valuesBelow Below.replacingFirst Below.firstBelow or_else minℤ maxℤ Record.signed
-    Record.kind_of Record.memberOf Record.areaOf Record.zoneOf Deviation.generatorUnavailable Deviation.generatorDeviation
-    Deviation.loadUnavailable Deviation.loadDeviation Deviation.importDeviation Deviation.exportDeviation Deviation.deviation
-    Charge.entering Charge.nearestCent HourFile.word HourFile.blocks HourFile.blockWord HourFile.blockSum HourFile.lengthBad
-    HourFile.recordCount HourFile.recordWord HourFile.hourOf HourWords.hourFrom Ranges.keeps Ranges.firstBroken Ranges.countRule
-    Ranges.pastRule Ranges.blockRule Ranges.tenMinutesHeadRule Ranges.tenMinutesRulesOf Ranges.tenMinutesRecordRule Refusals.verdict
-    Refusals.badLength Refusals.badSum Refusals.badBlock Refusals.badHead Refusals.badWord Refusals.badRecord Refusals.blockRows
-    Refusals.wordRows Refusals.formRows Ten.rampPart Ten.scheduledIn Ten.actualIn Ten.intervalEntry Ten.intervalOf Ten.incremental
-    Ten.decremental Ten.intervalPrice Ten.netDeviation Ten.intervalCost Ten.tenMinutesAmount Ten.tenMinutesCharge Ten.tenMinutesRows
-    Ten.settleTenMinutes word_bytes sealed Limits.faults Limits.ownPlaces Figures.intervalsFault Figures.intervalLimits
-    Figures.pricesFault Figures.fullPrices Figures.priceLimits Figures.everyInterval Figures.tenRefusals Figures.chargesStated Figures.leastNets
-    Text.digitsUpTo Text.decimal Text.amountText Text.amountField Refusals.outOfRange Refusals.tooNarrow Refusals.writeAmountRows
-    Settling.write Statement.firstLine Statement.column Statement.memberLines Statement.sheetOf Statement.refusedLine Statement.chargeLine
-    Statement.tenMinutesStatement
-every-interval-right = record {
-  of-records = (refl, (refl, (refl, (refl, (refl, (refl, (refl, (refl, (refl, (refl, (refl, tt)))))))))));
-  of-the-head = (refl, (refl, (refl, (refl, (refl, (refl, (refl, (refl, (refl, (refl, (refl, (refl, (refl, (refl, (refl, (refl, (refl, (refl, (refl, tt)))))))))))))))))));
+pub every_interval_right : Figures.EveryIntervalRight
+unfolding Below.sum_below Below.total_below Below.valuesBelow Below.replacingFirst Below.first_below or_else min_ℤ max_ℤ Record.signed
+    Record.kind_of Record.member_of Record.area_of Record.zone_of Deviation.generator_unavailable Deviation.generator_deviation
+    Deviation.load_unavailable Deviation.load_deviation Deviation.import_deviation Deviation.export_deviation Deviation.deviation
+    Charge.entering Charge.nearest_cent HourFile.word HourFile.blocks HourFile.block_word HourFile.block_sum HourFile.length_bad
+    HourFile.record_count HourFile.record_word HourFile.hour_of HourWords.hour_from Ranges.keeps Ranges.first_broken Ranges.count_rule
+    Ranges.past_rule Ranges.block_rule Ranges.ten_minutes_head_rule Ranges.ten_minutes_rules_of Ranges.ten_minutes_record_rule Refusals.verdict
+    Refusals.bad_length Refusals.bad_sum Refusals.bad_block Refusals.bad_head Refusals.bad_word Refusals.bad_record Refusals.block_rows
+    Refusals.word_rows Refusals.form_rows Ten.ramp_part Ten.scheduled_in Ten.actual_in Ten.interval_entry Ten.interval_of Ten.incremental
+    Ten.decremental Ten.interval_price Ten.net_deviation Ten.interval_cost Ten.ten_minutes_amount Ten.ten_minutes_charge Ten.ten_minutes_rows
+    Ten.settle_ten_minutes word_bytes sealed Limits.faults Limits.own_places Figures.intervals_fault Figures.interval_limits
+    Figures.prices_fault Figures.full_prices Figures.price_limits Figures.every_interval Figures.ten_refusals Figures.charges_stated Figures.least_nets
+    Text.digits_up_to Text.decimal Text.amount_text Text.amount_field Refusals.out_of_range Refusals.too_narrow Refusals.write_amount_rows
+    Settling.write Statement.first_line Statement.column Statement.member_lines Statement.sheet_of Statement.refused_line Statement.charge_line
+    Statement.ten_minutes_statement
+every_interval_right = record {
+  of_records = (refl, (refl, (refl, (refl, (refl, (refl, (refl, (refl, (refl, (refl, (refl, tt)))))))))));
+  of_the_head = (refl, (refl, (refl, (refl, (refl, (refl, (refl, (refl, (refl, (refl, (refl, (refl, (refl, (refl, (refl, (refl, (refl, (refl, (refl, tt)))))))))))))))))));
   settled = refl;
   unrounded = refl;
   priced = (refl, (refl, (refl, tt)));

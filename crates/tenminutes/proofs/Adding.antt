@@ -10,21 +10,21 @@ use lib.Dec.{eqb, ltb}
 use lib.ListN.{length, get_or, set, replicate, length-set, get_or-replicate}
 use lib.Seq.{get_or-set_same, get_or-set_other}
 use borrow.Author.Tests.{lt-ltb, le-ltb, eq-eqb, ne_eqb, eqb-true, eqb-false, ltb-true, ltb-false}
-use Rattle.whole.specs.Below.{totalBelow}
+use Rattle.whole.specs.Below.{total_below}
 use Rattle.whole.proofs.Tests.{split, never}
-use Rattle.whole.proofs.Totals.{total_ext, total-none, total-add-one}
-use Rattle.rules.specs.Record.{Hour, memberOf, areaOf, zoneOf}
+use Rattle.whole.proofs.Totals.{total_ext, total_none, total_add_one}
+use Rattle.rules.specs.Record.{Hour, member_of, area_of, zone_of}
 use Rattle.rules.specs.Charge.{entering}
-use Rattle.rules.specs.TenMinutes.{intervalOf, netDeviation, intervalCost}
+use Rattle.rules.specs.TenMinutes.{interval_of, net_deviation, interval_cost}
 use Rattle.rules.specs.Inner.Kept.{TenMinutesKept}
-use Rattle.rules.proofs.IntervalBounds.{net-running}
-use Rattle.tenminutes.specs.Room.{adds, NetsAfter, costIn, Spare, Added}
+use Rattle.rules.proofs.IntervalBounds.{net_running}
+use Rattle.tenminutes.specs.Room.{adds, NetsAfter, cost_in, Spare, Added}
 
 -- ---- one record: six places of a zone
 
 module _ {f : ℕ → ℤ} {zone : ℕ} {old : List ℤ} where
-  pub none-added : Added f zone 0 old old
-  none-added = record { same_length = refl; place_is = λ z k l. unchanged z k }
+  pub none_added : Added f zone 0 old old
+  none_added = record { same_length = refl; place_is = λ z k l. unchanged z k }
     where
       nothing : (b : Bool) (x e : ℤ) → x ≡ x +ℤ cond (b && false) e (pos 0)
       nothing true x e = sym (+ℤ_idr x)
@@ -39,9 +39,9 @@ module _ {f : ℕ → ℤ} {zone : ℕ} {old : List ℤ} where
     pub next_place : n < 6 → get_or room (6 * zone + n) (pos 0) ≡ get_or old (6 * zone + n) (pos 0)
     next_place l = added.place_is zone n l ∙ rw (eq-eqb zone zone refl, le-ltb n n (le_refl n)) (+ℤ_idr _)
 
-    pub next-added : {v : ℤ} → n < 6 → zone < 4 → length old ≡ 24 → v ≡ get_or old (6 * zone + n) (pos 0) +ℤ f n →
+    pub next_added : {v : ℤ} → n < 6 → zone < 4 → length old ≡ 24 → v ≡ get_or old (6 * zone + n) (pos 0) +ℤ f n →
         Added f zone (n + 1) old (set room (6 * zone + n) v)
-    next-added {v} l few places e = record {
+    next_added {v} l few places e = record {
       same_length = length-set room (6 * zone + n) v ∙ added.same_length;
       place_is = at_place;
     }
@@ -81,21 +81,21 @@ module _ {h : Hour} {m n : ℕ} {room : List ℤ} (after : NetsAfter h m n room)
   pub spare : TenMinutesKept h → n ≤ h.count → Spare room
   spare kept few = record {
     places = after.places;
-    small = λ z k l j. rw (after.net-is z k l j) (net-running kept m z k n j few);
+    small = λ z k l j. rw (after.net_is z k l j) (net_running kept m z k n j few);
   }
 
   -- the member has no part in record n
-  pub not-its : (memberOf h n ≡ m → ⊥) → NetsAfter h m (n + 1) room
-  not-its other = record {
+  pub not_its : (member_of h n ≡ m → ⊥) → NetsAfter h m (n + 1) room
+  not_its other = record {
     places = after.places;
-    net-is = λ z k l j. after.net-is z k l j ∙ sym (total-add-one (adds h m z k) n ∙ rw (ne_eqb (memberOf h n) m other) (+ℤ_idr _));
+    net_is = λ z k l j. after.net_is z k l j ∙ sym (total_add_one (adds h m z k) n ∙ rw (ne_eqb (member_of h n) m other) (+ℤ_idr _));
   }
 
-  pub its_own : {f : ℕ → ℤ} {zone : ℕ} {new : List ℤ} → memberOf h n ≡ m → zone ≡ zoneOf h (areaOf h n) →
-      ((k : ℕ) → k < 6 → f k ≡ entering (intervalOf h n k)) → Added f zone 6 room new → NetsAfter h m (n + 1) new
+  pub its_own : {f : ℕ → ℤ} {zone : ℕ} {new : List ℤ} → member_of h n ≡ m → zone ≡ zone_of h (area_of h n) →
+      ((k : ℕ) → k < 6 → f k ≡ entering (interval_of h n k)) → Added f zone 6 room new → NetsAfter h m (n + 1) new
   its_own {f} {zone} {new} mine zone-is f-is added = record {
     places = added.same_length ∙ after.places;
-    net-is = λ z k l j. added.place_is z k j ∙ rw (after.net-is z k l j, lt-ltb k 6 j, f-is k j, zone-is) (one_more z k);
+    net_is = λ z k l j. added.place_is z k j ∙ rw (after.net_is z k l j, lt-ltb k 6 j, f-is k j, zone-is) (one_more z k);
   }
     where
       both_hold : (a b : Bool) (x e : ℤ) → a ≡ true → x +ℤ cond (b && true) e (pos 0) ≡ x +ℤ cond (a && b) e (pos 0)
@@ -103,27 +103,27 @@ module _ {h : Hour} {m n : ℕ} {room : List ℤ} (after : NetsAfter h m n room)
       both_hold true false x e t = refl
       both_hold false b x e t = never t refl
 
-      one_more : (z k : ℕ) → totalBelow (adds h m z k) n +ℤ cond (eqb (zoneOf h (areaOf h n)) z && true) (entering (intervalOf h n k)) (pos 0)
-          ≡ totalBelow (adds h m z k) (n + 1)
-      one_more z k = both_hold (eqb (memberOf h n) m) (eqb (zoneOf h (areaOf h n)) z) (totalBelow (adds h m z k) n)
-          (entering (intervalOf h n k)) (eq-eqb (memberOf h n) m mine)
-          ∙ sym (total-add-one (adds h m z k) n)
+      one_more : (z k : ℕ) → total_below (adds h m z k) n +ℤ cond (eqb (zone_of h (area_of h n)) z && true) (entering (interval_of h n k)) (pos 0)
+          ≡ total_below (adds h m z k) (n + 1)
+      one_more z k = both_hold (eqb (member_of h n) m) (eqb (zone_of h (area_of h n)) z) (total_below (adds h m z k) n)
+          (entering (interval_of h n k)) (eq-eqb (member_of h n) m mine)
+          ∙ sym (total_add_one (adds h m z k) n)
 
 -- what the nets of all a member's records cost
 module _ {h : Hour} {m : ℕ} {room : List ℤ} (after : NetsAfter h m h.count room) where
-  pub cost-is : (z k : ℕ) → z < 4 → k < 6 → costIn h room z k ≡ intervalCost h m z k
-  unfolding intervalCost netDeviation
-  cost-is z k l j = rw (after.net-is z k l j)
+  pub cost_is : (z k : ℕ) → z < 4 → k < 6 → cost_in h room z k ≡ interval_cost h m z k
+  unfolding interval_cost net_deviation
+  cost_is z k l j = rw (after.net_is z k l j)
 
-  pub zone-cost-is : (z n : ℕ) → z < 4 → n ≤ 6 → totalBelow (costIn h room z) n ≡ totalBelow (intervalCost h m z) n
-  zone-cost-is z n l few = total_ext _ _ n (λ k j. cost-is z k l (omega arith))
+  pub zone_cost_is : (z n : ℕ) → z < 4 → n ≤ 6 → total_below (cost_in h room z) n ≡ total_below (interval_cost h m z) n
+  zone_cost_is z n l few = total_ext _ _ n (λ k j. cost_is z k l (omega arith))
 
-  pub amount-is : (n : ℕ) → n ≤ 4 →
-      totalBelow (λ z. totalBelow (costIn h room z) 6) n ≡ totalBelow (λ z. totalBelow (intervalCost h m z) 6) n
-  amount-is n few = total_ext _ _ n (λ z l. zone-cost-is z 6 (omega arith) (le_refl 6))
+  pub amount_is : (n : ℕ) → n ≤ 4 →
+      total_below (λ z. total_below (cost_in h room z) 6) n ≡ total_below (λ z. total_below (interval_cost h m z) 6) n
+  amount_is n few = total_ext _ _ n (λ z l. zone_cost_is z 6 (omega arith) (le_refl 6))
 
 pub none_yet : (h : Hour) (m : ℕ) → NetsAfter h m 0 (replicate 24 (pos 0))
-none_yet h m = record { places = refl; net-is = λ z k l j. zeros (6 * z + k) (omega arith) ∙ sym (total-none (adds h m z k)) }
+none_yet h m = record { places = refl; net_is = λ z k l j. zeros (6 * z + k) (omega arith) ∙ sym (total_none (adds h m z k)) }
   where
     zeros : (p : ℕ) → p < 24 → get_or (replicate 24 (pos 0)) p (pos 0) ≡ pos 0
     zeros p l = get_or-replicate 24 p (pos 0) (pos 0) l

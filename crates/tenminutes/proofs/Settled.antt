@@ -12,65 +12,65 @@ use Rattle.whole.specs.Below.{replacingFirst}
 use Rattle.rules.specs.declared.Answer.{Answer}
 use Rattle.rules.specs.declared.Answer.TheVariants.{Accepted, TooShort}
 use Rattle.rules.specs.Record.{members}
-use Rattle.rules.specs.Ranges.{tenMinutesForm}
-use Rattle.rules.specs.Refusals.{Row, row, accepted, verdictOf, verdict, placeZeroIf, formRows}
-use Rattle.rules.specs.TenMinutes.{tenMinutesIn, tenMinutesRows, tenMinutesCharge, settleTenMinutes}
+use Rattle.rules.specs.Ranges.{ten_minutes_form}
+use Rattle.rules.specs.Refusals.{Row, row, accepted, verdict_of, verdict, place_zero_if, form_rows}
+use Rattle.rules.specs.TenMinutes.{ten_minutes_in, ten_minutes_rows, ten_minutes_charge, settle_ten_minutes}
 use Rattle.rules.specs.Inner.Kept.{TenMinutesFileKept}
-use Rattle.rules.proofs.Rows.{accepts-when-whole, form-numbered, refused-first, passed_on, one_answer}
-use Rattle.rules.proofs.IntervalsKept.{ten-minutes-file-kept}
-use Rattle.rules.proofs.TenMinutes.{ten-minutes}
+use Rattle.rules.proofs.Rows.{accepts_when_whole, form_numbered, refused_first, passed_on, one_answer}
+use Rattle.rules.proofs.IntervalsKept.{ten_minutes_file_kept}
+use Rattle.rules.proofs.TenMinutes.{ten_minutes_lem}
 
 -- what settling promises of its answer and of the charges that it leaves
 pub record Settles (s : List ℕ) (before : List ℤ) (r : Answer) (after : List ℤ) : Type 0 where
-  pub verdict-is : verdictOf r ≡ (settleTenMinutes s before).verdict
-  pub charges-are : after ≡ (settleTenMinutes s before).charges
+  pub verdict_is : verdict_of r ≡ (settle_ten_minutes s before).verdict
+  pub charges_are : after ≡ (settle_ten_minutes s before).charges
 
 module _ (s : List ℕ) (c : List ℤ) where
   abbrev rows : List Row
-  rows = formRows tenMinutesForm s
+  rows = form_rows ten_minutes_form s
 
-  abbrev lengthRow : List Row
-  lengthRow = row 11 (placeZeroIf (ltb (length c) (members (tenMinutesIn s)))) ∷ []
+  abbrev length_row : List Row
+  length_row = row 11 (place_zero_if (ltb (length c) (members (ten_minutes_in s)))) ∷ []
 
-  told : (settleTenMinutes s c).verdict ≡ verdict (tenMinutesRows s c)
-  unfolding settleTenMinutes
+  told : (settle_ten_minutes s c).verdict ≡ verdict (ten_minutes_rows s c)
+  unfolding settle_ten_minutes
   told = refl
 
   -- an answer that the table gives, other than accepted
-  refused-with : (a : Answer) → verdict (tenMinutesRows s c) ≡ verdictOf a → (a ≡ Accepted → ⊥) → Settles s c a c
-  refused-with a e refused = record {
-    verdict-is = sym (told ∙ e);
-    charges-are = sym (ten-minutes.changes-nothing s c (λ yes. refused (one_answer a Accepted (sym e ∙ sym told ∙ yes))));
+  refused_with : (a : Answer) → verdict (ten_minutes_rows s c) ≡ verdict_of a → (a ≡ Accepted → ⊥) → Settles s c a c
+  refused_with a e refused = record {
+    verdict_is = sym (told ∙ e);
+    charges_are = sym (ten_minutes_lem.changes_nothing s c (λ yes. refused (one_answer a Accepted (sym e ∙ sym told ∙ yes))));
   }
 
-  pub file-refused : (a : Answer) → verdictOf a ≡ verdict rows → (a ≡ Accepted → ⊥) → Settles s c a c
-  unfolding tenMinutesRows
-  file-refused a examined refused =
-      refused-with a (refused-first rows lengthRow (λ e. refused (one_answer a Accepted (examined ∙ e))) ∙ sym examined) refused
+  pub file_refused : (a : Answer) → verdict_of a ≡ verdict rows → (a ≡ Accepted → ⊥) → Settles s c a c
+  unfolding ten_minutes_rows
+  file_refused a examined refused =
+      refused_with a (refused_first rows length_row (λ e. refused (one_answer a Accepted (examined ∙ e))) ∙ sym examined) refused
 
   -- rows 1 to 5 are passed
   module _ (passed : verdict rows ≡ accepted) where
     pub kept : TenMinutesFileKept s
-    kept = ten-minutes-file-kept s ((accepts-when-whole rows (form-numbered tenMinutesForm s)).0 passed)
+    kept = ten_minutes_file_kept s ((accepts_when_whole rows (form_numbered ten_minutes_form s)).0 passed)
 
-    rest : verdict (tenMinutesRows s c) ≡ verdict lengthRow
-    unfolding tenMinutesRows
-    rest = passed_on rows lengthRow ((accepts-when-whole rows (form-numbered tenMinutesForm s)).0 passed)
+    rest : verdict (ten_minutes_rows s c) ≡ verdict length_row
+    unfolding ten_minutes_rows
+    rest = passed_on rows length_row ((accepts_when_whole rows (form_numbered ten_minutes_form s)).0 passed)
 
-    pub too_short : length c < members (tenMinutesIn s) → Settles s c TooShort c
+    pub too_short : length c < members (ten_minutes_in s) → Settles s c TooShort c
     unfolding verdict
-    too_short l = refused-with TooShort (rest ∙ rw (lt-ltb (length c) (members (tenMinutesIn s)) l))
-        (λ z. let n : ◌≡◌ {A = ℕ} 11 0 = ap (λ (a : Answer). (verdictOf a).number) z in omega arith)
+    too_short l = refused_with TooShort (rest ∙ rw (lt-ltb (length c) (members (ten_minutes_in s)) l))
+        (λ z. let n : ◌≡◌ {A = ℕ} 11 0 = ap (λ (a : Answer). (verdict_of a).number) z in omega arith)
 
-    whole : members (tenMinutesIn s) ≤ length c → verdict (tenMinutesRows s c) ≡ accepted
+    whole : members (ten_minutes_in s) ≤ length c → verdict (ten_minutes_rows s c) ≡ accepted
     unfolding verdict
-    whole l = rest ∙ rw (le-ltb (length c) (members (tenMinutesIn s)) l)
+    whole l = rest ∙ rw (le-ltb (length c) (members (ten_minutes_in s)) l)
 
-    written : verdict (tenMinutesRows s c) ≡ accepted →
-        (settleTenMinutes s c).charges ≡ replacingFirst (tenMinutesCharge (tenMinutesIn s)) (members (tenMinutesIn s)) c
-    unfolding settleTenMinutes
+    written : verdict (ten_minutes_rows s c) ≡ accepted →
+        (settle_ten_minutes s c).charges ≡ replacingFirst (ten_minutes_charge (ten_minutes_in s)) (members (ten_minutes_in s)) c
+    unfolding settle_ten_minutes
     written e = rw e
 
-    pub all-charged : members (tenMinutesIn s) ≤ length c → {after : List ℤ} →
-        after ≡ replacingFirst (tenMinutesCharge (tenMinutesIn s)) (members (tenMinutesIn s)) c → Settles s c Accepted after
-    all-charged l put = record { verdict-is = sym (told ∙ whole l); charges-are = put ∙ sym (written (whole l)) }
+    pub all_charged : members (ten_minutes_in s) ≤ length c → {after : List ℤ} →
+        after ≡ replacingFirst (ten_minutes_charge (ten_minutes_in s)) (members (ten_minutes_in s)) c → Settles s c Accepted after
+    all_charged l put = record { verdict_is = sym (told ∙ whole l); charges_are = put ∙ sym (written (whole l)) }

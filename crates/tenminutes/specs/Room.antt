@@ -1,19 +1,19 @@
 -- The room in which a member's nets are added up: 24 places, six intervals a zone, place 6 × zone + interval.
 use Rattle.std.specs.Prelude.{ℕ, ◌+◌, ◌*◌, ◌<◌, ◌≡◌, cond, ◌&&◌, List, ℤ, pos, ◌+ℤ◌, ◌*ℤ◌, eqb, ltb, length, get_or}
-use Rattle.whole.specs.Below.{totalBelow}
+use Rattle.whole.specs.Below.{total_below}
 use Rattle.whole.specs.Signed.{Under}
-use Rattle.rules.specs.Record.{Hour, memberOf, areaOf, zoneOf}
+use Rattle.rules.specs.Record.{Hour, member_of, area_of, zone_of}
 use Rattle.rules.specs.Charge.{entering}
-use Rattle.rules.specs.TenMinutes.{intervalOf, intervalPrice}
+use Rattle.rules.specs.TenMinutes.{interval_of, interval_price}
 
 -- what record i adds to member m's net in a zone and interval
 abbrev pub adds : (h : Hour) (m z k i : ℕ) → ℤ
-adds h m z k i = cond (eqb (memberOf h i) m && eqb (zoneOf h (areaOf h i)) z) (entering (intervalOf h i k)) (pos 0)
+adds h m z k i = cond (eqb (member_of h i) m && eqb (zone_of h (area_of h i)) z) (entering (interval_of h i k)) (pos 0)
 
 -- the first n records are added up
 pub record NetsAfter (h : Hour) (m n : ℕ) (room : List ℤ) : Type 0 where
   pub places : length room ≡ 24
-  pub net-is : (z k : ℕ) → z < 4 → k < 6 → get_or room (6 * z + k) (pos 0) ≡ totalBelow (adds h m z k) n
+  pub net_is : (z k : ℕ) → z < 4 → k < 6 → get_or room (6 * z + k) (pos 0) ≡ total_below (adds h m z k) n
 
 -- all records of one member are added up
 pub record NetsOfOne (h : Hour) (room : List ℤ) : Type 0 where
@@ -21,8 +21,8 @@ pub record NetsOfOne (h : Hour) (room : List ℤ) : Type 0 where
   pub nets : NetsAfter h member h.count room
 
 -- what the net in a place of the room costs
-abbrev pub costIn : (h : Hour) (room : List ℤ) (z k : ℕ) → ℤ
-costIn h room z k = get_or room (6 * z + k) (pos 0) *ℤ intervalPrice h z k (get_or room (6 * z + k) (pos 0))
+abbrev pub cost_in : (h : Hour) (room : List ℤ) (z k : ℕ) → ℤ
+cost_in h room z k = get_or room (6 * z + k) (pos 0) *ℤ interval_price h z k (get_or room (6 * z + k) (pos 0))
 
 -- a record more can be added in every place
 pub record Spare (room : List ℤ) : Type 0 where

@@ -1,7 +1,7 @@
 // Ten-minute settling for programs in C (include/sneupelaar.h): the answer goes out as its number and place. It has no `requires`: nothing
 // would check it for C.
 ghost use Rattle.std.specs.Prelude.{◌≡◌};
-ghost use Rattle.rules.specs.TenMinutes.{settleTenMinutes};
+ghost use Rattle.rules.specs.TenMinutes.{settle_ten_minutes};
 ghost use Rattle.tenminutes.specs.HandedOut.{settlement};
 
 #[repr(C)]
@@ -14,7 +14,7 @@ pub struct NumberedAnswer {
 // Settles a ten-minute file.
 #[unsafe(no_mangle)]
 pub extern "C" fn sneupelaar_settle_ten_minutes(file: &[u8], charges: &mut [i64]) -> NumberedAnswer
-    ensures { settlement result charges.new ≡ settleTenMinutes file.now charges.old }
+    ensures { settlement result charges.new ≡ settle_ten_minutes file.now charges.old }
 {
     let answer = crate::settle(file, charges);
     NumberedAnswer {

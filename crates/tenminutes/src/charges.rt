@@ -1,17 +1,17 @@
 // A member's charge: what its nets cost, over all zones and intervals, rounded once.
 ghost use Rattle.std.specs.Prelude.{◌≡◌, ◌≤◌, ◌<◌, length};
-ghost use Rattle.whole.specs.Below.{totalBelow, replacingFirst};
+ghost use Rattle.whole.specs.Below.{total_below, replacingFirst};
 ghost use Rattle.rules.specs.Record as Record;
-ghost use Rattle.rules.specs.TenMinutes.{tenMinutesIn, tenMinutesCharge};
+ghost use Rattle.rules.specs.TenMinutes.{ten_minutes_in, ten_minutes_charge};
 ghost use Rattle.rules.specs.Inner.Kept.{TenMinutesFileKept};
-ghost use Rattle.tenminutes.specs.Room.{NetsAfter, NetsOfOne, costIn};
+ghost use Rattle.tenminutes.specs.Room.{NetsAfter, NetsOfOne, cost_in};
 ghost use Rattle.tenminutes.specs.Chain.{Chained};
 
 // What the net of a zone and interval costs.
 fn interval_cost(file: &[u8], z: usize, k: usize, room: &[i64]) -> i64
-    requires { TenMinutesFileKept file.now × (z < Record.zones (tenMinutesIn file.now)) × (k < 6)
-        × NetsOfOne (tenMinutesIn file.now) room.now }
-    ensures { result ≡ costIn (tenMinutesIn file.now) room.now z k }
+    requires { TenMinutesFileKept file.now × (z < Record.zones (ten_minutes_in file.now)) × (k < 6)
+        × NetsOfOne (ten_minutes_in file.now) room.now }
+    ensures { result ≡ cost_in (ten_minutes_in file.now) room.now z k }
 {
     let at = 12 * z + k;
     let incremental = crate::words::price(file, 48 + at);
@@ -21,9 +21,9 @@ fn interval_cost(file: &[u8], z: usize, k: usize, room: &[i64]) -> i64
 
 // The six intervals of a zone.
 fn zone_cost(file: &[u8], z: usize, room: &[i64]) -> i64
-    requires { TenMinutesFileKept file.now × (z < Record.zones (tenMinutesIn file.now))
-        × NetsOfOne (tenMinutesIn file.now) room.now }
-    ensures { result ≡ totalBelow (costIn (tenMinutesIn file.now) room.now z) 6 }
+    requires { TenMinutesFileKept file.now × (z < Record.zones (ten_minutes_in file.now))
+        × NetsOfOne (ten_minutes_in file.now) room.now }
+    ensures { result ≡ total_below (cost_in (ten_minutes_in file.now) room.now z) 6 }
 {
     let mut sum: i64 = 0;
     let mut k = 0;
@@ -36,10 +36,10 @@ fn zone_cost(file: &[u8], z: usize, room: &[i64]) -> i64
 
 // All zones.
 fn amount(file: &[u8], zones: usize, room: &[i64]) -> i64
-    requires { TenMinutesFileKept file.now × (zones ≡ Record.zones (tenMinutesIn file.now))
-        × NetsOfOne (tenMinutesIn file.now) room.now }
-    ensures { let h = tenMinutesIn file.now in
-        result ≡ totalBelow (λ z. totalBelow (costIn h room.now z) 6) (Record.zones h) }
+    requires { TenMinutesFileKept file.now × (zones ≡ Record.zones (ten_minutes_in file.now))
+        × NetsOfOne (ten_minutes_in file.now) room.now }
+    ensures { let h = ten_minutes_in file.now in
+        result ≡ total_below (λ z. total_below (cost_in h room.now z) 6) (Record.zones h) }
 {
     let mut sum: i64 = 0;
     let mut z = 0;
@@ -59,9 +59,9 @@ fn charge_in(
     nexts: &[u8],
     room: &mut [i64],
 ) -> i64
-    requires { TenMinutesFileKept file.now × (member < 32) × (zones ≡ Record.zones (tenMinutesIn file.now))
-        × Chained (tenMinutesIn file.now) 0 firsts.now nexts.now × NetsAfter (tenMinutesIn file.now) member 0 room.old }
-    ensures { result ≡ tenMinutesCharge (tenMinutesIn file.now) member }
+    requires { TenMinutesFileKept file.now × (member < 32) × (zones ≡ Record.zones (ten_minutes_in file.now))
+        × Chained (ten_minutes_in file.now) 0 firsts.now nexts.now × NetsAfter (ten_minutes_in file.now) member 0 room.old }
+    ensures { result ≡ ten_minutes_charge (ten_minutes_in file.now) member }
 {
     crate::nets::put_nets(file, member, firsts, nexts, room);
     formula::rounding::cents_of(amount(file, zones, room), 120000000)
@@ -69,9 +69,9 @@ fn charge_in(
 
 // The same, with a room of its own.
 fn charge(file: &[u8], member: usize, zones: usize, firsts: &[u8], nexts: &[u8]) -> i64
-    requires { TenMinutesFileKept file.now × (member < 32) × (zones ≡ Record.zones (tenMinutesIn file.now))
-        × Chained (tenMinutesIn file.now) 0 firsts.now nexts.now }
-    ensures { result ≡ tenMinutesCharge (tenMinutesIn file.now) member }
+    requires { TenMinutesFileKept file.now × (member < 32) × (zones ≡ Record.zones (ten_minutes_in file.now))
+        × Chained (ten_minutes_in file.now) 0 firsts.now nexts.now }
+    ensures { result ≡ ten_minutes_charge (ten_minutes_in file.now) member }
 {
     let mut room = [0i64; 24];
     charge_in(file, member, zones, firsts, nexts, &mut room)
@@ -79,11 +79,11 @@ fn charge(file: &[u8], member: usize, zones: usize, firsts: &[u8], nexts: &[u8])
 
 // One a member, into the first places; the places past them are unchanged. The records are chained.
 fn put_each(file: &[u8], members: usize, firsts: &[u8], nexts: &[u8], charges: &mut [i64])
-    requires { TenMinutesFileKept file.now × (members ≡ Record.members (tenMinutesIn file.now))
-        × (Record.members (tenMinutesIn file.now) ≤ length charges.old)
-        × Chained (tenMinutesIn file.now) 0 firsts.now nexts.now }
+    requires { TenMinutesFileKept file.now × (members ≡ Record.members (ten_minutes_in file.now))
+        × (Record.members (ten_minutes_in file.now) ≤ length charges.old)
+        × Chained (ten_minutes_in file.now) 0 firsts.now nexts.now }
     ensures { charges.new
-        ≡ replacingFirst (tenMinutesCharge (tenMinutesIn file.now)) (Record.members (tenMinutesIn file.now))
+        ≡ replacingFirst (ten_minutes_charge (ten_minutes_in file.now)) (Record.members (ten_minutes_in file.now))
         charges.old }
 {
     let zones = crate::words::head_word(file, 10) as usize;
@@ -102,11 +102,11 @@ fn put_charges_in(
     nexts: &mut [u8],
     charges: &mut [i64],
 )
-    requires { TenMinutesFileKept file.now × (members ≡ Record.members (tenMinutesIn file.now))
-        × (Record.members (tenMinutesIn file.now) ≤ length charges.old)
-        × Chained (tenMinutesIn file.now) (tenMinutesIn file.now).count firsts.old nexts.old }
+    requires { TenMinutesFileKept file.now × (members ≡ Record.members (ten_minutes_in file.now))
+        × (Record.members (ten_minutes_in file.now) ≤ length charges.old)
+        × Chained (ten_minutes_in file.now) (ten_minutes_in file.now).count firsts.old nexts.old }
     ensures { charges.new
-        ≡ replacingFirst (tenMinutesCharge (tenMinutesIn file.now)) (Record.members (tenMinutesIn file.now))
+        ≡ replacingFirst (ten_minutes_charge (ten_minutes_in file.now)) (Record.members (ten_minutes_in file.now))
         charges.old }
 {
     crate::chain::put_chain(file, firsts, nexts);
@@ -115,10 +115,10 @@ fn put_charges_in(
 
 // The same, with rooms of its own, in which no record is chained yet.
 pub fn put_charges(file: &[u8], members: usize, charges: &mut [i64])
-    requires { TenMinutesFileKept file.now × (members ≡ Record.members (tenMinutesIn file.now))
-        × (Record.members (tenMinutesIn file.now) ≤ length charges.old) }
+    requires { TenMinutesFileKept file.now × (members ≡ Record.members (ten_minutes_in file.now))
+        × (Record.members (ten_minutes_in file.now) ≤ length charges.old) }
     ensures { charges.new
-        ≡ replacingFirst (tenMinutesCharge (tenMinutesIn file.now)) (Record.members (tenMinutesIn file.now))
+        ≡ replacingFirst (ten_minutes_charge (ten_minutes_in file.now)) (Record.members (ten_minutes_in file.now))
         charges.old }
 {
     let mut firsts = [64u8; 32];

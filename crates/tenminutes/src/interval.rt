@@ -8,7 +8,7 @@ ghost use Rattle.rules.specs.Charge.{entering};
 ghost use Rattle.rules.specs.TenMinutes as Ten;
 ghost use Rattle.rules.specs.Inner.Kept.{IntervalWords};
 ghost use Rattle.formula.specs.Meant.{meant};
-ghost use Rattle.tenminutes.specs.Shared.{sharedOf};
+ghost use Rattle.tenminutes.specs.Shared.{shared_of};
 
 use formula::entry::Entry;
 use rules::Kind;
@@ -17,7 +17,7 @@ use rules::Kind;
 // the hour before, or to the next.
 fn ramped(hour: i64, before: i64, next: i64, k: usize) -> i64
     requires { Upto hour 100000 × Upto before 100000 × Upto next 100000 }
-    ensures { result ≡ Ten.aSixth hour +ℤ cond (eqb k 0) (neg_ℤ (hour -ℤ before)) (cond (eqb k 5) (next -ℤ hour) (pos 0)) }
+    ensures { result ≡ Ten.a_sixth hour +ℤ cond (eqb k 0) (neg_ℤ (hour -ℤ before)) (cond (eqb k 5) (next -ℤ hour) (pos 0)) }
 {
     if k == 0 {
         return 4 * hour - (hour - before);
@@ -43,7 +43,7 @@ pub struct Shared {
 
 // Generators and loads metered in real time.
 fn is_ramped(shared: Shared) -> bool
-    ensures { result ≡ Ten.isRamped shared.kind }
+    ensures { result ≡ Ten.is_ramped shared.kind }
 {
     let kind = shared.kind;
     match kind {
@@ -59,7 +59,7 @@ fn is_ramped(shared: Shared) -> bool
 // The schedule of interval `k` of any kind.
 fn scheduled(shared: Shared, k: usize) -> i64
     requires { Upto shared.hour 100000 × Upto shared.before 100000 × Upto shared.next 100000 }
-    ensures { result ≡ Ten.aSixth shared.hour +ℤ cond (Ten.isRamped shared.kind)
+    ensures { result ≡ Ten.a_sixth shared.hour +ℤ cond (Ten.is_ramped shared.kind)
         (cond (eqb k 0) (neg_ℤ (shared.hour -ℤ shared.before)) (cond (eqb k 5) (shared.next -ℤ shared.hour) (pos 0))) (pos 0) }
 {
     if is_ramped(shared) {
@@ -71,8 +71,8 @@ fn scheduled(shared: Shared, k: usize) -> i64
 // What an interval was metered at: an import a sixth of its schedule, a load by profile a sixth of its hourly reading.
 fn actual(shared: Shared, own: i64) -> i64
     requires { Upto shared.hour 100000 × Upto shared.reading 100000 × Upto own 100000 }
-    ensures { result ≡ cond (Record.isImport shared.kind) (Ten.aSixth shared.hour)
-        (cond (Record.isProfile shared.kind) (Ten.aSixth shared.reading) (Ten.inFull own)) }
+    ensures { result ≡ cond (Record.is_import shared.kind) (Ten.a_sixth shared.hour)
+        (cond (Record.is_profile shared.kind) (Ten.a_sixth shared.reading) (Ten.in_full own)) }
 {
     let kind = shared.kind;
     match kind {
@@ -96,7 +96,7 @@ fn number(words: &[u8], k: usize) -> i64
 // An adjustment: word `k` in two's complement, times 24.
 fn adjustment(words: &[u8], k: usize) -> i64
     requires { (4 * k + 3 < length words.now) × Under (Record.signed (word words.now k)) 100000 }
-    ensures { result ≡ Ten.inFull (Record.signed (word words.now k)) }
+    ensures { result ≡ Ten.in_full (Record.signed (word words.now k)) }
 {
     24 * blocks::signed(blocks::whole_word(words, k))
 }
@@ -104,7 +104,7 @@ fn adjustment(words: &[u8], k: usize) -> i64
 // What the intervals of a record share, from its part.
 pub fn shared_in(words: &[u8]) -> Shared
     requires { length words.now ≡ 120 }
-    ensures { result ≡ sharedOf (word words.now) }
+    ensures { result ≡ shared_of (word words.now) }
 {
     Shared {
         kind: formula::entry::kind_of(blocks::whole_word(words, 0)),
@@ -119,8 +119,8 @@ pub fn shared_in(words: &[u8]) -> Shared
 
 // An interval of a record as an entry. Nothing is owed, and the maximum is what was metered, so that nothing is unavailable.
 fn entry(shared: Shared, words: &[u8], k: usize) -> Entry
-    requires { (length words.now ≡ 120) × IntervalWords (word words.now) × (k < 6) × (shared ≡ sharedOf (word words.now)) }
-    ensures { meant result ≡ Ten.intervalEntry (word words.now) k }
+    requires { (length words.now ≡ 120) × IntervalWords (word words.now) × (k < 6) × (shared ≡ shared_of (word words.now)) }
+    ensures { meant result ≡ Ten.interval_entry (word words.now) k }
 {
     let kind = shared.kind;
     let metered = actual(shared, number(words, 8 + k));
@@ -139,8 +139,8 @@ fn entry(shared: Shared, words: &[u8], k: usize) -> Entry
 
 // An interval's deviation, as it enters its member's net.
 pub fn deviation(shared: Shared, words: &[u8], k: usize) -> i64
-    requires { (length words.now ≡ 120) × IntervalWords (word words.now) × (k < 6) × (shared ≡ sharedOf (word words.now)) }
-    ensures { result ≡ entering (Ten.intervalEntry (word words.now) k) }
+    requires { (length words.now ≡ 120) × IntervalWords (word words.now) × (k < 6) × (shared ≡ shared_of (word words.now)) }
+    ensures { result ≡ entering (Ten.interval_entry (word words.now) k) }
 {
     let own = entry(shared, words, k);
     let kind = own.kind;

@@ -1,7 +1,7 @@
 // Ten-minute settlement: a record's intervals, a member's nets by zone and interval, what they cost, and the charges.
 ghost use Rattle.std.specs.Prelude.{◌≡◌};
-ghost use Rattle.rules.specs.Refusals.{verdictOf};
-ghost use Rattle.rules.specs.TenMinutes.{settleTenMinutes};
+ghost use Rattle.rules.specs.Refusals.{verdict_of};
+ghost use Rattle.rules.specs.TenMinutes.{settle_ten_minutes};
 
 use rules::Answer;
 
@@ -16,8 +16,8 @@ mod words;
 // Settles a ten-minute file: any bytes, any length of the charges. Every check runs before the first store, so that a refusal changes
 // nothing.
 pub fn settle(file: &[u8], charges: &mut [i64]) -> Answer
-    ensures verdict { verdictOf result ≡ (settleTenMinutes file.now charges.old).verdict }
-    ensures charges { charges.new ≡ (settleTenMinutes file.now charges.old).charges }
+    ensures verdict { verdict_of result ≡ (settle_ten_minutes file.now charges.old).verdict }
+    ensures charges { charges.new ≡ (settle_ten_minutes file.now charges.old).charges }
 {
     let examined = examine::examine_ten_minutes(file);
     let Answer::Accepted = examined else {

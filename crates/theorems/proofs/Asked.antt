@@ -25,66 +25,66 @@ use Rattle.report.proofs.written.put_written_hour.Reads as write-raw
 
 -- ---- the functions for C
 
-pub asks-nothing-sneupelaar-settle : (κs : Lfts 6) → AsksNothing (sneupelaar-settle.Asked κs)
-asks-nothing-sneupelaar-settle κs a = tt
+pub asks_nothing_sneupelaar_settle : (κs : Lfts 6) → AsksNothing (sneupelaar-settle.Asked κs)
+asks_nothing_sneupelaar_settle κs a = tt
 
-pub asks-nothing-sneupelaar-write : (κs : Lfts 1) → AsksNothing (sneupelaar-write.Asked κs)
-asks-nothing-sneupelaar-write κs a = tt
+pub asks_nothing_sneupelaar_write : (κs : Lfts 1) → AsksNothing (sneupelaar-write.Asked κs)
+asks_nothing_sneupelaar_write κs a = tt
 
-pub asks-nothing-sneupelaar-read : (κs : Lfts 1) → AsksNothing (sneupelaar-read.Asked κs)
-asks-nothing-sneupelaar-read κs a = tt
+pub asks_nothing_sneupelaar_read : (κs : Lfts 1) → AsksNothing (sneupelaar-read.Asked κs)
+asks_nothing_sneupelaar_read κs a = tt
 
-pub asks-nothing-sneupelaar-write-hour : (κs : Lfts 3) → AsksNothing (sneupelaar-write-hour.Asked κs)
-asks-nothing-sneupelaar-write-hour κs a = tt
+pub asks_nothing_sneupelaar_write_hour : (κs : Lfts 3) → AsksNothing (sneupelaar-write-hour.Asked κs)
+asks_nothing_sneupelaar_write_hour κs a = tt
 
-pub asks-nothing-sneupelaar-body : (κs : Lfts 1) → AsksNothing (sneupelaar-body.Asked κs)
-asks-nothing-sneupelaar-body κs a = tt
+pub asks_nothing_sneupelaar_body : (κs : Lfts 1) → AsksNothing (sneupelaar-body.Asked κs)
+asks_nothing_sneupelaar_body κs a = tt
 
-pub asks-nothing-sneupelaar-explain : (κs : Lfts 1) → AsksNothing (sneupelaar-explain.Asked κs)
-asks-nothing-sneupelaar-explain κs a = tt
+pub asks_nothing_sneupelaar_explain : (κs : Lfts 1) → AsksNothing (sneupelaar-explain.Asked κs)
+asks_nothing_sneupelaar_explain κs a = tt
 
-pub asks-nothing-sneupelaar-settle-ten-minutes : (κs : Lfts 2) → AsksNothing (sneupelaar-settle-ten-minutes.Asked κs)
-asks-nothing-sneupelaar-settle-ten-minutes κs a = tt
+pub asks_nothing_sneupelaar_settle_ten_minutes : (κs : Lfts 2) → AsksNothing (sneupelaar-settle-ten-minutes.Asked κs)
+asks_nothing_sneupelaar_settle_ten_minutes κs a = tt
 
 -- ---- settling, explaining, writing, reading
 
-pub asks-nothing-settle : (κs : Lfts 6) → AsksNothing (settle.Asked κs)
-asks-nothing-settle κs a = tt
+pub asks_nothing_settle : (κs : Lfts 6) → AsksNothing (settle.Asked κs)
+asks_nothing_settle κs a = tt
 
-pub asks-nothing-settle-unlined : (κs : Lfts 5) → AsksNothing (settle-unlined.Asked κs)
-asks-nothing-settle-unlined κs a = tt
+pub asks_nothing_settle_unlined : (κs : Lfts 5) → AsksNothing (settle-unlined.Asked κs)
+asks_nothing_settle_unlined κs a = tt
 
-pub asks-nothing-explain : (κs : Lfts 1) → AsksNothing (explain.Asked κs)
-asks-nothing-explain κs a = tt
+pub asks_nothing_explain : (κs : Lfts 1) → AsksNothing (explain.Asked κs)
+asks_nothing_explain κs a = tt
 
-pub asks-nothing-write-hour : (κs : Lfts 3) → AsksNothing (write-hour.Asked κs)
-asks-nothing-write-hour κs a = tt
+pub asks_nothing_write_hour : (κs : Lfts 3) → AsksNothing (write-hour.Asked κs)
+asks_nothing_write_hour κs a = tt
 
-pub asks-nothing-write : (κs : Lfts 1) → AsksNothing (write.Asked κs)
-asks-nothing-write κs a = tt
+pub asks_nothing_write : (κs : Lfts 1) → AsksNothing (write.Asked κs)
+asks_nothing_write κs a = tt
 
-pub asks-nothing-read : (κs : Lfts 1) → AsksNothing (read.Asked κs)
-asks-nothing-read κs a = tt
+pub asks_nothing_read : (κs : Lfts 1) → AsksNothing (read.Asked κs)
+asks_nothing_read κs a = tt
 
-pub asks-nothing-body : (κs : Lfts 1) → AsksNothing (body.Asked κs)
-asks-nothing-body κs a = tt
+pub asks_nothing_body : (κs : Lfts 1) → AsksNothing (body.Asked κs)
+asks_nothing_body κs a = tt
 
-pub asks-nothing-settle-ten-minutes : (κs : Lfts 2) → AsksNothing (settle-ten-minutes.Asked κs)
-asks-nothing-settle-ten-minutes κs a = tt
+pub asks_nothing_settle_ten_minutes : (κs : Lfts 2) → AsksNothing (settle-ten-minutes.Asked κs)
+asks_nothing_settle_ten_minutes κs a = tt
 
-pub asks-nothing-examine-ten-minutes : (κs : Lfts 1) → AsksNothing (examine-ten-minutes.Asked κs)
-asks-nothing-examine-ten-minutes κs a = tt
+pub asks_nothing_examine_ten_minutes : (κs : Lfts 1) → AsksNothing (examine-ten-minutes.Asked κs)
+asks_nothing_examine_ten_minutes κs a = tt
 
-pub asks-nothing-examine : (κs : Lfts 1) → AsksNothing (examine.Asked κs)
-asks-nothing-examine κs a = tt
+pub asks_nothing_examine : (κs : Lfts 1) → AsksNothing (examine.Asked κs)
+asks_nothing_examine κs a = tt
 
 -- ---- what the programs print
 
-pub asks-nothing-put-statement : (κs : Lfts 2) → AsksNothing (statement.Asked κs)
-asks-nothing-put-statement κs a = tt
+pub asks_nothing_put_statement : (κs : Lfts 2) → AsksNothing (statement.Asked κs)
+asks_nothing_put_statement κs a = tt
 
-pub asks-nothing-put-explanation : (κs : Lfts 2) → AsksNothing (explanation.Asked κs)
-asks-nothing-put-explanation κs a = tt
+pub asks_nothing_put_explanation : (κs : Lfts 2) → AsksNothing (explanation.Asked κs)
+asks_nothing_put_explanation κs a = tt
 
-pub asks-nothing-put-written-hour : (κs : Lfts 2) → AsksNothing (write-raw.Asked κs)
-asks-nothing-put-written-hour κs a = tt
+pub asks_nothing_put_written_hour : (κs : Lfts 2) → AsksNothing (write-raw.Asked κs)
+asks_nothing_put_written_hour κs a = tt

@@ -8,23 +8,23 @@ use lib.IntN.{ℤ}
 use lib.ListN.{length, take}
 use contract.Lifetimes.{Lfts}
 use Rattle.rules.specs.declared.Answer.TheVariants.{Accepted}
-use Rattle.rules.specs.Refusals.{Verdict, refusedAt, verdictOf, verdict, hourRows, Buffers}
+use Rattle.rules.specs.Refusals.{Verdict, refused_at, verdict_of, verdict, hour_rows, Buffers}
 use Rattle.rules.specs.Settling.{Settlement, settle as settling}
 use Rattle.rules.specs.Statement as Statement
-use Rattle.rules.proofs.Rows.{settle-verdict, settle-changes-nothing}
+use Rattle.rules.proofs.Rows.{settle_verdict, settle_changes_nothing}
 use Rattle.rules.proofs.Demands.{demand2, demand3}
-use Rattle.rules.proofs.Finals.{neutrality-shared}
+use Rattle.rules.proofs.Finals.{neutrality_shared}
 use Rattle.rules.proofs.Imports.{imports}
 use Rattle.rules.proofs.Engines.{engines}
-use Rattle.rules.proofs.Stated.{cut-input-same}
+use Rattle.rules.proofs.Stated.{cut_input_same}
 use Rattle.rules.proofs.Told.{sheet}
 use Rattle.amount.specs.Promised.{Wrote, HasRead}
 use Rattle.amount.proofs.RoundTrips as RoundTrips
 use Rattle.examine.proofs.Examined as Examined
 use Rattle.pool.specs.Buffers.{buffers}
-use Rattle.pool.specs.Unlined.{unlined, withLines, ownLines}
+use Rattle.pool.specs.Unlined.{unlined, with_lines, own_lines}
 use Rattle.report.specs.Stated.{HasStated}
-use Rattle.printing.proofs.Showing.{whole-text}
+use Rattle.printing.proofs.Showing.{whole_text}
 use Rattle.theorems.specs.Determined.{Gives}
 use Rattle.theorems.specs.Demanded.{KeepsDemands, KeepsDemandsUnlined}
 use Rattle.theorems.specs.Texts.{IsPut, IsPutOfCut, IsReadBack, CountsAreRead, SaysRefusal, Tells, ShowsSettled}
@@ -45,135 +45,135 @@ use Rattle.report.proofs.statement.put_statement.Reads as statement
 keeps : {s : List ℕ} {b after : Buffers} {v : Verdict} {u : List ℤ} →
     v ≡ (settling s b).verdict → u ≡ (settling s b).ufe → after ≡ (settling s b).buffers → KeepsDemands s b v u after
 keeps {s} {b} v u a = record {
-  by-the-table = v ∙ settle-verdict s b;
-  unchanged = λ refused. let same = settle-changes-nothing s b (λ e. refused (v ∙ e)) in (a ∙ same.0, u ∙ same.1);
-  by-formula = λ e. rw (u, a) (demand2.settled s b (sym v ∙ e));
+  by_the_table = v ∙ settle_verdict s b;
+  unchanged = λ refused. let same = settle_changes_nothing s b (λ e. refused (v ∙ e)) in (a ∙ same.0, u ∙ same.1);
+  by_formula = λ e. rw (u, a) (demand2.settled s b (sym v ∙ e));
   fair = λ e. rw (u, a) (demand3 s b (sym v ∙ e));
-  neutral = λ e. rw a (neutrality-shared.settled s b (sym v ∙ e));
-  held-to-demand = rw v (neutrality-shared.settle-held s b);
-  metered-import = λ i passed m. v ∙ imports.refused s b i passed m;
-  held-to-maximum = rw v (engines.settled s b);
+  neutral = λ e. rw a (neutrality_shared.settled s b (sym v ∙ e));
+  held_to_demand = rw v (neutrality_shared.settle_held s b);
+  metered_import = λ i passed m. v ∙ imports.refused s b i passed m;
+  held_to_maximum = rw v (engines.settled s b);
 }
 
-pub settle-keeps-demands : (κs : Lfts 6) → Gives (settle.Learnt κs) (λ a x s. KeepsDemands a.0.now
+pub settle_keeps_demands : (κs : Lfts 6) → Gives (settle.Learnt κs) (λ a x s. KeepsDemands a.0.now
     (buffers a.1.1.0.now a.1.1.1.0.now a.1.1.1.1.0.now a.1.1.1.1.1.0.now a.1.0.now)
-    (verdictOf x.answer) x.ufe
+    (verdict_of x.answer) x.ufe
     (buffers s.1.1.0.now s.1.1.1.0.now s.1.1.1.1.0.now s.1.1.1.1.1.0.now s.1.0.now))
-settle-keeps-demands κs a x s p = keeps p.verdict-is p.ufe-is p.buffers-are
+settle_keeps_demands κs a x s p = keeps p.verdict_is p.ufe_is p.buffers_are
 
 -- with the lines that it made itself
-pub settle-unlined-keeps-demands : (κs : Lfts 5) → Gives (settle-unlined.Learnt κs) (λ a x s. KeepsDemandsUnlined a.0.now
-    (withLines (unlined a.1.0.now a.1.1.0.now a.1.1.1.0.now a.1.1.1.1.0.now) ownLines)
-    (verdictOf x.answer) x.ufe
-    (withLines (unlined s.1.0.now s.1.1.0.now s.1.1.1.0.now s.1.1.1.1.0.now)))
-settle-unlined-keeps-demands κs a x s p =
-    (p.lines, keeps p.fits.verdict-is p.fits.ufe-is p.fits.buffers-are)
+pub settle_unlined_keeps_demands : (κs : Lfts 5) → Gives (settle-unlined.Learnt κs) (λ a x s. KeepsDemandsUnlined a.0.now
+    (with_lines (unlined a.1.0.now a.1.1.0.now a.1.1.1.0.now a.1.1.1.1.0.now) own_lines)
+    (verdict_of x.answer) x.ufe
+    (with_lines (unlined s.1.0.now s.1.1.0.now s.1.1.1.0.now s.1.1.1.1.0.now)))
+settle_unlined_keeps_demands κs a x s p =
+    (p.lines, keeps p.fits.verdict_is p.fits.ufe_is p.fits.buffers_are)
 
-pub sneupelaar-settle-keeps-demands : (κs : Lfts 6) → Gives (sneupelaar-settle.Learnt κs) (λ a x s. KeepsDemands a.0.now
+pub sneupelaar_settle_keeps_demands : (κs : Lfts 6) → Gives (sneupelaar-settle.Learnt κs) (λ a x s. KeepsDemands a.0.now
     (buffers a.1.1.0.now a.1.1.1.0.now a.1.1.1.1.0.now a.1.1.1.1.1.0.now a.1.0.now)
     (record { number = x.number; place = x.place }) x.ufe
     (buffers s.1.1.0.now s.1.1.1.0.now s.1.1.1.1.0.now s.1.1.1.1.1.0.now s.1.0.now))
-sneupelaar-settle-keeps-demands κs a x s p =
+sneupelaar_settle_keeps_demands κs a x s p =
     keeps (ap (λ (t : Settlement). t.verdict) p) (ap (λ (t : Settlement). t.ufe) p) (ap (λ (t : Settlement). t.buffers) p)
 
 -- ---- amounts as text
 
-pub write-promises : (κs : Lfts 1) → Gives (write.Learnt κs) (λ a x s. Wrote a.1.0.now a.0 x s.1.0.now)
-write-promises κs a x s p = record { verdict-is = p.0; field_is = p.1 }
+pub write_promises : (κs : Lfts 1) → Gives (write.Learnt κs) (λ a x s. Wrote a.1.0.now a.0 x s.1.0.now)
+write_promises κs a x s p = record { verdict_is = p.0; field_is = p.1 }
 
-pub read-promises : (κs : Lfts 1) → Gives (read.Learnt κs) (λ a x s. HasRead a.0.now x)
-read-promises κs a x s p = record { verdict-is = p.0; amount-is = p.1 }
+pub read_promises : (κs : Lfts 1) → Gives (read.Learnt κs) (λ a x s. HasRead a.0.now x)
+read_promises κs a x s p = record { verdict_is = p.0; amount_is = p.1 }
 
 -- written, then read
-pub written-is-read : (κs μs : Lfts 1) → Gives (write.Learnt κs) (λ a x s. x ≡ Accepted →
+pub written_is_read : (κs μs : Lfts 1) → Gives (write.Learnt κs) (λ a x s. x ≡ Accepted →
     Gives (read.Learnt μs) (λ b y t. IsReadAs a.0 s.1.0.now b.0.now y))
-written-is-read κs μs a x s p accepts b y t q same = RoundTrips.written-is-read _ _ a.0 y
-    (rw accepts at (write-promises κs a x s p)) (rw same at (read-promises μs b y t q))
+written_is_read κs μs a x s p accepts b y t q same = RoundTrips.written_is_read _ _ a.0 y
+    (rw accepts at (write_promises κs a x s p)) (rw same at (read_promises μs b y t q))
 
 -- read, then written at the same width
-pub read-is-written : (κs μs : Lfts 1) → Gives (read.Learnt κs) (λ a x s. x.answer ≡ Accepted →
+pub read_is_written : (κs μs : Lfts 1) → Gives (read.Learnt κs) (λ a x s. x.answer ≡ Accepted →
     Gives (write.Learnt μs) (λ b y t. IsWrittenAs x.amount a.0.now b.0 b.1.0.now y t.1.0.now))
-read-is-written κs μs a x s p accepts b y t q same width = RoundTrips.read-is-written a.0.now _ _ x.amount y
-    (record { verdict-is = ap verdictOf (sym accepts) ∙ p.0; amount-is = p.1 }) width (rw same at (write-promises μs b y t q))
+read_is_written κs μs a x s p accepts b y t q same width = RoundTrips.read_is_written a.0.now _ _ x.amount y
+    (record { verdict_is = ap verdict_of (sym accepts) ∙ p.0; amount_is = p.1 }) width (rw same at (write_promises μs b y t q))
 
 -- the same for C, with the answer as its number and place
-pub sneupelaar-write-promises : (κs : Lfts 1) → Gives (sneupelaar-write.Learnt κs) (λ a x s.
+pub sneupelaar_write_promises : (κs : Lfts 1) → Gives (sneupelaar-write.Learnt κs) (λ a x s.
     IsWritten a.1.0.now a.0 x.number x.place s.1.0.now)
-sneupelaar-write-promises κs a x s p = p
+sneupelaar_write_promises κs a x s p = p
 
-pub sneupelaar-read-promises : (κs : Lfts 1) → Gives (sneupelaar-read.Learnt κs) (λ a x s.
+pub sneupelaar_read_promises : (κs : Lfts 1) → Gives (sneupelaar-read.Learnt κs) (λ a x s.
     IsRead a.0.now x.number x.place x.amount)
-sneupelaar-read-promises κs a x s p = p
+sneupelaar_read_promises κs a x s p = p
 
 -- ---- the file and its statement
 
-pub sneupelaar-body-promises : (κs : Lfts 1) → Gives (sneupelaar-body.Learnt κs) (λ a x s.
+pub sneupelaar_body_promises : (κs : Lfts 1) → Gives (sneupelaar-body.Learnt κs) (λ a x s.
     IsBody a.0.now a.1.0 x.from x.length)
-sneupelaar-body-promises κs a x s p = p.1
+sneupelaar_body_promises κs a x s p = p.1
 
-pub examine-promises : (κs : Lfts 1) → Gives (examine.Learnt κs) (λ a x s. IsKept a.0.now x)
-examine-promises κs a x s p accepts = Examined.accepted-kept a.0.now x p accepts
+pub examine_promises : (κs : Lfts 1) → Gives (examine.Learnt κs) (λ a x s. IsKept a.0.now x)
+examine_promises κs a x s p accepts = Examined.accepted_kept a.0.now x p accepts
 
-pub statement-promises : (κs : Lfts 2) → Gives (statement.Learnt κs) (λ a x s. HasStated a.0.now a.1.0.now x s.1.0.now)
-statement-promises κs a x s p = record { count-is = p.0; out-is = p.1 }
+pub statement_promises : (κs : Lfts 2) → Gives (statement.Learnt κs) (λ a x s. HasStated a.0.now a.1.0.now x s.1.0.now)
+statement_promises κs a x s p = record { count_is = p.0; out_is = p.1 }
 
-pub statement-is-put : (κs : Lfts 2) → Gives (statement.Learnt κs) (λ a x s.
+pub statement_is_put : (κs : Lfts 2) → Gives (statement.Learnt κs) (λ a x s.
     IsPut 1095 (Statement.statement a.0.now) a.1.0.now x s.1.0.now)
-statement-is-put κs a x s p = whole-text (statement-promises κs a x s p)
+statement_is_put κs a x s p = whole_text (statement_promises κs a x s p)
 
 -- read, the columns of a member's line give its charge and its final
-pub statement-is-read-back : (κs : Lfts 2) → Gives (statement.Learnt κs) (λ a x s. IsReadBack a.0.now a.1.0.now x s.1.0.now)
-statement-is-read-back κs a x s p room accepts = rw (statement-is-put κs a x s p room) (sheet.read_back a.0.now accepts)
+pub statement_is_read_back : (κs : Lfts 2) → Gives (statement.Learnt κs) (λ a x s. IsReadBack a.0.now a.1.0.now x s.1.0.now)
+statement_is_read_back κs a x s p room accepts = rw (statement_is_put κs a x s p room) (sheet.read_back a.0.now accepts)
 
 -- line 1 gives the hour number and the counts; a refusal its number and place
-pub statement-counts-are-read : (κs : Lfts 2) → Gives (statement.Learnt κs) (λ a x s.
+pub statement_counts_are_read : (κs : Lfts 2) → Gives (statement.Learnt κs) (λ a x s.
     CountsAreRead a.0.now a.1.0.now x s.1.0.now)
-statement-counts-are-read κs a x s p room bytes accepts =
-    rw (statement-is-put κs a x s p room) (sheet.counts-read a.0.now bytes accepts)
+statement_counts_are_read κs a x s p room bytes accepts =
+    rw (statement_is_put κs a x s p room) (sheet.counts_read a.0.now bytes accepts)
 
-pub statement-says-refusal : (κs : Lfts 2) → Gives (statement.Learnt κs) (λ a x s.
-    SaysRefusal 1095 a.0.now (verdict (hourRows a.0.now)) a.1.0.now x s.1.0.now)
-statement-says-refusal κs a x s p room bytes refused =
-    rw (statement-is-put κs a x s p room) (sheet.refused-read a.0.now bytes refused)
+pub statement_says_refusal : (κs : Lfts 2) → Gives (statement.Learnt κs) (λ a x s.
+    SaysRefusal 1095 a.0.now (verdict (hour_rows a.0.now)) a.1.0.now x s.1.0.now)
+statement_says_refusal κs a x s p room bytes refused =
+    rw (statement_is_put κs a x s p room) (sheet.refused_read a.0.now bytes refused)
 
 -- a reader that stops one byte past the longest file prints what its whole input asks for
-pub cut-input-is-put : (κs : Lfts 2) (input : List ℕ) → Gives (statement.Learnt κs) (λ a x s.
+pub cut_input_is_put : (κs : Lfts 2) (input : List ℕ) → Gives (statement.Learnt κs) (λ a x s.
     IsPutOfCut 13313 1095 Statement.statement input a.0.now a.1.0.now x s.1.0.now)
-cut-input-is-put κs input a x s p cut room =
-    statement-is-put κs a x s p room ∙ ap Statement.statement cut ∙ cut-input-same input
+cut_input_is_put κs input a x s p cut room =
+    statement_is_put κs a x s p room ∙ ap Statement.statement cut ∙ cut_input_same input
 
 -- two statements that are the same say the same of both files
-pub statement-tells : (κs μs : Lfts 2) → Gives (statement.Learnt κs) (λ a x s. 1095 ≤ length a.1.0.now →
+pub statement_tells : (κs μs : Lfts 2) → Gives (statement.Learnt κs) (λ a x s. 1095 ≤ length a.1.0.now →
     Gives (statement.Learnt μs) (λ b y t. 1095 ≤ length b.1.0.now →
     Tells a.0.now (take x s.1.0.now) b.0.now (take y t.1.0.now)))
-statement-tells κs μs a x s p room b y t q room₂ bytes bytes₂ same = sheet.tells a.0.now b.0.now bytes bytes₂
-    (sym (statement-is-put κs a x s p room) ∙ same ∙ statement-is-put μs b y t q room₂)
+statement_tells κs μs a x s p room b y t q room₂ bytes bytes₂ same = sheet.tells a.0.now b.0.now bytes bytes₂
+    (sym (statement_is_put κs a x s p room) ∙ same ∙ statement_is_put μs b y t q room₂)
 
 -- ---- settled, then printed: the columns of each member's line, read, give the charge and the final that settling wrote
 
-pub settled-is-printed : (κs : Lfts 6) (μs : Lfts 2) → Gives (settle.Learnt κs) (λ a x s. x.answer ≡ Accepted →
+pub settled_is_printed : (κs : Lfts 6) (μs : Lfts 2) → Gives (settle.Learnt κs) (λ a x s. x.answer ≡ Accepted →
     Gives (statement.Learnt μs) (λ b y t. ShowsSettled a.0.now
     (buffers s.1.1.0.now s.1.1.1.0.now s.1.1.1.1.0.now s.1.1.1.1.1.0.now s.1.0.now)
     b.0.now b.1.0.now (take y t.1.0.now)))
-settled-is-printed κs μs a x s p accepts b y t q same room =
+settled_is_printed κs μs a x s p accepts b y t q same room =
     let lent = buffers a.1.1.0.now a.1.1.1.0.now a.1.1.1.1.0.now a.1.1.1.1.1.0.now a.1.0.now in
-    let shown = sheet.as_settled a.0.now lent (sym p.verdict-is ∙ ap verdictOf accepts) in
+    let shown = sheet.as_settled a.0.now lent (sym p.verdict_is ∙ ap verdict_of accepts) in
     rw (
-      statement-is-put μs b y t q room ∙ ap Statement.statement same,
-      ap (λ (z : Buffers). z.charges) p.buffers-are,
-      ap (λ (z : Buffers). z.finals) p.buffers-are,
+      statement_is_put μs b y t q room ∙ ap Statement.statement same,
+      ap (λ (z : Buffers). z.charges) p.buffers_are,
+      ap (λ (z : Buffers). z.finals) p.buffers_are,
     ) shown
 
 -- the same for C
-pub sneupelaar-settled-is-printed : (κs : Lfts 6) (μs : Lfts 2) → Gives (sneupelaar-settle.Learnt κs) (λ a x s. x.number ≡ 0 → x.place ≡ 0 →
+pub sneupelaar_settled_is_printed : (κs : Lfts 6) (μs : Lfts 2) → Gives (sneupelaar-settle.Learnt κs) (λ a x s. x.number ≡ 0 → x.place ≡ 0 →
     Gives (statement.Learnt μs) (λ b y t. ShowsSettled a.0.now
     (buffers s.1.1.0.now s.1.1.1.0.now s.1.1.1.1.0.now s.1.1.1.1.1.0.now s.1.0.now)
     b.0.now b.1.0.now (take y t.1.0.now)))
-sneupelaar-settled-is-printed κs μs a x s p number place b y t q same room =
+sneupelaar_settled_is_printed κs μs a x s p number place b y t q same room =
     let lent = buffers a.1.1.0.now a.1.1.1.0.now a.1.1.1.1.0.now a.1.1.1.1.1.0.now a.1.0.now in
-    let shown = sheet.as_settled a.0.now lent (sym (ap (λ (z : Settlement). z.verdict) p) ∙ ap₂ refusedAt number place) in
+    let shown = sheet.as_settled a.0.now lent (sym (ap (λ (z : Settlement). z.verdict) p) ∙ ap₂ refused_at number place) in
     rw (
-      statement-is-put μs b y t q room ∙ ap Statement.statement same,
+      statement_is_put μs b y t q room ∙ ap Statement.statement same,
       ap (λ (z : Settlement). z.buffers.charges) p,
       ap (λ (z : Settlement). z.buffers.finals) p,
     ) shown

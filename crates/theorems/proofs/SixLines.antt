@@ -9,20 +9,20 @@ use lib.ListN.{length, take}
 use contract.Lifetimes.{Lfts}
 use Rattle.rules.specs.declared.Answer.TheVariants.{Accepted}
 use Rattle.rules.specs.Record.{members}
-use Rattle.rules.specs.HourFile.{hourIn}
-use Rattle.rules.specs.Refusals.{Verdict, accepted, refusedAt, verdictOf, Buffers}
+use Rattle.rules.specs.HourFile.{hour_in}
+use Rattle.rules.specs.Refusals.{Verdict, accepted, refused_at, verdict_of, Buffers}
 use Rattle.rules.specs.Settling.{Settlement, settle as settling}
 use Rattle.rules.specs.Explanation as Explanation
 use Rattle.rules.specs.Promised.Demands.{Accepts}
-use Rattle.rules.specs.Promised.SixLines.{SaysHeads, answerTo}
-use Rattle.rules.proofs.SixLines.{long-enough, six-lines}
+use Rattle.rules.specs.Promised.SixLines.{SaysHeads, answer_to}
+use Rattle.rules.proofs.SixLines.{long_enough, six_lines}
 use Rattle.pool.specs.Buffers.{buffers}
 use Rattle.explain.specs.Answered.{answered}
-use Rattle.explain.specs.HandedOut.{explanationOf}
+use Rattle.explain.specs.HandedOut.{explanation_of}
 use Rattle.theorems.specs.Determined.{Gives}
 use Rattle.theorems.specs.Demanded.{ExplainsOutcome}
 use Rattle.theorems.specs.Texts.{SaysRefusal, SaysAnswer, TellsAnswer, SaysOutcome, SaysExplained}
-use Rattle.theorems.proofs.Explaining.{explanation-is-put}
+use Rattle.theorems.proofs.Explaining.{explanation_is_put}
 use Rattle.explain.proofs.explain.Reads as explain
 use Rattle.report.proofs.explanation.put_explanation.Reads as explanation
 use Rattle.pool.proofs.Port.settle.Reads as settle
@@ -32,67 +32,67 @@ use Rattle.explain.proofs.boundary.sneupelaar_explain.Reads as sneupelaar-explai
 -- ---- what the bytes say
 
 -- read, the bytes put say exactly what is answered
-pub explanation-says : (κs : Lfts 2) → Gives (explanation.Learnt κs) (λ a x s. SaysAnswer a.0.now a.1.0.now x s.1.0.now)
-explanation-says κs a x s p room hs d = rw (explanation-is-put κs a x s p room) (six-lines.read_back a.0.now hs d)
+pub explanation_says : (κs : Lfts 2) → Gives (explanation.Learnt κs) (λ a x s. SaysAnswer a.0.now a.1.0.now x s.1.0.now)
+explanation_says κs a x s p room hs d = rw (explanation_is_put κs a x s p room) (six_lines.read_back a.0.now hs d)
 
-pub explanation-says-refusal : (κs : Lfts 2) → Gives (explanation.Learnt κs) (λ a x s.
-    SaysRefusal 165 a.0.now (answerTo a.0.now).verdict a.1.0.now x s.1.0.now)
-explanation-says-refusal κs a x s p room bytes refused =
-    rw (explanation-is-put κs a x s p room) (six-lines.refused-read a.0.now bytes refused)
+pub explanation_says_refusal : (κs : Lfts 2) → Gives (explanation.Learnt κs) (λ a x s.
+    SaysRefusal 165 a.0.now (answer_to a.0.now).verdict a.1.0.now x s.1.0.now)
+explanation_says_refusal κs a x s p room bytes refused =
+    rw (explanation_is_put κs a x s p room) (six_lines.refused_read a.0.now bytes refused)
 
-pub explanation-tells : (κs μs : Lfts 2) → Gives (explanation.Learnt κs) (λ a x s. 165 ≤ length a.1.0.now →
+pub explanation_tells : (κs μs : Lfts 2) → Gives (explanation.Learnt κs) (λ a x s. 165 ≤ length a.1.0.now →
     Gives (explanation.Learnt μs) (λ b y t. 165 ≤ length b.1.0.now →
     TellsAnswer a.0.now (take x s.1.0.now) b.0.now (take y t.1.0.now)))
-explanation-tells κs μs a x s p room b y t q room₂ bytes bytes₂ same = six-lines.tells a.0.now b.0.now bytes bytes₂
-    (sym (explanation-is-put κs a x s p room) ∙ same ∙ explanation-is-put μs b y t q room₂)
+explanation_tells κs μs a x s p room b y t q room₂ bytes bytes₂ same = six_lines.tells a.0.now b.0.now bytes bytes₂
+    (sym (explanation_is_put κs a x s p room) ∙ same ∙ explanation_is_put μs b y t q room₂)
 
 -- ---- settled, then printed: what is read from the text adds up to what settling wrote into the member's line, and decided on the charge that
 -- it wrote
 
-said-outcome : (input : List ℕ) (b : Buffers) {file : List ℕ} → Accepts file b → 4 ≤ length input → Explanation.hourAsked input ≡ file →
-    Explanation.memberAsked input < members (hourIn file) → (hs : List ℤ) (d : Option ℕ) → SaysHeads (Explanation.explanation input) hs d →
-    ExplainsOutcome (hourIn file) (settling file b).buffers (Explanation.memberAsked input) hs d
-said-outcome input b {file} accepts long same there hs d says =
-    rw same at (six-lines.as_settled input b hs d long (rw same accepts) (rw same there) says)
+said_outcome : (input : List ℕ) (b : Buffers) {file : List ℕ} → Accepts file b → 4 ≤ length input → Explanation.hour_asked input ≡ file →
+    Explanation.member_asked input < members (hour_in file) → (hs : List ℤ) (d : Option ℕ) → SaysHeads (Explanation.explanation input) hs d →
+    ExplainsOutcome (hour_in file) (settling file b).buffers (Explanation.member_asked input) hs d
+said_outcome input b {file} accepts long same there hs d says =
+    rw same at (six_lines.as_settled input b hs d long (rw same accepts) (rw same there) says)
 
-pub settled-is-said : (κs : Lfts 6) (μs : Lfts 2) → Gives (settle.Learnt κs) (λ a x s. x.answer ≡ Accepted →
+pub settled_is_said : (κs : Lfts 6) (μs : Lfts 2) → Gives (settle.Learnt κs) (λ a x s. x.answer ≡ Accepted →
     Gives (explanation.Learnt μs) (λ b y t. SaysOutcome a.0.now
     (buffers s.1.1.0.now s.1.1.1.0.now s.1.1.1.1.0.now s.1.1.1.1.1.0.now s.1.0.now)
     b.0.now b.1.0.now (take y t.1.0.now)))
-settled-is-said κs μs a x s p accepts b y t q long same room there hs d says =
+settled_is_said κs μs a x s p accepts b y t q long same room there hs d says =
     let lent = buffers a.1.1.0.now a.1.1.1.0.now a.1.1.1.1.0.now a.1.1.1.1.1.0.now a.1.0.now in
-    let e = said-outcome b.0.now lent (sym p.verdict-is ∙ ap verdictOf accepts) long same there hs d
-    (rw (explanation-is-put μs b y t q room) at says) in
-    rw (ap (λ (z : Buffers). z.lines) p.buffers-are, ap (λ (z : Buffers). z.charges) p.buffers-are) e
+    let e = said_outcome b.0.now lent (sym p.verdict_is ∙ ap verdict_of accepts) long same there hs d
+    (rw (explanation_is_put μs b y t q room) at says) in
+    rw (ap (λ (z : Buffers). z.lines) p.buffers_are, ap (λ (z : Buffers). z.charges) p.buffers_are) e
 
 -- the same for C
-pub sneupelaar-settled-is-said : (κs : Lfts 6) (μs : Lfts 2) → Gives (sneupelaar-settle.Learnt κs) (λ a x s. x.number ≡ 0 → x.place ≡ 0 →
+pub sneupelaar_settled_is_said : (κs : Lfts 6) (μs : Lfts 2) → Gives (sneupelaar-settle.Learnt κs) (λ a x s. x.number ≡ 0 → x.place ≡ 0 →
     Gives (explanation.Learnt μs) (λ b y t. SaysOutcome a.0.now
     (buffers s.1.1.0.now s.1.1.1.0.now s.1.1.1.1.0.now s.1.1.1.1.1.0.now s.1.0.now)
     b.0.now b.1.0.now (take y t.1.0.now)))
-sneupelaar-settled-is-said κs μs a x s p number place b y t q long same room there hs d says =
+sneupelaar_settled_is_said κs μs a x s p number place b y t q long same room there hs d says =
     let lent = buffers a.1.1.0.now a.1.1.1.0.now a.1.1.1.1.0.now a.1.1.1.1.1.0.now a.1.0.now in
-    let accepts = sym (ap (λ (z : Settlement). z.verdict) p) ∙ ap₂ refusedAt number place in
-    let e = said-outcome b.0.now lent accepts long same there hs d (rw (explanation-is-put μs b y t q room) at says) in
+    let accepts = sym (ap (λ (z : Settlement). z.verdict) p) ∙ ap₂ refused_at number place in
+    let e = said_outcome b.0.now lent accepts long same there hs d (rw (explanation_is_put μs b y t q room) at says) in
     rw (ap (λ (z : Settlement). z.buffers.lines) p, ap (λ (z : Settlement). z.buffers.charges) p) e
 
 -- ---- explained, then printed: the text says the numbers that were handed out
 
-said-explained : (input : List ℕ) {file : List ℕ} {m : ℕ} {e : Explanation.Explanation} → e ≡ Explanation.explain file m →
-    4 ≤ length input → Explanation.hourAsked input ≡ file → Explanation.memberAsked input ≡ m → e.verdict ≡ accepted →
+said_explained : (input : List ℕ) {file : List ℕ} {m : ℕ} {e : Explanation.Explanation} → e ≡ Explanation.explain file m →
+    4 ≤ length input → Explanation.hour_asked input ≡ file → Explanation.member_asked input ≡ m → e.verdict ≡ accepted →
     SaysHeads (Explanation.explanation input) e.heads e.decided
-said-explained input {file} {m} {e} is long same same-member accepts = (six-lines.read_back input e.heads e.decided).1
-    (long-enough input long ∙ ap₂ Explanation.explain same same-member ∙ sym is
+said_explained input {file} {m} {e} is long same same-member accepts = (six_lines.read_back input e.heads e.decided).1
+    (long_enough input long ∙ ap₂ Explanation.explain same same-member ∙ sym is
     ∙ ap (λ (v : Verdict). record { verdict = v; heads = e.heads; decided = e.decided }) accepts)
 
-pub explained-is-said : (κs : Lfts 1) (μs : Lfts 2) → Gives (explain.Learnt κs) (λ a x s. Gives (explanation.Learnt μs) (λ b y t.
+pub explained_is_said : (κs : Lfts 1) (μs : Lfts 2) → Gives (explain.Learnt κs) (λ a x s. Gives (explanation.Learnt μs) (λ b y t.
     SaysExplained a.0.now a.1.0 (answered x) b.0.now b.1.0.now (take y t.1.0.now)))
-explained-is-said κs μs a x s p b y t q long same same-member room accepts =
-    rw (explanation-is-put μs b y t q room) (said-explained b.0.now p long same same-member accepts)
+explained_is_said κs μs a x s p b y t q long same same-member room accepts =
+    rw (explanation_is_put μs b y t q room) (said_explained b.0.now p long same same-member accepts)
 
 -- the same for C
-pub sneupelaar-explained-is-said : (κs : Lfts 1) (μs : Lfts 2) → Gives (sneupelaar-explain.Learnt κs) (λ a x s.
+pub sneupelaar_explained_is_said : (κs : Lfts 1) (μs : Lfts 2) → Gives (sneupelaar-explain.Learnt κs) (λ a x s.
     Gives (explanation.Learnt μs) (λ b y t.
-    SaysExplained a.0.now a.1.0 (explanationOf x) b.0.now b.1.0.now (take y t.1.0.now)))
-sneupelaar-explained-is-said κs μs a x s p b y t q long same same-member room accepts =
-    rw (explanation-is-put μs b y t q room) (said-explained b.0.now p long same same-member accepts)
+    SaysExplained a.0.now a.1.0 (explanation_of x) b.0.now b.1.0.now (take y t.1.0.now)))
+sneupelaar_explained_is_said κs μs a x s p b y t q long same same-member room accepts =
+    rw (explanation_is_put μs b y t q room) (said_explained b.0.now p long same same-member accepts)

@@ -1,7 +1,7 @@
 -- Functions of values: numbers, kinds, answers, entries, tallies, lines.
 use contract.Lifetimes.{Lfts}
 use Rattle.theorems.specs.Determined.{OneResult}
-use Rattle.theorems.proofs.Laws.{agree, agree-found}
+use Rattle.theorems.proofs.Laws.{agree, agree_found}
 use Rattle.whole.proofs.size_of.Reads as type_size
 use Rattle.whole.proofs.with_sign_of.Reads as with-sign-of
 use Rattle.answer.proofs.number_of.Reads as number_of_lem
@@ -23,98 +23,98 @@ use Rattle.formula.proofs.posting.empty_tally.Reads as empty-tally
 use Rattle.formula.proofs.posting.tallied.Reads as tallied
 use Rattle.formula.proofs.posting.empty_line.Reads as empty-line
 use Rattle.formula.proofs.posting.line_with.Reads as line-with
-use Rattle.formula.proofs.rounding.cents_of.Reads as cents-of
+use Rattle.formula.proofs.rounding.cents_of.Reads as cents_of_lem
 use Rattle.formula.proofs.posting.cents.Reads as cents
 use Rattle.formula.proofs.posting.charge_of.Reads as charge-of
 use Rattle.byarea.proofs.area_without_demand.Reads as area-without-demand
-use Rattle.byarea.proofs.nobody_demands.Reads as nobody-demands
+use Rattle.byarea.proofs.nobody_demands.Reads as nobody_demands
 use Rattle.blocks.proofs.signed.Reads as signed
 use Rattle.rules.proofs.hourly.Reads as hourly
-use Rattle.rules.proofs.ten_minutes.Reads as ten-minutes
+use Rattle.rules.proofs.ten_minutes.Reads as ten_minutes_lem
 
-pub one-size-of : (κs : Lfts 0) → OneResult (type_size.Learnt κs)
-one-size-of κs a x y s t = agree
+pub one_size_of : (κs : Lfts 0) → OneResult (type_size.Learnt κs)
+one_size_of κs a x y s t = agree
 
-pub one-with-sign-of : (κs : Lfts 0) → OneResult (with-sign-of.Learnt κs)
-one-with-sign-of κs a x y s t = agree
+pub one_with_sign_of : (κs : Lfts 0) → OneResult (with-sign-of.Learnt κs)
+one_with_sign_of κs a x y s t = agree
 
-pub one-number-of : (κs : Lfts 0) → OneResult (number_of_lem.Learnt κs)
-one-number-of κs a x y s t = agree
+pub one_number_of : (κs : Lfts 0) → OneResult (number_of_lem.Learnt κs)
+one_number_of κs a x y s t = agree
 
-pub one-place-of : (κs : Lfts 0) → OneResult (place_of.Learnt κs)
-one-place-of κs a x y s t = agree
+pub one_place_of : (κs : Lfts 0) → OneResult (place_of.Learnt κs)
+one_place_of κs a x y s t = agree
 
-pub one-refused : (κs : Lfts 0) → OneResult (refused.Learnt κs)
-one-refused κs a x y s t = agree
+pub one_refused : (κs : Lfts 0) → OneResult (refused.Learnt κs)
+one_refused κs a x y s t = agree
 
-pub one-digit : (κs : Lfts 0) → OneResult (digit.Learnt κs)
-one-digit κs a x y s t = agree
+pub one_digit : (κs : Lfts 0) → OneResult (digit.Learnt κs)
+one_digit κs a x y s t = agree
 
-pub one-digits : (κs : Lfts 0) → OneResult (digits.Learnt κs)
-one-digits κs a x y s t = agree
+pub one_digits : (κs : Lfts 0) → OneResult (digits.Learnt κs)
+one_digits κs a x y s t = agree
 
-pub one-keeps : (κs : Lfts 0) → OneResult (keeps.Learnt κs)
-one-keeps κs a x y s t = agree
+pub one_keeps : (κs : Lfts 0) → OneResult (keeps.Learnt κs)
+one_keeps κs a x y s t = agree
 
-pub one-block-rule : (κs : Lfts 0) → OneResult (block-rule.Learnt κs)
-one-block-rule κs a x y s t = agree
+pub one_block_rule : (κs : Lfts 0) → OneResult (block-rule.Learnt κs)
+one_block_rule κs a x y s t = agree
 
-pub one-head-rule : (κs : Lfts 0) → OneResult (head-rule.Learnt κs)
-one-head-rule κs a x y s t = agree
+pub one_head_rule : (κs : Lfts 0) → OneResult (head-rule.Learnt κs)
+one_head_rule κs a x y s t = agree
 
-pub one-record-keeps : (κs : Lfts 0) → OneResult (record-keeps.Learnt κs)
-one-record-keeps κs a x y s t = agree
+pub one_record_keeps : (κs : Lfts 0) → OneResult (record-keeps.Learnt κs)
+one_record_keeps κs a x y s t = agree
 
-pub one-scheduled-above : (κs : Lfts 0) → OneResult (scheduled-above.Learnt κs)
-one-scheduled-above κs a x y s t = agree
+pub one_scheduled_above : (κs : Lfts 0) → OneResult (scheduled-above.Learnt κs)
+one_scheduled_above κs a x y s t = agree
 
-pub one-kind-of : (κs : Lfts 0) → OneResult (kind-of.Learnt κs)
-one-kind-of κs a x y s t = agree
+pub one_kind_of : (κs : Lfts 0) → OneResult (kind-of.Learnt κs)
+one_kind_of κs a x y s t = agree
 
-pub one-is-load : (κs : Lfts 0) → OneResult (is-load.Learnt κs)
-one-is-load κs a x y s t = agree
+pub one_is_load : (κs : Lfts 0) → OneResult (is-load.Learnt κs)
+one_is_load κs a x y s t = agree
 
-pub one-deviation : (κs : Lfts 0) → OneResult (deviation.Learnt κs)
-one-deviation κs a x y s t = agree
+pub one_deviation : (κs : Lfts 0) → OneResult (deviation.Learnt κs)
+one_deviation κs a x y s t = agree
 
-pub one-entering : (κs : Lfts 0) → OneResult (entering.Learnt κs)
-one-entering κs a x y s t = agree
+pub one_entering : (κs : Lfts 0) → OneResult (entering.Learnt κs)
+one_entering κs a x y s t = agree
 
-pub one-accounted : (κs : Lfts 0) → OneResult (accounted.Learnt κs)
-one-accounted κs a x y s t = agree
+pub one_accounted : (κs : Lfts 0) → OneResult (accounted.Learnt κs)
+one_accounted κs a x y s t = agree
 
-pub one-empty-tally : (κs : Lfts 0) → OneResult (empty-tally.Learnt κs)
-one-empty-tally κs a x y s t = agree
+pub one_empty_tally : (κs : Lfts 0) → OneResult (empty-tally.Learnt κs)
+one_empty_tally κs a x y s t = agree
 
-pub one-tallied : (κs : Lfts 0) → OneResult (tallied.Learnt κs)
-one-tallied κs a x y s t = agree
+pub one_tallied : (κs : Lfts 0) → OneResult (tallied.Learnt κs)
+one_tallied κs a x y s t = agree
 
-pub one-empty-line : (κs : Lfts 0) → OneResult (empty-line.Learnt κs)
-one-empty-line κs a x y s t = agree
+pub one_empty_line : (κs : Lfts 0) → OneResult (empty-line.Learnt κs)
+one_empty_line κs a x y s t = agree
 
-pub one-line-with : (κs : Lfts 0) → OneResult (line-with.Learnt κs)
-one-line-with κs a x y s t = agree
+pub one_line_with : (κs : Lfts 0) → OneResult (line-with.Learnt κs)
+one_line_with κs a x y s t = agree
 
-pub one-cents-of : (κs : Lfts 0) → OneResult (cents-of.Learnt κs)
-one-cents-of κs a x y s t = agree
+pub one_cents_of : (κs : Lfts 0) → OneResult (cents_of_lem.Learnt κs)
+one_cents_of κs a x y s t = agree
 
-pub one-cents : (κs : Lfts 0) → OneResult (cents.Learnt κs)
-one-cents κs a x y s t = agree
+pub one_cents : (κs : Lfts 0) → OneResult (cents.Learnt κs)
+one_cents κs a x y s t = agree
 
-pub one-charge-of : (κs : Lfts 0) → OneResult (charge-of.Learnt κs)
-one-charge-of κs a x y s t = agree
+pub one_charge_of : (κs : Lfts 0) → OneResult (charge-of.Learnt κs)
+one_charge_of κs a x y s t = agree
 
-pub one-area-without-demand : (κs : Lfts 0) → OneResult (area-without-demand.Learnt κs)
-one-area-without-demand κs a x y s t = agree-found
+pub one_area_without_demand : (κs : Lfts 0) → OneResult (area-without-demand.Learnt κs)
+one_area_without_demand κs a x y s t = agree_found
 
-pub one-nobody-demands : (κs : Lfts 0) → OneResult (nobody-demands.Learnt κs)
-one-nobody-demands κs a x y s t = agree
+pub one_nobody_demands : (κs : Lfts 0) → OneResult (nobody_demands.Learnt κs)
+one_nobody_demands κs a x y s t = agree
 
-pub one-signed : (κs : Lfts 0) → OneResult (signed.Learnt κs)
-one-signed κs a x y s t = agree
+pub one_signed : (κs : Lfts 0) → OneResult (signed.Learnt κs)
+one_signed κs a x y s t = agree
 
-pub one-hourly : (κs : Lfts 0) → OneResult (hourly.Learnt κs)
-one-hourly κs a x y s t = agree
+pub one_hourly : (κs : Lfts 0) → OneResult (hourly.Learnt κs)
+one_hourly κs a x y s t = agree
 
-pub one-ten-minutes : (κs : Lfts 0) → OneResult (ten-minutes.Learnt κs)
-one-ten-minutes κs a x y s t = agree
+pub one_ten_minutes : (κs : Lfts 0) → OneResult (ten_minutes_lem.Learnt κs)
+one_ten_minutes κs a x y s t = agree

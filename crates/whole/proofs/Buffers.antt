@@ -15,146 +15,146 @@ use Rattle.whole.specs.Below.{valuesBelow, replacingFirst}
 use Rattle.whole.proofs.Tests.{split, last-or-below}
 
 module _ {ℓ} {A : Type ℓ} where
-  pub values-ext : (f g : ℕ → A) (n : ℕ) → ((i : ℕ) → i < n → f i ≡ g i) → valuesBelow f n ≡ valuesBelow g n
+  pub values_ext : (f g : ℕ → A) (n : ℕ) → ((i : ℕ) → i < n → f i ≡ g i) → valuesBelow f n ≡ valuesBelow g n
   unfolding valuesBelow
-  values-ext f g zero e = refl
-  values-ext f g (suc n) e = ap₂ (λ (l : List A) (a : A). l ++ a ∷ []) (values-ext f g n (λ i l. e i (omega arith))) (e n (omega arith))
+  values_ext f g zero e = refl
+  values_ext f g (suc n) e = ap₂ (λ (l : List A) (a : A). l ++ a ∷ []) (values_ext f g n (λ i l. e i (omega arith))) (e n (omega arith))
 
-  pub replacing-ext : (f g : ℕ → A) (n : ℕ) (old : List A) → ((i : ℕ) → i < n → f i ≡ g i) → replacingFirst f n old ≡ replacingFirst g n old
+  pub replacing_ext : (f g : ℕ → A) (n : ℕ) (old : List A) → ((i : ℕ) → i < n → f i ≡ g i) → replacingFirst f n old ≡ replacingFirst g n old
   unfolding replacingFirst
-  replacing-ext f g n old e = ap (λ (l : List A). l ++ drop n old) (values-ext f g n e)
+  replacing_ext f g n old e = ap (λ (l : List A). l ++ drop n old) (values_ext f g n e)
 
 module _ {ℓ} {A : Type ℓ} (f : ℕ → A) where
-  pub length-values : (n : ℕ) → length (valuesBelow f n) ≡ n
+  pub length_values : (n : ℕ) → length (valuesBelow f n) ≡ n
   unfolding valuesBelow
-  length-values zero = refl
-  length-values (suc n) = length-append (valuesBelow f n) (f n ∷ []) ∙ let e = length-values n in omega arith
+  length_values zero = refl
+  length_values (suc n) = length-append (valuesBelow f n) (f n ∷ []) ∙ let e = length_values n in omega arith
 
-  pub getD-values : (n i : ℕ) (d : A) → i < n → get_or (valuesBelow f n) i d ≡ f i
+  pub get_or_values : (n i : ℕ) (d : A) → i < n → get_or (valuesBelow f n) i d ≡ f i
   unfolding valuesBelow
-  getD-values zero i d l = absurd (not-suc-le-zero l)
-  getD-values (suc n) i d l = last-or-below i n l
-      (λ e. rw e (get_or_at (valuesBelow f n) (f n) [] d n (length-values n)))
-      (λ m. get_or-append (valuesBelow f n) (f n ∷ []) d i (let e = length-values n in omega arith) ∙ getD-values n i d m)
+  get_or_values zero i d l = absurd (not-suc-le-zero l)
+  get_or_values (suc n) i d l = last-or-below i n l
+      (λ e. rw e (get_or_at (valuesBelow f n) (f n) [] d n (length_values n)))
+      (λ m. get_or-append (valuesBelow f n) (f n ∷ []) d i (let e = length_values n in omega arith) ∙ get_or_values n i d m)
 
   -- the first n, then the others
-  values-then : (n m : ℕ) → valuesBelow f (n + m) ≡ valuesBelow f n ++ valuesBelow (λ i. f (n + i)) m
+  values_then : (n m : ℕ) → valuesBelow f (n + m) ≡ valuesBelow f n ++ valuesBelow (λ i. f (n + i)) m
   unfolding valuesBelow
-  values-then n zero = rw add-zero (sym (append-nil (valuesBelow f n)))
-  values-then n (suc m) =
+  values_then n zero = rw add-zero (sym (append-nil (valuesBelow f n)))
+  values_then n (suc m) =
       ap (valuesBelow f) (add-suc n m)
-      ∙ ap (λ (l : List A). l ++ f (n + m) ∷ []) (values-then n m)
+      ∙ ap (λ (l : List A). l ++ f (n + m) ∷ []) (values_then n m)
       ∙ append_assoc (valuesBelow f n) (valuesBelow (λ i. f (n + i)) m) (f (n + m) ∷ [])
 
-  pub replacing-none : (old : List A) → replacingFirst f 0 old ≡ old
+  pub replacing_none : (old : List A) → replacingFirst f 0 old ≡ old
   unfolding replacingFirst valuesBelow
-  replacing-none old = refl
+  replacing_none old = refl
 
   -- one more place is written, at n + 1 and at the code's n + 1
-  pub replacing-more : (n : ℕ) (old : List A) → n < length old → set (replacingFirst f n old) n (f n) ≡ replacingFirst f (suc n) old
+  pub replacing_more : (n : ℕ) (old : List A) → n < length old → set (replacingFirst f n old) n (f n) ≡ replacingFirst f (suc n) old
   unfolding replacingFirst valuesBelow
-  replacing-more n old l =
+  replacing_more n old l =
       ap (λ (t : List A). set (valuesBelow f n ++ t) n (f n)) (drop-cons old n (f n) l)
-      ∙ set_at (valuesBelow f n) (get_or old n (f n)) (drop (suc n) old) (f n) n (length-values n)
+      ∙ set_at (valuesBelow f n) (get_or old n (f n)) (drop (suc n) old) (f n) n (length_values n)
       ∙ sym (append_snoc (valuesBelow f n) (f n) (drop (suc n) old))
 
-  pub replacing-next : (n : ℕ) (old : List A) → n < length old → set (replacingFirst f n old) n (f n) ≡ replacingFirst f (n + 1) old
-  replacing-next n old l = replacing-more n old l ∙ sym (ap (λ (m : ℕ). replacingFirst f m old) (add-one n))
+  pub replacing_next : (n : ℕ) (old : List A) → n < length old → set (replacingFirst f n old) n (f n) ≡ replacingFirst f (n + 1) old
+  replacing_next n old l = replacing_more n old l ∙ sym (ap (λ (m : ℕ). replacingFirst f m old) (add-one n))
 
-  pub length-replacing : (n : ℕ) (old : List A) → n ≤ length old → length (replacingFirst f n old) ≡ length old
+  pub length_replacing : (n : ℕ) (old : List A) → n ≤ length old → length (replacingFirst f n old) ≡ length old
   unfolding replacingFirst
-  length-replacing n old l =
-      length-append (valuesBelow f n) (drop n old) ∙ let e = length-values n in let d = length-drop n old in omega arith
+  length_replacing n old l =
+      length-append (valuesBelow f n) (drop n old) ∙ let e = length_values n in let d = length-drop n old in omega arith
 
   -- a buffer of just as many places
-  pub replacing-all : (n : ℕ) (old : List A) → length old ≡ n → replacingFirst f n old ≡ valuesBelow f n
+  pub replacing_all : (n : ℕ) (old : List A) → length old ≡ n → replacingFirst f n old ≡ valuesBelow f n
   unfolding replacingFirst
-  replacing-all n old e = rw (drop_of_length-le old {i = n} (omega arith), append-nil)
+  replacing_all n old e = rw (drop_of_length-le old {i = n} (omega arith), append-nil)
 
-  take-replacing : (n : ℕ) (old : List A) → take n (replacingFirst f n old) ≡ valuesBelow f n
+  take_replacing : (n : ℕ) (old : List A) → take n (replacingFirst f n old) ≡ valuesBelow f n
   unfolding replacingFirst
-  take-replacing n old = take_at (valuesBelow f n) (drop n old) n (length-values n)
+  take_replacing n old = take_at (valuesBelow f n) (drop n old) n (length_values n)
 
-  pub drop-replacing : (n : ℕ) (old : List A) → drop n (replacingFirst f n old) ≡ drop n old
+  pub drop_replacing : (n : ℕ) (old : List A) → drop n (replacingFirst f n old) ≡ drop n old
   unfolding replacingFirst
-  drop-replacing n old = drop_at (valuesBelow f n) (drop n old) n (length-values n)
+  drop_replacing n old = drop_at (valuesBelow f n) (drop n old) n (length_values n)
 
-  pub getD-replacing : (n : ℕ) (old : List A) (i : ℕ) (d : A) → i < n → get_or (replacingFirst f n old) i d ≡ f i
+  pub get_or_replacing : (n : ℕ) (old : List A) (i : ℕ) (d : A) → i < n → get_or (replacingFirst f n old) i d ≡ f i
   unfolding replacingFirst
-  getD-replacing n old i d l =
-      get_or-append (valuesBelow f n) (drop n old) d i (let e = length-values n in omega arith) ∙ getD-values n i d l
+  get_or_replacing n old i d l =
+      get_or-append (valuesBelow f n) (drop n old) d i (let e = length_values n in omega arith) ∙ get_or_values n i d l
 
   pub get_d_kept : (n : ℕ) (old : List A) (i : ℕ) (d : A) → n ≤ i → get_or (replacingFirst f n old) i d ≡ get_or old i d
   get_d_kept n old i d l =
       let k : n + (i - n) ≡ i = omega arith in
-      rw (← k) (sym (get_or-drop n (replacingFirst f n old) (i - n) d) ∙ ap (λ (t : List A). get_or t (i - n) d) (drop-replacing n old)
+      rw (← k) (sym (get_or-drop n (replacingFirst f n old) (i - n) d) ∙ ap (λ (t : List A). get_or t (i - n) d) (drop_replacing n old)
       ∙ get_or-drop n old (i - n) d)
 
   -- nothing changes where each is replaced by what it holds
-  pub replacing-same : (n : ℕ) (old : List A) (d : A) → n ≤ length old → ((i : ℕ) → i < n → f i ≡ get_or old i d) →
+  pub replacing_same : (n : ℕ) (old : List A) (d : A) → n ≤ length old → ((i : ℕ) → i < n → f i ≡ get_or old i d) →
       replacingFirst f n old ≡ old
-  replacing-same n old d h same = ext_get_or d _ _ (length-replacing n old h) (λ i l. split (ltb i n)
-      (λ t. let m = ltb-true i n t in getD-replacing n old i d m ∙ same i m)
+  replacing_same n old d h same = ext_get_or d _ _ (length_replacing n old h) (λ i l. split (ltb i n)
+      (λ t. let m = ltb-true i n t in get_or_replacing n old i d m ∙ same i m)
       (λ t. get_d_kept n old i d (ltb-false i n t)))
 
   -- what is past the first n is as it was
   drop_past : (n m : ℕ) (old : List A) → drop (n + m) (replacingFirst f n old) ≡ drop (n + m) old
   drop_past n m old =
-      sym (drop-drop m n (replacingFirst f n old)) ∙ ap (λ (l : List A). drop m l) (drop-replacing n old) ∙ drop-drop m n old
+      sym (drop-drop m n (replacingFirst f n old)) ∙ ap (λ (l : List A). drop m l) (drop_replacing n old) ∙ drop-drop m n old
 
   -- the next m places replaced too
-  pub replacing-then : (g : ℕ → A) (n m : ℕ) (old : List A) → ((i : ℕ) → i < m → g i ≡ f (n + i)) →
+  pub replacing_then : (g : ℕ → A) (n m : ℕ) (old : List A) → ((i : ℕ) → i < m → g i ≡ f (n + i)) →
       let out = replacingFirst f n old in take n out ++ (valuesBelow g m ++ drop (n + m) out) ≡ replacingFirst f (n + m) old
   unfolding replacingFirst
-  replacing-then g n m old same =
-      ap₂ (λ (l r : List A). l ++ (valuesBelow g m ++ r)) (take-replacing n old) (drop_past n m old)
-      ∙ ap (λ (l : List A). valuesBelow f n ++ (l ++ drop (n + m) old)) (values-ext g (λ i. f (n + i)) m same)
+  replacing_then g n m old same =
+      ap₂ (λ (l r : List A). l ++ (valuesBelow g m ++ r)) (take_replacing n old) (drop_past n m old)
+      ∙ ap (λ (l : List A). valuesBelow f n ++ (l ++ drop (n + m) old)) (values_ext g (λ i. f (n + i)) m same)
       ∙ sym (append_assoc (valuesBelow f n) (valuesBelow (λ i. f (n + i)) m) (drop (n + m) old))
-      ∙ ap (λ (l : List A). l ++ drop (n + m) old) (sym (values-then n m))
+      ∙ ap (λ (l : List A). l ++ drop (n + m) old) (sym (values_then n m))
 
   -- more places than were replaced before
-  pub replacing-longer : (n m : ℕ) (old : List A) → n ≤ m → replacingFirst f m (replacingFirst f n old) ≡ replacingFirst f m old
+  pub replacing_longer : (n m : ℕ) (old : List A) → n ≤ m → replacingFirst f m (replacingFirst f n old) ≡ replacingFirst f m old
   unfolding replacingFirst
-  replacing-longer n m old l =
+  replacing_longer n m old l =
       let whole : n + (m - n) ≡ m = omega arith in
       ap (λ (t : List A). valuesBelow f m ++ t) (rw whole at (drop_past n (m - n) old))
 
   -- the first n places are replaced again
-  pub replacing-twice : (g : ℕ → A) (n : ℕ) (old : List A) → replacingFirst g n (replacingFirst f n old) ≡ replacingFirst g n old
+  pub replacing_twice : (g : ℕ → A) (n : ℕ) (old : List A) → replacingFirst g n (replacingFirst f n old) ≡ replacingFirst g n old
   unfolding replacingFirst
-  replacing-twice g n old = ap (λ (l : List A). valuesBelow g n ++ l) (drop-replacing n old)
+  replacing_twice g n old = ap (λ (l : List A). valuesBelow g n ++ l) (drop_replacing n old)
 
 -- ---- one place changed to g of what it held: what the places then hold
 module _ {ℓ} {A : Type ℓ} where
-  pub getD-changed : (g : A → A) (l : List A) (m i : ℕ) (d : A) → i < length l →
+  pub get_or_changed : (g : A → A) (l : List A) (m i : ℕ) (d : A) → i < length l →
       get_or (set l m (g (get_or l m d))) i d ≡ cond (eqb m i) (g (get_or l i d)) (get_or l i d)
-  getD-changed g l m i d h = split (eqb m i)
+  get_or_changed g l m i d h = split (eqb m i)
       (λ t. let e : m ≡ i = eqb-true m i t in rw (t, e) (get_or-set_same l i (g (get_or l i d)) d h))
       (λ f. rw f (get_or-set_other l m i (g (get_or l m d)) d (λ e. eqb-false m i f (sym e))))
 
-  values-changed : (g : A → A) (f : ℕ → A) (n m : ℕ) (d : A) →
+  values_changed : (g : A → A) (f : ℕ → A) (n m : ℕ) (d : A) →
       set (valuesBelow f n) m (g (get_or (valuesBelow f n) m d)) ≡ valuesBelow (λ i. cond (eqb m i) (g (f i)) (f i)) n
-  values-changed g f n m d = ext_get_or d _ _ (length-set (valuesBelow f n) m _ ∙ length-values f n ∙ sym (length-values _ n)) (λ i l.
+  values_changed g f n m d = ext_get_or d _ _ (length-set (valuesBelow f n) m _ ∙ length_values f n ∙ sym (length_values _ n)) (λ i l.
       let k : i < length (valuesBelow f n) = rw length-set at l in
-      let j : i < n = omega (arith, length-values f n) in
-      getD-changed g (valuesBelow f n) m i d k ∙ rw (getD-values f n i d j) (sym (getD-values _ n i d j)))
+      let j : i < n = omega (arith, length_values f n) in
+      get_or_changed g (valuesBelow f n) m i d k ∙ rw (get_or_values f n i d j) (sym (get_or_values _ n i d j)))
 
-  pub replacing-changed : (g : A → A) (f : ℕ → A) (n : ℕ) (old : List A) (m : ℕ) (d : A) → m < n →
+  pub replacing_changed : (g : A → A) (f : ℕ → A) (n : ℕ) (old : List A) (m : ℕ) (d : A) → m < n →
       set (replacingFirst f n old) m (g (get_or (replacingFirst f n old) m d)) ≡ replacingFirst (λ i. cond (eqb m i) (g (f i)) (f i)) n old
   unfolding replacingFirst
-  replacing-changed g f n old m d h =
-      let k : m < length (valuesBelow f n) = omega (arith, length-values f n) in
+  replacing_changed g f n old m d h =
+      let k : m < length (valuesBelow f n) = omega (arith, length_values f n) in
       rw (get_or-append (valuesBelow f n) (drop n old) d m k) (
       set-append_left (valuesBelow f n) (drop n old) m (g (get_or (valuesBelow f n) m d)) k
-      ∙ ap (λ (l : List A). l ++ drop n old) (values-changed g f n m d))
+      ∙ ap (λ (l : List A). l ++ drop n old) (values_changed g f n m d))
 
 -- ---- a loop that writes f's values into a buffer, one place a turn: i of them are written
 module _ {ℓ} {A : Type ℓ} (f : ℕ → A) (i : ℕ) (old out : List A) (written : out ≡ replacingFirst f i old) where
-  pub written-length : i ≤ length old → length out ≡ length old
-  written-length h = ap length written ∙ length-replacing f i old h
+  pub written_length : i ≤ length old → length out ≡ length old
+  written_length h = ap length written ∙ length_replacing f i old h
 
   pub written_next : (v : A) → i < length old → v ≡ f i → set out i v ≡ replacingFirst f (i + 1) old
-  written_next v h e = rw (written, e) (replacing-next f i old h)
+  written_next v h e = rw (written, e) (replacing_next f i old h)
 
   -- what is not yet written is as it was
   pub unwritten : (k : ℕ) (d : A) → i ≤ k → get_or out k d ≡ get_or old k d

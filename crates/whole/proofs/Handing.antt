@@ -7,15 +7,15 @@ use Prim.Native.Nat.{ℕ, zero, suc, ◌≤◌, ◌<◌, zero-le}
 use native.Mathlib.Omega.{arith}
 use lib.Dec.{ltb, eqb}
 use borrow.Author.Tests.{ltb-true, ltb-false, lt-ltb, le-ltb, eq-eqb, ne_eqb}
-use Rattle.whole.specs.Below.{countBelow}
-use Rattle.whole.proofs.Tests.{split, never, and-ext}
-use Rattle.whole.proofs.Sums.{count-ext}
-use Rattle.whole.proofs.Rank.{Order, either, rank_less, count-served}
+use Rattle.whole.specs.Below.{count_below}
+use Rattle.whole.proofs.Tests.{split, never, and_ext}
+use Rattle.whole.proofs.Sums.{count_ext}
+use Rattle.whole.proofs.Rank.{Order, either, rank_less, count_served}
 
 module _ (ahead : ℕ → ℕ → Bool) (o : Order ahead) (part : ℕ → Bool) (n : ℕ) where
   -- how many takers are ahead of i
   abbrev r : ℕ → ℕ
-  r i = countBelow (λ j. part j && ahead j i) n
+  r i = count_below (λ j. part j && ahead j i) n
 
   -- b is a taker, k or more are ahead of it, and no taker of which that holds is ahead of it
   pub record Best (k b : ℕ) : Type 0 where
@@ -25,17 +25,17 @@ module _ (ahead : ℕ → ℕ → Bool) (o : Order ahead) (part : ℕ → Bool) 
     pub first_of : (j : ℕ) → j < n → part j ≡ true → k ≤ r j → ahead j b ≡ false
 
   -- then exactly k are ahead of it
-  pub next : (k b : ℕ) → k ≤ countBelow part n → Best k b → r b ≡ k
+  pub next : (k b : ℕ) → k ≤ count_below part n → Best k b → r b ≡ k
   next k b h best =
-      count-ext (λ j. part j && ahead j b) (λ j. part j && ltb (r j) k) n (λ j l. and-ext (part j) _ _ (λ p. split (ltb (r j) k)
+      count_ext (λ j. part j && ahead j b) (λ j. part j && ltb (r j) k) n (λ j l. and_ext (part j) _ _ (λ p. split (ltb (r j) k)
       (λ t. let m : r j < k = ltb-true _ _ t in let s = best.none_yet in either ahead o j b
       (λ e. absurd (let q : r j ≡ r b = ap r e in omega arith))
       (λ a. a ∙ sym t)
       (λ a. absurd (let q = rank_less ahead o part n b j best.there best.taker a in omega arith)))
-      (λ f. best.first_of j l p (ltb-false (r j) k f) ∙ sym f))) ∙ count-served ahead o part n k h
+      (λ f. best.first_of j l p (ltb-false (r j) k f) ∙ sym f))) ∙ count_served ahead o part n k h
 
   -- and round k serves it alone
-  pub round : (k b : ℕ) → k ≤ countBelow part n → Best k b → (i : ℕ) → i < n →
+  pub round : (k b : ℕ) → k ≤ count_below part n → Best k b → (i : ℕ) → i < n →
       (part i && ltb (r i) (suc k)) ≡ (part i && ltb (r i) k || eqb i b)
   round k b h best i l =
       let q : r b ≡ k = next k b h best in
@@ -55,7 +55,7 @@ pub record Handing (ahead : ℕ → ℕ → Bool) (part : ℕ → Bool) (n : ℕ
   pub none_left : (k : ℕ) → pick k ≡ none → (i : ℕ) → i < n → part i ≡ true → has k i ≡ true
   pub there : (k b : ℕ) → pick k ≡ some b → b < n
   pub taker : (k b : ℕ) → pick k ≡ some b → part b ≡ true
-  pub has-none : (k b : ℕ) → pick k ≡ some b → has k b ≡ false
+  pub has_none : (k b : ℕ) → pick k ≡ some b → has k b ≡ false
   pub first_of : (k b : ℕ) → pick k ≡ some b → (j : ℕ) → j < n → part j ≡ true → has k j ≡ false → ahead j b ≡ false
 
 module _ {ahead : ℕ → ℕ → Bool} {part : ℕ → Bool} {n : ℕ} {has : ℕ → ℕ → Bool} {pick : ℕ → Option ℕ} (o : Order ahead)
@@ -63,12 +63,12 @@ module _ {ahead : ℕ → ℕ → Bool} {part : ℕ → Bool} {n : ℕ} {has : �
   abbrev rank : ℕ → ℕ
   rank i = r ahead o part n i
 
-  after : (k : ℕ) → suc k ≤ countBelow part n → ((j : ℕ) → j < n → has k j ≡ (part j && ltb (rank j) k)) → (p : Option ℕ) → pick k ≡ p →
+  after : (k : ℕ) → suc k ≤ count_below part n → ((j : ℕ) → j < n → has k j ≡ (part j && ltb (rank j) k)) → (p : Option ℕ) → pick k ≡ p →
       (i : ℕ) → i < n → has (suc k) i ≡ (part i && ltb (rank i) (suc k))
   after k m ih none e i l = absurd (
-      let all = count-ext part (λ j. part j && ltb (rank j) k) n
+      let all = count_ext part (λ j. part j && ltb (rank j) k) n
       (λ j q. split (part j) (λ p. p ∙ sym (h.none_left k e j q p) ∙ ih j q) (λ f. rw f)) in
-      let c = count-served ahead o part n k (omega arith) in omega arith
+      let c = count_served ahead o part n k (omega arith) in omega arith
       )
   after k m ih (some b) e i l = h.gives k b e i l ∙ rw (ih i l) (sym (round ahead o part n k b (omega arith) best i l))
     where
@@ -76,10 +76,10 @@ module _ {ahead : ℕ → ℕ → Bool} {part : ℕ → Bool} {n : ℕ} {has : �
       best = record {
         there = h.there k b e;
         taker = h.taker k b e;
-        none_yet = ltb-false (rank b) k (rw (h.taker k b e) at (sym (ih b (h.there k b e)) ∙ h.has-none k b e));
+        none_yet = ltb-false (rank b) k (rw (h.taker k b e) at (sym (ih b (h.there k b e)) ∙ h.has_none k b e));
         first_of = λ j q p s. h.first_of k b e j q p (ih j q ∙ rw (p, le-ltb (rank j) k s));
       }
 
-  pub handed : (k : ℕ) → k ≤ countBelow part n → (i : ℕ) → i < n → has k i ≡ (part i && ltb (countBelow (λ j. part j && ahead j i) n) k)
+  pub handed : (k : ℕ) → k ≤ count_below part n → (i : ℕ) → i < n → has k i ≡ (part i && ltb (count_below (λ j. part j && ahead j i) n) k)
   handed zero m i l = h.nobody i l ∙ rw (le-ltb (rank i) 0 zero-le) (sym (and-false (part i)))
   handed (suc k) m i l = after k m (λ j q. handed k (omega arith) j q) (pick k) refl i l

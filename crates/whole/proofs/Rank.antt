@@ -7,9 +7,9 @@ use native.Mathlib.Nat.{not-suc-le-zero, add-zero}
 use native.Mathlib.Omega.{arith}
 use lib.Dec.{ltb, eqb}
 use borrow.Author.Tests.{ltb-true, ltb-false, eqb-true, eqb-false, lt-ltb, le-ltb, eq-eqb}
-use Rattle.whole.specs.Below.{oneIf, countBelow}
-use Rattle.whole.proofs.Tests.{split, never, both, and-ext, and_mono}
-use Rattle.whole.proofs.Sums.{count-ext, count-mono, count_less, all-count}
+use Rattle.whole.specs.Below.{one_if, count_below}
+use Rattle.whole.proofs.Tests.{split, never, both, and_ext, and_mono}
+use Rattle.whole.proofs.Sums.{count_ext, count_mono, count_less, all_count}
 
 -- a strict order in which, of two different numbers, one is ahead
 pub record Order (ahead : ℕ → ℕ → Bool) : Type 0 where
@@ -27,28 +27,28 @@ module _ (ahead : ℕ → ℕ → Bool) (o : Order ahead) where
 module _ (ahead : ℕ → ℕ → Bool) (o : Order ahead) (part : ℕ → Bool) where
   -- how many takers below n are ahead of i
   abbrev r : ℕ → ℕ → ℕ
-  r n i = countBelow (λ j. part j && ahead j i) n
+  r n i = count_below (λ j. part j && ahead j i) n
 
   -- whom n is ahead of has at least the rank of n; a taker that is ahead of another has the smaller rank
   behind : (n i : ℕ) → ahead n i ≡ true → r n n ≤ r n i
-  behind n i t = count-mono _ _ n (λ j l. and_mono (part j) (ahead j n) (ahead j i) (λ e. o.trans j n i e t))
+  behind n i t = count_mono _ _ n (λ j l. and_mono (part j) (ahead j n) (ahead j i) (λ e. o.trans j n i e t))
 
   pub rank_less : (n i j : ℕ) → i < n → part i ≡ true → ahead i j ≡ true → r n i < r n j
   rank_less n i j l p a =
       count_less _ _ n (λ x m. and_mono (part x) (ahead x i) (ahead x j) (λ e. o.trans x i j e a)) i l (rw p (o.irrefl i)) (rw p a)
 
   -- the taker n comes to the takers below n, of which the law holds
-  step : (n k : ℕ) → ((j : ℕ) → j ≤ countBelow part n → countBelow (λ i. part i && ltb (r n i) j) n ≡ j) → k ≤ countBelow part n + 1 →
-      countBelow (λ i. part i && ltb (r n i + oneIf (ahead n i)) k) n + oneIf (ltb (r n n + 0) k) ≡ k
+  step : (n k : ℕ) → ((j : ℕ) → j ≤ count_below part n → count_below (λ i. part i && ltb (r n i) j) n ≡ j) → k ≤ count_below part n + 1 →
+      count_below (λ i. part i && ltb (r n i + one_if (ahead n i)) k) n + one_if (ltb (r n n + 0) k) ≡ k
   step n k ih h = split (ltb (r n n) k) (λ t. inside k (ltb-true (r n n) k t) h) (λ f. outside (ltb-false (r n n) k f))
     where
       -- n is among the first k: those behind it move one place down
-      inside : (k : ℕ) → r n n < k → k ≤ countBelow part n + 1 →
-          countBelow (λ i. part i && ltb (r n i + oneIf (ahead n i)) k) n + oneIf (ltb (r n n + 0) k) ≡ k
+      inside : (k : ℕ) → r n n < k → k ≤ count_below part n + 1 →
+          count_below (λ i. part i && ltb (r n i + one_if (ahead n i)) k) n + one_if (ltb (r n n + 0) k) ≡ k
       inside zero l h = absurd (not-suc-le-zero l)
       inside (suc k) l h =
-          rw (count-ext (λ i. part i && ltb (r n i + oneIf (ahead n i)) (suc k)) (λ i. part i && ltb (r n i) k) n
-          (λ i m. and-ext (part i) _ _ (λ p. split (ahead n i)
+          rw (count_ext (λ i. part i && ltb (r n i + one_if (ahead n i)) (suc k)) (λ i. part i && ltb (r n i) k) n
+          (λ i m. and_ext (part i) _ _ (λ p. split (ahead n i)
           (λ t. rw t (split (ltb (r n i) k)
           (λ e. lt-ltb (r n i + 1) (suc k) (omega (arith, ltb-true (r n i) k e)) ∙ sym e)
           (λ e. le-ltb (r n i + 1) (suc k) (omega (arith, ltb-false (r n i) k e)) ∙ sym e)))
@@ -57,25 +57,25 @@ module _ (ahead : ℕ → ℕ → Bool) (o : Order ahead) (part : ℕ → Bool) 
           (rw (ih k (omega arith), lt-ltb (r n n + 0) (suc k) (omega arith)) (omega arith))
 
       -- n is past the first k, and so are all behind it
-      outside : k ≤ r n n → countBelow (λ i. part i && ltb (r n i + oneIf (ahead n i)) k) n + oneIf (ltb (r n n + 0) k) ≡ k
+      outside : k ≤ r n n → count_below (λ i. part i && ltb (r n i + one_if (ahead n i)) k) n + one_if (ltb (r n n + 0) k) ≡ k
       outside l =
-          let most : r n n ≤ countBelow part n = count-mono _ _ n (λ j m e. (both (part j) (ahead j n) e).0) in
-          rw (count-ext (λ i. part i && ltb (r n i + oneIf (ahead n i)) k) (λ i. part i && ltb (r n i) k) n
-          (λ i m. and-ext (part i) _ _ (λ p. split (ahead n i)
+          let most : r n n ≤ count_below part n = count_mono _ _ n (λ j m e. (both (part j) (ahead j n) e).0) in
+          rw (count_ext (λ i. part i && ltb (r n i + one_if (ahead n i)) k) (λ i. part i && ltb (r n i) k) n
+          (λ i m. and_ext (part i) _ _ (λ p. split (ahead n i)
           (λ t. let b = behind n i t in rw t (le-ltb (r n i + 1) k (omega arith) ∙ sym (le-ltb (r n i) k (omega arith))))
           (λ f. rw (f, add-zero)))))
           (rw (ih k (omega arith), le-ltb (r n n + 0) k (omega arith)) (omega arith))
 
-  pub count-served : (n k : ℕ) → k ≤ countBelow part n → countBelow (λ i. part i && ltb (countBelow (λ j. part j && ahead j i) n) k) n ≡ k
-  unfolding countBelow
-  count-served zero k h = omega arith
-  count-served (suc n) k h = split (part n)
-      (λ t. rw (t, o.irrefl n) (step n k (count-served n) (rw t at h)))
-      (λ f. rw f (simp add-zero (count-served n k (simp (f, add-zero) at h))))
+  pub count_served : (n k : ℕ) → k ≤ count_below part n → count_below (λ i. part i && ltb (count_below (λ j. part j && ahead j i) n) k) n ≡ k
+  unfolding count_below
+  count_served zero k h = omega arith
+  count_served (suc n) k h = split (part n)
+      (λ t. rw (t, o.irrefl n) (step n k (count_served n) (rw t at h)))
+      (λ f. rw f (simp add-zero (count_served n k (simp (f, add-zero) at h))))
 
 -- where all take part
-pub served : (ahead : ℕ → ℕ → Bool) → Order ahead → (n k : ℕ) → k ≤ n → countBelow (λ i. ltb (countBelow (λ j. ahead j i) n) k) n ≡ k
-served ahead o n k h = count-served ahead o (λ i. true) n k (let e = all-count n in omega arith)
+pub served : (ahead : ℕ → ℕ → Bool) → Order ahead → (n k : ℕ) → k ≤ n → count_below (λ i. ltb (count_below (λ j. ahead j i) n) k) n ≡ k
+served ahead o n k h = count_served ahead o (λ i. true) n k (let e = all_count n in omega arith)
 
 -- ---- the order by a key: the larger key is ahead, and of equal ones the earlier number
 module _ (key : ℕ → ℕ) where

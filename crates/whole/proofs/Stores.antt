@@ -16,12 +16,12 @@ module _ {ℓ} {A : Type ℓ} where
   stored_on [] ys l i = rw add-zero
   stored_on (x ∷ xs) ys l i = rw along (stored_on xs ys (set l i x) (suc i))
 
-  pub stored-last-first : (xs l : List A) (i : ℕ) (x : A) → sets (set l (i + length xs) x) i xs ≡ sets l i (xs ++ x ∷ [])
-  stored-last-first [] l i x = rw add-zero
-  stored-last-first (a ∷ xs) l i x =
-      rw (set_comm l (i + length (a ∷ xs)) i x a (λ e. omega arith), along) (stored-last-first xs (set l i a) (suc i) x)
+  pub stored_last_first : (xs l : List A) (i : ℕ) (x : A) → sets (set l (i + length xs) x) i xs ≡ sets l i (xs ++ x ∷ [])
+  stored_last_first [] l i x = rw add-zero
+  stored_last_first (a ∷ xs) l i x =
+      rw (set_comm l (i + length (a ∷ xs)) i x a (λ e. omega arith), along) (stored_last_first xs (set l i a) (suc i) x)
 
-  pub stored-to-the-end : (xs l : List A) (i : ℕ) → i + length xs ≡ length l → sets l i xs ≡ take i l ++ xs
-  stored-to-the-end xs l i e =
+  pub stored_to_the_end : (xs l : List A) (i : ℕ) → i + length xs ≡ length l → sets l i xs ≡ take i l ++ xs
+  stored_to_the_end xs l i e =
       sets-eq xs l i (omega arith)
       ∙ rw (drop_of_length-le l {i = i + length xs} (omega arith), append-nil)

@@ -25,9 +25,9 @@ neither true b e = never refl e
 neither false b e = (refl, e)
 
 -- the second test, where the first has passed
-pub and-ext : (a b c : Bool) → (a ≡ true → b ≡ c) → (a && b) ≡ (a && c)
-and-ext true b c f = f refl
-and-ext false b c f = refl
+pub and_ext : (a b c : Bool) → (a ≡ true → b ≡ c) → (a && b) ≡ (a && c)
+and_ext true b c f = f refl
+and_ext false b c f = refl
 
 pub and_mono : (a b c : Bool) → (b ≡ true → c ≡ true) → (a && b) ≡ true → (a && c) ≡ true
 and_mono true b c f e = f e
@@ -41,10 +41,10 @@ cond_ind false x y P f g = g tt
 pub never-some {ℓ κ} : {A : Type ℓ} {X : Type κ} {a : A} → some a ≡ none → X
 never-some {a = a} e = absurd (some-ne-none a e)
 
-pub no-else : (a b : Option ℕ) → or_else a b ≡ none → (a ≡ none) × (b ≡ none)
+pub no_else : (a b : Option ℕ) → or_else a b ≡ none → (a ≡ none) × (b ≡ none)
 unfolding or_else
-no-else none b e = (refl, e)
-no-else (some i) b e = never-some e
+no_else none b e = (refl, e)
+no_else (some i) b e = never-some e
 
 -- a number below n + 1 is n or below n
 pub last-or-below {ℓ} : {X : Type ℓ} (i n : ℕ) → i < suc n → (i ≡ n → X) → (i < n → X) → X

@@ -4,25 +4,25 @@ use Rattle.std.specs.Prelude.{ℕ, zero, suc, ◌+◌, ◌*◌, Bool, cond, List
 use Rattle.std.proofs.Math.Option.{Option, none, some, or_else}
 
 -- 1 for a test that passed
-abbrev pub oneIf : Bool → ℕ
-oneIf b = cond b 1 0
+abbrev pub one_if : Bool → ℕ
+one_if b = cond b 1 0
 
-unfoldable pub countBelow : (ℕ → Bool) → ℕ → ℕ
-countBelow p zero = 0
-countBelow p (suc n) = countBelow p n + oneIf (p n)
+unfoldable pub count_below : (ℕ → Bool) → ℕ → ℕ
+count_below p zero = 0
+count_below p (suc n) = count_below p n + one_if (p n)
 
-unfoldable pub sumBelow : (ℕ → ℕ) → ℕ → ℕ
-sumBelow f zero = 0
-sumBelow f (suc n) = sumBelow f n + f n
+unfoldable pub sum_below : (ℕ → ℕ) → ℕ → ℕ
+sum_below f zero = 0
+sum_below f (suc n) = sum_below f n + f n
 
 -- the sum of signed numbers
-unfoldable pub totalBelow : (ℕ → ℤ) → ℕ → ℤ
-totalBelow f zero = pos 0
-totalBelow f (suc n) = totalBelow f n +ℤ f n
+unfoldable pub total_below : (ℕ → ℤ) → ℕ → ℤ
+total_below f zero = pos 0
+total_below f (suc n) = total_below f n +ℤ f n
 
-unfoldable pub productBelow : (ℕ → ℕ) → ℕ → ℕ
-productBelow f zero = 1
-productBelow f (suc n) = productBelow f n * f n
+unfoldable pub product_below : (ℕ → ℕ) → ℕ → ℕ
+product_below f zero = 1
+product_below f (suc n) = product_below f n * f n
 
 unfoldable pub valuesBelow {ℓ} : {A : Type ℓ} → (ℕ → A) → ℕ → List A
 valuesBelow f zero = []
@@ -32,11 +32,11 @@ valuesBelow f (suc n) = valuesBelow f n ++ f n ∷ []
 unfoldable pub replacingFirst {ℓ} : {A : Type ℓ} → (ℕ → A) → ℕ → List A → List A
 replacingFirst f n old = valuesBelow f n ++ drop n old
 
-unfoldable pub firstBelow : (ℕ → Bool) → ℕ → Option ℕ
-firstBelow p zero = none
-firstBelow p (suc n) = or_else (firstBelow p n) (cond (p n) (some n) none)
+unfoldable pub first_below : (ℕ → Bool) → ℕ → Option ℕ
+first_below p zero = none
+first_below p (suc n) = or_else (first_below p n) (cond (p n) (some n) none)
 
 -- the values of those that pass, gathered in a buffer's first places in their order, and what stood past them
 unfoldable pub gatheredBelow {ℓ} : {A : Type ℓ} → (ℕ → Bool) → (ℕ → A) → ℕ → List A → List A
 gatheredBelow p f zero old = old
-gatheredBelow p f (suc n) old = cond (p n) (set (gatheredBelow p f n old) (countBelow p n) (f n)) (gatheredBelow p f n old)
+gatheredBelow p f (suc n) old = cond (p n) (set (gatheredBelow p f n old) (count_below p n) (f n)) (gatheredBelow p f n old)

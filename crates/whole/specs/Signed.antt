@@ -2,15 +2,15 @@
 use Rattle.std.specs.Prelude.{ℕ, ◌≤◌, cond, ℤ, pos, negsuc, neg_ℤ, nat_abs, ◌≤ℤ◌}
 use Rattle.std.specs.Int.Signed.{le_z}
 
-unfoldable pub minℤ : ℤ → ℤ → ℤ
-minℤ a b = cond (le_z a b) a b
+unfoldable pub min_ℤ : ℤ → ℤ → ℤ
+min_ℤ a b = cond (le_z a b) a b
 
-unfoldable pub maxℤ : ℤ → ℤ → ℤ
-maxℤ a b = cond (le_z a b) b a
+unfoldable pub max_ℤ : ℤ → ℤ → ℤ
+max_ℤ a b = cond (le_z a b) b a
 
-abbrev pub withSignOf : ℤ → ℕ → ℤ
-withSignOf (pos u) size = pos size
-withSignOf (negsuc u) size = neg_ℤ (pos size)
+abbrev pub with_sign_of : ℤ → ℕ → ℤ
+with_sign_of (pos u) size = pos size
+with_sign_of (negsuc u) size = neg_ℤ (pos size)
 
 -- -k ≤ z ≤ k. A record, so that the number and the bound can be read off a hypothesis
 pub record Under (z : ℤ) (k : ℕ) : Type 0 where

@@ -1,7 +1,7 @@
 // Laws of whole numbers, for the crates above: definitions in specs/, laws in proofs/. And as code a signed number's size, and a size with
 // a number's sign.
 ghost use Rattle.std.specs.Prelude.{◌≡◌, ◌<◌, nat_abs};
-ghost use Rattle.whole.specs.Signed.{withSignOf};
+ghost use Rattle.whole.specs.Signed.{with_sign_of};
 
 // A number without its sign. The least i64 has a size too: one more than that of the next.
 pub fn size_of(z: i64) -> u64
@@ -16,7 +16,7 @@ pub fn size_of(z: i64) -> u64
 // A size with the sign of another number.
 pub fn with_sign_of(z: i64, size: u64) -> i64
     requires { size < 9223372036854775808 }
-    ensures { result ≡ withSignOf z size }
+    ensures { result ≡ with_sign_of z size }
 {
     if z < 0 { -(size as i64) } else { size as i64 }
 }

@@ -58,14 +58,14 @@ pub fn keeps(rule: Rule, v: u32) -> bool
 // ---- words of a block
 
 fn only(v: u32) -> Rule
-    ensures { result ≡ Ranges.mustBe v }
+    ensures { result ≡ Ranges.must_be v }
 {
     Rule::Between(v, v)
 }
 
 // Word 0: the mark of the first block, or of another.
 fn mark_rule(layout: Layout, b: u32) -> Rule
-    ensures { result ≡ Ranges.mustBe (cond (eqb b 0) layout.first layout.other) }
+    ensures { result ≡ Ranges.must_be (cond (eqb b 0) layout.first layout.other) }
 {
     if b == 0 {
         return only(layout.first);
@@ -76,7 +76,7 @@ fn mark_rule(layout: Layout, b: u32) -> Rule
 // Word 2 of block `b` of `n`: the other blocks, or the records that the block holds.
 fn count_rule(layout: Layout, n: u32, b: u32) -> Rule
     requires { FitsBody layout }
-    ensures { result ≡ Ranges.countRule layout n b }
+    ensures { result ≡ Ranges.count_rule layout n b }
 {
     if b == 0 {
         if n == 0 {
@@ -96,7 +96,7 @@ fn count_rule(layout: Layout, n: u32, b: u32) -> Rule
 // The body of block `b`, which says that it holds `held` records.
 fn past_rule(layout: Layout, held: u32, b: u32, w: usize) -> Rule
     requires { FitsBody layout }
-    ensures { result ≡ Ranges.pastRule layout held b w }
+    ensures { result ≡ Ranges.past_rule layout held b w }
 {
     if b == 0 {
         return Rule::Any;
@@ -110,7 +110,7 @@ fn past_rule(layout: Layout, held: u32, b: u32, w: usize) -> Rule
 // Word `w` of block `b` of `n`, which says that it holds `held` records.
 pub fn block_rule(layout: Layout, n: u32, held: u32, b: u32, w: usize) -> Rule
     requires { FitsBody layout }
-    ensures { result ≡ Ranges.blockRule layout n held b w }
+    ensures { result ≡ Ranges.block_rule layout n held b w }
 {
     if w == 0 {
         return mark_rule(layout, b);
@@ -134,7 +134,7 @@ pub fn block_rule(layout: Layout, n: u32, held: u32, b: u32, w: usize) -> Rule
 
 // Words 9 to 11: members, zones and areas.
 fn counts_rule(w: usize) -> Rule
-    ensures { result ≡ get_or Ranges.countRules (w - 9) Ranges.mustBeZero }
+    ensures { result ≡ get_or Ranges.count_rules (w - 9) Ranges.must_be_zero }
 {
     if w <= 9 {
         return Rule::Between(1, 32);
@@ -150,7 +150,7 @@ fn counts_rule(w: usize) -> Rule
 
 // Word `w` of an area, in a file of so many zones.
 fn area_rule(zones: u32, w: usize) -> Rule
-    ensures { result ≡ Ranges.areaRule zones w }
+    ensures { result ≡ Ranges.area_rule zones w }
 {
     if w == 0 {
         return Rule::LessThan(zones);
@@ -163,7 +163,7 @@ fn area_rule(zones: u32, w: usize) -> Rule
 
 // Word `w` of the head, in a file of so many zones and areas.
 pub fn head_rule(zones: u32, areas: u32, w: usize) -> Rule
-    ensures { result ≡ Ranges.headRule zones areas w }
+    ensures { result ≡ Ranges.head_rule zones areas w }
 {
     if w < 9 {
         return Rule::Any;
@@ -189,7 +189,7 @@ pub fn head_rule(zones: u32, areas: u32, w: usize) -> Rule
 
 // Words 3 to 11 of a generator, which uses all but the last.
 fn generator_rule(w: usize) -> Rule
-    ensures { result ≡ get_or (Ranges.rulesOf Kinds.Generator) (w - 3) Ranges.mustBeZero }
+    ensures { result ≡ get_or (Ranges.rules_of Kinds.Generator) (w - 3) Ranges.must_be_zero }
 {
     if w == 5 {
         return Rule::AtMostInSize(100000);
@@ -205,7 +205,7 @@ fn generator_rule(w: usize) -> Rule
 
 // Whether a record of this kind uses word `w` of words 3 to 11: whether a 1 may stand there.
 fn uses(kind: u32, w: usize) -> bool
-    ensures { result ≡ Ranges.keeps (get_or (Ranges.rulesOf (Record.kind_of kind)) (w - 3) Ranges.mustBeZero) 1 }
+    ensures { result ≡ Ranges.keeps (get_or (Ranges.rules_of (Record.kind_of kind)) (w - 3) Ranges.must_be_zero) 1 }
 {
     if kind == 1 {
         return w < 11;
@@ -227,7 +227,7 @@ fn uses(kind: u32, w: usize) -> bool
 
 // An import uses words 3, 5, 6, 9 and 10: its actual energy is deemed to be the scheduled.
 fn import_uses(w: usize) -> bool
-    ensures { result ≡ Ranges.keeps (get_or (Ranges.rulesOf Kinds.Import) (w - 3) Ranges.mustBeZero) 1 }
+    ensures { result ≡ Ranges.keeps (get_or (Ranges.rules_of Kinds.Import) (w - 3) Ranges.must_be_zero) 1 }
 {
     if w == 4 {
         return false;
@@ -245,7 +245,7 @@ fn import_uses(w: usize) -> bool
 // kinds, any other is zero. The test and not the rule is handed back: chosen first and tested after, a rule costs a sixth more
 // instructions.
 pub fn record_keeps(members: u32, areas: u32, kind: u32, w: usize, v: u32) -> bool
-    ensures { result ≡ Ranges.keeps (Ranges.recordRule members areas kind w) v }
+    ensures { result ≡ Ranges.keeps (Ranges.record_rule members areas kind w) v }
 {
     if w == 0 {
         return within(1, 5, v);
@@ -266,7 +266,7 @@ pub fn record_keeps(members: u32, areas: u32, kind: u32, w: usize, v: u32) -> bo
 
 // Word `w` of the head.
 pub fn head_rule_of(mode: Mode, zones: u32, areas: u32, w: usize) -> Rule
-    ensures { result ≡ (Ranges.form_of mode).headRule zones areas w }
+    ensures { result ≡ (Ranges.form_of mode).head_rule zones areas w }
 {
     match mode {
         Mode::Hourly => head_rule(zones, areas, w),
@@ -286,7 +286,7 @@ pub fn head_end(mode: Mode) -> usize
 
 // Whether word `w` of a record keeps its rule.
 pub fn record_keeps_as(mode: Mode, members: u32, areas: u32, kind: u32, w: usize, v: u32) -> bool
-    ensures { result ≡ Ranges.keeps ((Ranges.form_of mode).recordRule members areas kind w) v }
+    ensures { result ≡ Ranges.keeps ((Ranges.form_of mode).record_rule members areas kind w) v }
 {
     match mode {
         Mode::Hourly => record_keeps(members, areas, kind, w, v),
@@ -298,7 +298,7 @@ pub fn record_keeps_as(mode: Mode, members: u32, areas: u32, kind: u32, w: usize
 
 // Whether a record of this kind is a generator that is scheduled above its maximum.
 pub fn scheduled_above(kind: u32, scheduled: u32, maximum: u32) -> bool
-    ensures { result ≡ Refusals.scheduledAbove kind scheduled maximum }
+    ensures { result ≡ Refusals.scheduled_above kind scheduled maximum }
 {
     if kind != 1 {
         return false;

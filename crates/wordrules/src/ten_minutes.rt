@@ -14,7 +14,7 @@ const PRICE: Rule = Rule::AtMostInSize(100000);
 
 // Word `w` of the head, in a file of so many zones and areas.
 pub fn head_rule(zones: u32, areas: u32, w: usize) -> Rule
-    ensures { result ≡ Ranges.tenMinutesHeadRule zones areas w }
+    ensures { result ≡ Ranges.ten_minutes_head_rule zones areas w }
 {
     if w < 9 {
         return Rule::Any;
@@ -38,7 +38,7 @@ pub fn head_rule(zones: u32, areas: u32, w: usize) -> Rule
 
 // The areas' words, from the first on: the zone of each, and no ties.
 fn zone_rule(zones: u32, areas: u32, w: usize) -> Rule
-    ensures { result ≡ cond (ltb (w / 4) areas && eqb (w % 4) 0) (Rules.LessThan zones) Ranges.mustBeZero }
+    ensures { result ≡ cond (ltb (w / 4) areas && eqb (w % 4) 0) (Rules.LessThan zones) Ranges.must_be_zero }
 {
     if w / 4 < areas as usize {
         if w % 4 == 0 {
@@ -52,7 +52,7 @@ fn zone_rule(zones: u32, areas: u32, w: usize) -> Rule
 
 // Words 3 to 25 of a generator, which uses all of them: schedules, multipliers, actuals, adjustments, ancillary figures.
 fn generator_rule(w: usize) -> Rule
-    ensures { result ≡ get_or (Ranges.tenMinutesRulesOf Kinds.Generator) (w - 3) Ranges.mustBeZero }
+    ensures { result ≡ get_or (Ranges.ten_minutes_rules_of Kinds.Generator) (w - 3) Ranges.must_be_zero }
 {
     if w < 6 {
         return ENERGY;
@@ -74,7 +74,7 @@ fn generator_rule(w: usize) -> Rule
 
 // A load metered in real time uses no multipliers.
 fn real_time_uses(w: usize) -> bool
-    ensures { result ≡ Ranges.keeps (get_or (Ranges.tenMinutesRulesOf Kinds.RealTimeLoad) (w - 3) Ranges.mustBeZero) 1 }
+    ensures { result ≡ Ranges.keeps (get_or (Ranges.ten_minutes_rules_of Kinds.RealTimeLoad) (w - 3) Ranges.must_be_zero) 1 }
 {
     if w < 6 {
         return true;
@@ -87,7 +87,7 @@ fn real_time_uses(w: usize) -> bool
 
 // A load by profile uses this hour's schedule, its hourly reading, adjustments and ancillary figures.
 fn profile_uses(w: usize) -> bool
-    ensures { result ≡ Ranges.keeps (get_or (Ranges.tenMinutesRulesOf Kinds.ProfileLoad) (w - 3) Ranges.mustBeZero) 1 }
+    ensures { result ≡ Ranges.keeps (get_or (Ranges.ten_minutes_rules_of Kinds.ProfileLoad) (w - 3) Ranges.must_be_zero) 1 }
 {
     if w < 4 {
         return true;
@@ -103,7 +103,7 @@ fn profile_uses(w: usize) -> bool
 
 // An import has no actuals.
 fn import_uses(w: usize) -> bool
-    ensures { result ≡ Ranges.keeps (get_or (Ranges.tenMinutesRulesOf Kinds.Import) (w - 3) Ranges.mustBeZero) 1 }
+    ensures { result ≡ Ranges.keeps (get_or (Ranges.ten_minutes_rules_of Kinds.Import) (w - 3) Ranges.must_be_zero) 1 }
 {
     if w < 4 {
         return true;
@@ -122,7 +122,7 @@ fn import_uses(w: usize) -> bool
 
 // An export has no ancillary figures.
 fn export_uses(w: usize) -> bool
-    ensures { result ≡ Ranges.keeps (get_or (Ranges.tenMinutesRulesOf Kinds.Export) (w - 3) Ranges.mustBeZero) 1 }
+    ensures { result ≡ Ranges.keeps (get_or (Ranges.ten_minutes_rules_of Kinds.Export) (w - 3) Ranges.must_be_zero) 1 }
 {
     if w < 4 {
         return true;
@@ -135,7 +135,7 @@ fn export_uses(w: usize) -> bool
 
 // Whether a ten-minute record of this kind uses word `w` of words 3 to 25: whether a 1 may stand there.
 fn uses(kind: u32, w: usize) -> bool
-    ensures { result ≡ Ranges.keeps (get_or (Ranges.tenMinutesRulesOf (Record.kind_of kind)) (w - 3) Ranges.mustBeZero) 1 }
+    ensures { result ≡ Ranges.keeps (get_or (Ranges.ten_minutes_rules_of (Record.kind_of kind)) (w - 3) Ranges.must_be_zero) 1 }
 {
     if kind == 1 {
         return w < 26;
@@ -157,7 +157,7 @@ fn uses(kind: u32, w: usize) -> bool
 
 // Whether word `w` of a ten-minute record of this kind keeps its rule, in a file of so many members and areas.
 pub fn record_keeps(members: u32, areas: u32, kind: u32, w: usize, v: u32) -> bool
-    ensures { result ≡ Ranges.keeps (Ranges.tenMinutesRecordRule members areas kind w) v }
+    ensures { result ≡ Ranges.keeps (Ranges.ten_minutes_record_rule members areas kind w) v }
 {
     if w == 0 {
         return within(1, 5, v);

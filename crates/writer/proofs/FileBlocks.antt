@@ -4,113 +4,113 @@ use Rattle.std.proofs.Common.{◌≡◌, ℕ, ◌+◌, ◌-◌, ◌*◌, ◌/◌
 use lib.ListN.{get_or-eq_default}
 use Rattle.whole.specs.Below.{replacingFirst}
 use Rattle.whole.proofs.Tests.{split}
-use Rattle.whole.proofs.Sums.{sum-ext}
-use Rattle.whole.proofs.Buffers.{replacing-none, replacing-then}
+use Rattle.whole.proofs.Sums.{sum_ext}
+use Rattle.whole.proofs.Buffers.{replacing_none, replacing_then}
 use Rattle.rules.specs.Record.{Hour}
 use Rattle.rules.specs.HourFile.{hourly}
-use Rattle.rules.specs.HourWords.{closing, openBlock, blocksFor, heldIn, bodyWord, openWord, fileWord, fileByte}
-use Rattle.writer.specs.Lists.{hourOfLists, ListsWhole}
-use Rattle.writer.specs.Stored.{bytes_of, openList, closedBlock, blockBytes, blockPlaced, heldWords}
-use Rattle.examine.proofs.Listed.{said-count, said-head, said-word, gap}
-use Rattle.writer.proofs.Said.{block-count}
+use Rattle.rules.specs.HourWords.{closing, open_block, blocks_for, held_in, body_word, open_word, file_word, file_byte}
+use Rattle.writer.specs.Lists.{hour_of_lists, ListsWhole}
+use Rattle.writer.specs.Stored.{bytes_of, open_list, closed_block, block_bytes, block_placed, held_words}
+use Rattle.examine.proofs.Listed.{said_count, said_head, said_word, gap}
+use Rattle.writer.proofs.Said.{block_count}
 
 -- ---- a block that says what block b of an hour's file says
 
 module _ (h : Hour) (b mark count : ℕ) (body : List ℕ) (mark-is : mark ≡ cond (eqb b 0) 1 2)
-    (count-is : count ≡ cond (eqb b 0) (blocksFor hourly h - 1) (heldIn hourly h b))
-    (body_is : (k : ℕ) → k < 120 → get_or body k 0 ≡ bodyWord hourly h b k) where
-  open-same : (w : ℕ) → w < 128 → openList mark b count body w ≡ openWord hourly h b w
-  unfolding openBlock openWord
-  open-same w l = rw (mark-is, count-is, body_is (w - 8) (omega arith))
+    (count_is : count ≡ cond (eqb b 0) (blocks_for hourly h - 1) (held_in hourly h b))
+    (body_is : (k : ℕ) → k < 120 → get_or body k 0 ≡ body_word hourly h b k) where
+  open_same : (w : ℕ) → w < 128 → open_list mark b count body w ≡ open_word hourly h b w
+  unfolding open_block open_word
+  open_same w l = rw (mark-is, count_is, body_is (w - 8) (omega arith))
 
-  closed_same : (w : ℕ) → w < 128 → closedBlock mark b count body w ≡ fileWord hourly h b w
-  unfolding closedBlock fileWord
+  closed_same : (w : ℕ) → w < 128 → closed_block mark b count body w ≡ file_word hourly h b w
+  unfolding closed_block file_word
   closed_same w l =
-      ap₂ (λ (sum v : ℕ). cond (eqb w 7) (closing sum) v) (sum-ext _ _ 128 open-same) (open-same w l)
+      ap₂ (λ (sum v : ℕ). cond (eqb w 7) (closing sum) v) (sum_ext _ _ 128 open_same) (open_same w l)
 
-  byte-same : (k : ℕ) → k < 512 → bytes_of (closedBlock mark b count body) k ≡ fileByte hourly h (512 * b + k)
-  unfolding bytes_of fileByte
-  byte-same k l =
+  byte_same : (k : ℕ) → k < 512 → bytes_of (closed_block mark b count body) k ≡ file_byte hourly h (512 * b + k)
+  unfolding bytes_of file_byte
+  byte_same k l =
       let at : ℕ = 512 * b + k in
       let block_at : at / 512 ≡ b = omega arith in
       let word_at : at % 512 / 4 ≡ k / 4 = omega arith in
       let byte_at : at % 4 ≡ k % 4 = omega arith in
       rw (block_at, word_at, byte_at, closed_same (k / 4) (omega arith))
 
-  next-block : (old : List ℕ) →
-      blockPlaced b (blockBytes mark b count body) (replacingFirst (fileByte hourly h) (512 * b) old)
-      ≡ replacingFirst (fileByte hourly h) (512 * b + 512) old
-  unfolding blockPlaced blockBytes
-  next-block old = replacing-then (fileByte hourly h) (bytes_of (closedBlock mark b count body)) (512 * b) 512 old byte-same
+  next_block : (old : List ℕ) →
+      block_placed b (block_bytes mark b count body) (replacingFirst (file_byte hourly h) (512 * b) old)
+      ≡ replacingFirst (file_byte hourly h) (512 * b + 512) old
+  unfolding block_placed block_bytes
+  next_block old = replacing_then (file_byte hourly h) (bytes_of (closed_block mark b count body)) (512 * b) 512 old byte_same
 
 -- ---- the words of the records of a block
 
 module _ (head records : List ℕ) (whole : ListsWhole head records) where
   abbrev h : Hour
-  h = hourOfLists head records
+  h = hour_of_lists head records
 
-  module _ (b : ℕ) (some : 1 ≤ b) (there : b < blocksFor hourly h) where
+  module _ (b : ℕ) (some : 1 ≤ b) (there : b < blocks_for hourly h) where
     abbrev from : ℕ
     from = 120 * (b - 1)
 
     abbrev held : List ℕ
-    held = heldWords b records
+    held = held_words b records
 
     -- ten records where so many are left, else those that are
-    held-length : length held ≡ 12 * heldIn hourly h b
-    unfolding heldWords heldIn
-    held-length =
-        let blocks = block-count head records in
-        let all = whole.records-whole in
-        let count = said-count hourly head records in
+    held_length : length held ≡ 12 * held_in hourly h b
+    unfolding held_words held_in
+    held_length =
+        let blocks = block_count head records in
+        let all = whole.records_whole in
+        let count = said_count hourly head records in
         let rest = length-drop from records in
-        split (ltb (b + 1) (blocksFor hourly h))
-        (λ t. let l = ltb-true (b + 1) (blocksFor hourly h) t in rw t (length-take-le 120 (drop from records) (omega arith)))
-        (λ t. let l = ltb-false (b + 1) (blocksFor hourly h) t in
+        split (ltb (b + 1) (blocks_for hourly h))
+        (λ t. let l = ltb-true (b + 1) (blocks_for hourly h) t in rw t (length-take-le 120 (drop from records) (omega arith)))
+        (λ t. let l = ltb-false (b + 1) (blocks_for hourly h) t in
         rw t (ap length (take_all 120 (drop from records) (omega arith)) ∙ rest ∙ omega arith))
 
-    pub held-few : length held ≤ 120
-    unfolding heldWords
-    held-few = omega (arith, length-take 120 (drop from records))
+    pub held_few : length held ≤ 120
+    unfolding held_words
+    held_few = omega (arith, length-take 120 (drop from records))
 
-    held-inside : length held ≤ length records - from
-    unfolding heldWords
-    held-inside = omega (arith, length-take 120 (drop from records), length-drop from records)
+    held_inside : length held ≤ length records - from
+    unfolding held_words
+    held_inside = omega (arith, length-take 120 (drop from records), length-drop from records)
 
-    held-count : length held / 12 ≡ heldIn hourly h b
-    held-count = omega (arith, held-length)
+    held_count : length held / 12 ≡ held_in hourly h b
+    held_count = omega (arith, held_length)
 
-    held_word : (k : ℕ) → k < 120 → get_or held k 0 ≡ bodyWord hourly h b k
-    unfolding heldWords bodyWord
-    held_word k l = split (ltb k (12 * heldIn hourly h b))
-        (λ t. rw (ne_eqb b 0 (λ e. omega arith), t) (inside (ltb-true k (12 * heldIn hourly h b) t)))
+    held_word : (k : ℕ) → k < 120 → get_or held k 0 ≡ body_word hourly h b k
+    unfolding held_words body_word
+    held_word k l = split (ltb k (12 * held_in hourly h b))
+        (λ t. rw (ne_eqb b 0 (λ e. omega arith), t) (inside (ltb-true k (12 * held_in hourly h b) t)))
         (λ t. rw (ne_eqb b 0 (λ e. omega arith), t)
-        (get_or-eq_default held 0 {n = k} (let m = ltb-false k (12 * heldIn hourly h b) t in omega (arith, held-length))))
+        (get_or-eq_default held 0 {n = k} (let m = ltb-false k (12 * held_in hourly h b) t in omega (arith, held_length))))
       where
-        inside : k < 12 * heldIn hourly h b → get_or (take 120 (drop from records)) k 0 ≡ h.rec (10 * (b - 1) + k / 12) (k % 12)
+        inside : k < 12 * held_in hourly h b → get_or (take 120 (drop from records)) k 0 ≡ h.rec (10 * (b - 1) + k / 12) (k % 12)
         inside m =
             let i : ℕ = 10 * (b - 1) + k / 12 in
             let place : from + k ≡ 12 * i + k % 12 = omega arith in
-            let there : i < length records / 12 = omega (arith, held-length, held-inside) in
+            let there : i < length records / 12 = omega (arith, held_length, held_inside) in
             get_or-take 120 (drop from records) k 0 l ∙ get_or-drop from records k 0 ∙ ap (λ (j : ℕ). get_or records j 0) place
-            ∙ sym (said-word hourly head records i (k % 12) there (omega arith))
+            ∙ sym (said_word hourly head records i (k % 12) there (omega arith))
 
-    pub records-placed : (old : List ℕ) →
-        blockPlaced b (blockBytes 2 b (length held / 12) held) (replacingFirst (fileByte hourly h) (512 * b) old)
-        ≡ replacingFirst (fileByte hourly h) (512 * b + 512) old
-    records-placed old = next-block h b 2 (length held / 12) held (rw other) (held-count ∙ rw other) held_word old
+    pub records_placed : (old : List ℕ) →
+        block_placed b (block_bytes 2 b (length held / 12) held) (replacingFirst (file_byte hourly h) (512 * b) old)
+        ≡ replacingFirst (file_byte hourly h) (512 * b + 512) old
+    records_placed old = next_block h b 2 (length held / 12) held (rw other) (held_count ∙ rw other) held_word old
       where
         other : eqb b 0 ≡ false
         other = ne_eqb b 0 (λ e. omega arith)
 
   -- ---- the first block
 
-  head-word : (k : ℕ) → k < 120 → get_or head k 0 ≡ bodyWord hourly h 0 k
-  unfolding bodyWord
-  head-word k l = ap (λ (j : ℕ). get_or head j 0) (sym (gap 8 k)) ∙ sym (said-head hourly head records (8 + k) (omega arith) (omega arith))
+  head_word : (k : ℕ) → k < 120 → get_or head k 0 ≡ body_word hourly h 0 k
+  unfolding body_word
+  head_word k l = ap (λ (j : ℕ). get_or head j 0) (sym (gap 8 k)) ∙ sym (said_head hourly head records (8 + k) (omega arith) (omega arith))
 
-  pub head-placed : (count : ℕ) (old : List ℕ) → count ≡ blocksFor hourly h - 1 →
-      blockPlaced 0 (blockBytes 1 0 count head) old ≡ replacingFirst (fileByte hourly h) 512 old
-  head-placed count old e =
-      ap (blockPlaced 0 (blockBytes 1 0 count head)) (sym (replacing-none (fileByte hourly h) old))
-      ∙ next-block h 0 1 count head refl e head-word old
+  pub head_placed : (count : ℕ) (old : List ℕ) → count ≡ blocks_for hourly h - 1 →
+      block_placed 0 (block_bytes 1 0 count head) old ≡ replacingFirst (file_byte hourly h) 512 old
+  head_placed count old e =
+      ap (block_placed 0 (block_bytes 1 0 count head)) (sym (replacing_none (file_byte hourly h) old))
+      ∙ next_block h 0 1 count head refl e head_word old

@@ -2,35 +2,35 @@
 use Rattle.std.proofs.Common.{◌≡◌, ℕ, zero, suc, ◌+◌, ◌-◌, ◌%◌, ◌<◌, ◌≤◌, List, [], ◌∷◌, length, get_or, sym, refl, ap, ◌∙◌, arith, ne_eqb}
 use native.Mathlib.Nat.{mod-add-mod}
 use lib.ListN.{get_or-eq_default}
-use Rattle.whole.specs.Below.{sumBelow}
-use Rattle.whole.proofs.Sums.{sum_then, sum-ext, sum-zero}
-use Rattle.rules.specs.HourWords.{closing, openBlock}
-use Rattle.writer.specs.Stored.{openList, closedBlock}
+use Rattle.whole.specs.Below.{sum_below}
+use Rattle.whole.proofs.Sums.{sum_then, sum_ext, sum_zero}
+use Rattle.rules.specs.HourWords.{closing, open_block}
+use Rattle.writer.specs.Stored.{open_list, closed_block}
 use Rattle.examine.proofs.Listed.{gap}
 
 -- past the end of a list all are 0
-words-sum : (l : List ℕ) (n : ℕ) → length l ≤ n → sumBelow (λ k. get_or l k 0) n ≡ sumBelow (λ k. get_or l k 0) (length l)
-words-sum l n few =
+words_sum : (l : List ℕ) (n : ℕ) → length l ≤ n → sum_below (λ k. get_or l k 0) n ≡ sum_below (λ k. get_or l k 0) (length l)
+words_sum l n few =
     let whole : length l + (n - length l) ≡ n = omega arith in
-    let rest = sum-ext (λ i. get_or l (length l + i) 0) (λ i. 0) (n - length l) (λ i m. get_or-eq_default l 0 (omega arith))
-    ∙ sum-zero (n - length l) in
-    ap (sumBelow (λ k. get_or l k 0)) (sym whole) ∙ sum_then (λ k. get_or l k 0) (length l) (n - length l) ∙ omega (arith, rest)
+    let rest = sum_ext (λ i. get_or l (length l + i) 0) (λ i. 0) (n - length l) (λ i m. get_or-eq_default l 0 (omega arith))
+    ∙ sum_zero (n - length l) in
+    ap (sum_below (λ k. get_or l k 0)) (sym whole) ∙ sum_then (λ k. get_or l k 0) (length l) (n - length l) ∙ omega (arith, rest)
 
 module _ (mark position count : ℕ) (body : List ℕ) where
-  front-sum : sumBelow (openList mark position count body) 8 ≡ mark + position + count
-  unfolding sumBelow openBlock
-  front-sum = omega arith
+  front_sum : sum_below (open_list mark position count body) 8 ≡ mark + position + count
+  unfolding sum_below open_block
+  front_sum = omega arith
 
-  open-body : (k : ℕ) → openList mark position count body (8 + k) ≡ get_or body k 0
-  unfolding openBlock
-  open-body k = get_or-eq_default (mark ∷ position ∷ count ∷ 0 ∷ 0 ∷ 0 ∷ 0 ∷ 0 ∷ []) (get_or body (8 + k - 8) 0) {n = 8 + k} (omega arith)
+  open_body : (k : ℕ) → open_list mark position count body (8 + k) ≡ get_or body k 0
+  unfolding open_block
+  open_body k = get_or-eq_default (mark ∷ position ∷ count ∷ 0 ∷ 0 ∷ 0 ∷ 0 ∷ 0 ∷ []) (get_or body (8 + k - 8) 0) {n = 8 + k} (omega arith)
       ∙ ap (λ (j : ℕ). get_or body j 0) (gap 8 k)
 
-  pub open-sum : length body ≤ 120 →
-      sumBelow (openList mark position count body) 128 ≡ sumBelow (λ k. get_or body k 0) (length body) + mark + position + count
-  open-sum few =
-      sum_then (openList mark position count body) 8 120
-      ∙ omega (arith, front-sum, sum-ext _ (λ k. get_or body k 0) 120 (λ k l. open-body k) ∙ words-sum body 120 few)
+  pub open_sum : length body ≤ 120 →
+      sum_below (open_list mark position count body) 128 ≡ sum_below (λ k. get_or body k 0) (length body) + mark + position + count
+  open_sum few =
+      sum_then (open_list mark position count body) 8 120
+      ∙ omega (arith, front_sum, sum_ext _ (λ k. get_or body k 0) 120 (λ k l. open_body k) ∙ words_sum body 120 few)
 
 -- what wraps back to zero with a sum modulo 2^32
 pub closes : (r kept sum : ℕ) → r < 0x1_0000_0000 → (r + kept) % 0x1_0000_0000 ≡ 0 → kept ≡ sum % 0x1_0000_0000 → r ≡ closing sum
@@ -45,29 +45,29 @@ kept_on m acc s x r e f = f ∙ rw e (mod-add-mod s m x)
 
 module _ (mark position count : ℕ) (body : List ℕ) where
   abbrev block : ℕ → ℕ
-  block = closedBlock mark position count body
+  block = closed_block mark position count body
 
-  pub closed-front : (block 0 ≡ mark) × (block 1 ≡ position) × (block 2 ≡ count)
-  unfolding closedBlock openBlock
-  closed-front = (refl, refl, refl)
+  pub closed_front : (block 0 ≡ mark) × (block 1 ≡ position) × (block 2 ≡ count)
+  unfolding closed_block open_block
+  closed_front = (refl, refl, refl)
 
-  pub closed-gap : (i : ℕ) → i < 4 → block (3 + i) ≡ 0
-  unfolding closedBlock openBlock
-  closed-gap zero l = refl
-  closed-gap (suc zero) l = refl
-  closed-gap (suc (suc zero)) l = refl
-  closed-gap (suc (suc (suc zero))) l = refl
-  closed-gap (suc (suc (suc (suc i)))) l = absurd (omega arith)
+  pub closed_gap : (i : ℕ) → i < 4 → block (3 + i) ≡ 0
+  unfolding closed_block open_block
+  closed_gap zero l = refl
+  closed_gap (suc zero) l = refl
+  closed_gap (suc (suc zero)) l = refl
+  closed_gap (suc (suc (suc zero))) l = refl
+  closed_gap (suc (suc (suc (suc i)))) l = absurd (omega arith)
 
-  pub closed-sum : block 7 ≡ closing (sumBelow (openList mark position count body) 128)
-  unfolding closedBlock
-  closed-sum = refl
+  pub closed_sum : block 7 ≡ closing (sum_below (open_list mark position count body) 128)
+  unfolding closed_block
+  closed_sum = refl
 
-  pub closed-body : (k : ℕ) → block (8 + k) ≡ get_or body k 0
-  unfolding closedBlock
-  closed-body k = rw (ne_eqb (8 + k) 7 (λ e. omega arith)) (open-body mark position count body k)
+  pub closed_body : (k : ℕ) → block (8 + k) ≡ get_or body k 0
+  unfolding closed_block
+  closed_body k = rw (ne_eqb (8 + k) 7 (λ e. omega arith)) (open_body mark position count body k)
 
-  pub closed-past : (w : ℕ) → 8 + length body ≤ w → block w ≡ 0
-  closed-past w l =
+  pub closed_past : (w : ℕ) → 8 + length body ≤ w → block w ≡ 0
+  closed_past w l =
       let whole : 8 + (w - 8) ≡ w = omega arith in
-      ap block (sym whole) ∙ closed-body (w - 8) ∙ get_or-eq_default body 0 {n = w - 8} (omega arith)
+      ap block (sym whole) ∙ closed_body (w - 8) ∙ get_or-eq_default body 0 {n = w - 8} (omega arith)

@@ -3,5 +3,5 @@ use Rattle.std.specs.Prelude.{ℕ, List}
 use Rattle.rules.specs.Settling.{HourWritten}
 use Rattle.writer.specs.declared.boundary.NumberedFiled.{NumberedFiled}
 
-abbrev pub hourWritten : NumberedFiled → List ℕ → HourWritten
-hourWritten r after = record { verdict = record { number = r.number; place = r.place }; length = r.length; file = after }
+abbrev pub hour_written : NumberedFiled → List ℕ → HourWritten
+hour_written r after = record { verdict = record { number = r.number; place = r.place }; length = r.length; file = after }

@@ -4,7 +4,7 @@
 ghost use Rattle.std.specs.Prelude.{◌≡◌};
 ghost use Rattle.rules.specs.Settling as Settling;
 ghost use Rattle.rules.specs.Promised.Writing.{AreWords};
-ghost use Rattle.writer.specs.HandedOut.{hourWritten};
+ghost use Rattle.writer.specs.HandedOut.{hour_written};
 
 #[repr(C)]
 #[derive(Drop)]
@@ -21,8 +21,8 @@ pub extern "C" fn sneupelaar_write_hour(
     records: &[u32],
     file: &mut [u8],
 ) -> NumberedFiled
-    ensures file { hourWritten result file.new
-        ≡ Settling.writeHour head.now records.now file.old }
+    ensures file { hour_written result file.new
+        ≡ Settling.write_hour head.now records.now file.old }
     ensures words { AreWords head.now × AreWords records.now }
 {
     let filed = crate::write_hour(head, records, file);

@@ -8,8 +8,8 @@ ghost use Rattle.rules.specs.HourWords as HourWords;
 ghost use Rattle.rules.specs.Refusals as Refusals;
 ghost use Rattle.rules.specs.Settling as Settling;
 ghost use Rattle.rules.specs.Promised.Writing.{AreWords};
-ghost use Rattle.writer.specs.Lists.{hourOfLists, ListsWhole};
-ghost use Rattle.writer.specs.Stored.{blockBytes, blockPlaced, heldWords};
+ghost use Rattle.writer.specs.Lists.{hour_of_lists, ListsWhole};
+ghost use Rattle.writer.specs.Stored.{block_bytes, block_placed, held_words};
 
 mod block;
 pub mod boundary;
@@ -20,7 +20,7 @@ use rules::{Answer, Filed};
 // The words of the records of block `b`, behind the first: of ten, or of those that are left.
 fn held_by(records: &[u32], b: usize) -> &[u32]
     requires { (1 ≤ b) × (120 * (b - 1) ≤ length records.now) }
-    ensures { result.now ≡ heldWords b records.now }
+    ensures { result.now ≡ held_words b records.now }
 {
     let from = 120 * (b - 1);
     let to = from + 120;
@@ -33,7 +33,7 @@ fn held_by(records: &[u32], b: usize) -> &[u32]
 // Block `b` at its place in the file.
 fn put_at(file: &mut [u8], b: usize, mark: u32, count: u32, body: &[u32])
     requires { (512 * b + 512 ≤ length file.old) × (b < 26) × (length body.now ≤ 120) }
-    ensures { file.new ≡ blockPlaced b (blockBytes mark b count body.now) file.old }
+    ensures { file.new ≡ block_placed b (block_bytes mark b count body.now) file.old }
 {
     let from = 512 * b;
     let to = from + 512;
@@ -43,11 +43,11 @@ fn put_at(file: &mut [u8], b: usize, mark: u32, count: u32, body: &[u32])
 // The whole file at the start of the buffer; its length is handed back.
 fn put_file(head: &[u32], records: &[u32], file: &mut [u8]) -> usize
     requires { ListsWhole head.now records.now
-        × (HourWords.fileLength hourly (hourOfLists head.now records.now) ≤ length file.old) }
-    ensures length { result ≡ HourWords.fileLength hourly (hourOfLists head.now records.now) }
+        × (HourWords.file_length hourly (hour_of_lists head.now records.now) ≤ length file.old) }
+    ensures length { result ≡ HourWords.file_length hourly (hour_of_lists head.now records.now) }
     ensures file { file.new
-        ≡ replacingFirst (HourWords.fileByte hourly (hourOfLists head.now records.now))
-        (HourWords.fileLength hourly (hourOfLists head.now records.now)) file.old }
+        ≡ replacingFirst (HourWords.file_byte hourly (hour_of_lists head.now records.now))
+        (HourWords.file_length hourly (hour_of_lists head.now records.now)) file.old }
 {
     let blocks = lists::blocks_for(records);
     put_at(file, 0, 1, (blocks - 1) as u32, head);
@@ -62,10 +62,10 @@ fn put_file(head: &[u32], records: &[u32], file: &mut [u8]) -> usize
 
 // Writes the hour file of a head and records at the start of `file`.
 pub fn write_hour(head: &[u32], records: &[u32], file: &mut [u8]) -> Filed
-    ensures verdict { Refusals.verdictOf result.answer
-        ≡ (Settling.writeHour head.now records.now file.old).verdict }
-    ensures length { result.length ≡ (Settling.writeHour head.now records.now file.old).length }
-    ensures file { file.new ≡ (Settling.writeHour head.now records.now file.old).file }
+    ensures verdict { Refusals.verdict_of result.answer
+        ≡ (Settling.write_hour head.now records.now file.old).verdict }
+    ensures length { result.length ≡ (Settling.write_hour head.now records.now file.old).length }
+    ensures file { file.new ≡ (Settling.write_hour head.now records.now file.old).file }
     ensures words { AreWords head.now × AreWords records.now }
 {
     let answer = lists::first_refusal(head, records, file.len());

@@ -4,7 +4,7 @@ ghost use Rattle.std.specs.Prelude.{◌≡◌, ℕ, List};
 ghost use Rattle.rules.specs.HourWords as HourWords;
 ghost use Rattle.rules.specs.HourFile.{hourly};
 ghost use Rattle.rules.specs.Refusals as Refusals;
-ghost use Rattle.writer.specs.Lists.{hourOfLists};
+ghost use Rattle.writer.specs.Lists.{hour_of_lists};
 
 use examine::search;
 use examine::search::Source;
@@ -14,7 +14,7 @@ use rules::{Answer, Mode};
 
 // Whether the head has another length, the records aren't whole, or they are over 250.
 fn lists_bad(head: &[u32], records: &[u32]) -> bool
-    ensures { Refusals.placeZeroIf result ≡ Refusals.badLists head.now records.now }
+    ensures { Refusals.place_zero_if result ≡ Refusals.bad_lists head.now records.now }
 {
     if head.len() != 120 {
         return true;
@@ -29,7 +29,7 @@ fn lists_bad(head: &[u32], records: &[u32]) -> bool
 
 // How many blocks the file has: the first, and one for every ten records or part of them.
 pub fn blocks_for(records: &[u32]) -> usize
-    ensures { (head : List ℕ) → result ≡ HourWords.blocksFor hourly (hourOfLists head records.now) }
+    ensures { (head : List ℕ) → result ≡ HourWords.blocks_for hourly (hour_of_lists head records.now) }
 {
     1 + (records.len() / 12 + 9) / 10
 }
@@ -38,7 +38,7 @@ pub fn blocks_for(records: &[u32]) -> usize
 
 // Accepted, or the first of the writer's refusals that the lists and so much room break, with its place.
 pub fn first_refusal(head: &[u32], records: &[u32], room: usize) -> Answer
-    ensures { Refusals.verdictOf result ≡ Refusals.verdict (Refusals.writeHourRows head.now records.now room) }
+    ensures { Refusals.verdict_of result ≡ Refusals.verdict (Refusals.write_hour_rows head.now records.now room) }
 {
     if lists_bad(head, records) {
         return Answer::BadLength;

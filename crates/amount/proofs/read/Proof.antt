@@ -9,77 +9,77 @@ use borrow.Author.Tests.{eq-eqb, ne_eqb}
 use lib.IntN.{ℤ}
 use lib.ListN.{length}
 use Rattle.rules.specs.declared.Reading.{Reading}
-use Rattle.rules.specs.Text.{Part, pastBlanks, signAt, dollarsAt, centsAt, withMinus, amountIn}
-use Rattle.rules.specs.Refusals.{verdictOf}
-use Rattle.rules.specs.Settling.{ReadAmount, orRefused, read}
-use Rattle.rules.proofs.Parts.{dollars-found, cents-found}
+use Rattle.rules.specs.Text.{Part, past_blanks, sign_at, dollars_at, cents_at, with_minus, amount_in}
+use Rattle.rules.specs.Refusals.{verdict_of}
+use Rattle.rules.specs.Settling.{ReadAmount, or_refused, read}
+use Rattle.rules.proofs.Parts.{dollars_found, cents_found}
 use Rattle.amount.specs.declared.reading.Cursor.{Cursor}
 use Rattle.amount.specs.declared.reading.Sign.{Sign}
 use Rattle.amount.specs.declared.reading.Sign.TheVariants as sign
 use Rattle.amount.specs.declared.reading.Number.{Number}
 use Rattle.amount.specs.declared.reading.Number.TheVariants as number
-use Rattle.amount.specs.Parts.{signPart, numberPart, readAmount}
+use Rattle.amount.specs.Parts.{sign_part, number_part, read_amount}
 use borrow.Author.Rules.{rules}
 use Rattle.amount.proofs.read.Statement.{statement}
 use Rattle.amount.proofs.read.Tie as tie
 
--- ---- the answers of the parts, as the parts of `amountIn`
+-- ---- the answers of the parts, as the parts of `amount_in`
 
-sign-found : {r : Sign} {o : Option (Part Bool)} {m : Bool} {k : Cursor} → signPart r ≡ o → r ≡ sign.Found m k →
+sign_found : {r : Sign} {o : Option (Part Bool)} {m : Bool} {k : Cursor} → sign_part r ≡ o → r ≡ sign.Found m k →
     o ≡ some (record { value = m; next = k.at })
-sign-found e f = sym e ∙ ap signPart f
+sign_found e f = sym e ∙ ap sign_part f
 
-number-found : {r : Number} {o : Option (Part ℕ)} {n : ℕ} {k : Cursor} → numberPart r ≡ o → r ≡ number.Found n k →
+number-found : {r : Number} {o : Option (Part ℕ)} {n : ℕ} {k : Cursor} → number_part r ≡ o → r ≡ number.Found n k →
     o ≡ some (record { value = n; next = k.at })
-number-found e f = sym e ∙ ap numberPart f
+number-found e f = sym e ∙ ap number_part f
 
 module _ (s : List ℕ) where
   -- a reading is what its parts make of it
-  answered : (r : Reading) (o : Option ℤ) → readAmount r ≡ orRefused o → amountIn s ≡ o →
-      (verdictOf r.answer ≡ (read s).verdict) × (r.amount ≡ (read s).amount)
+  answered : (r : Reading) (o : Option ℤ) → read_amount r ≡ or_refused o → amount_in s ≡ o →
+      (verdict_of r.answer ≡ (read s).verdict) × (r.amount ≡ (read s).amount)
   unfolding read
-  answered r o e q = let w = e ∙ ap orRefused (sym q) in (ap (λ (a : ReadAmount). a.verdict) w, ap (λ (a : ReadAmount). a.amount) w)
+  answered r o e q = let w = e ∙ ap or_refused (sym q) in (ap (λ (a : ReadAmount). a.verdict) w, ap (λ (a : ReadAmount). a.amount) w)
 
-  no_sign : signAt s (pastBlanks s 0) ≡ none → amountIn s ≡ none
-  unfolding amountIn bind
+  no_sign : sign_at s (past_blanks s 0) ≡ none → amount_in s ≡ none
+  unfolding amount_in bind
   no_sign e = rw e
 
-  module _ (sign : Part Bool) (sign-is : signAt s (pastBlanks s 0) ≡ some sign) where
-    no-dollars : dollarsAt s sign.next ≡ none → amountIn s ≡ none
-    unfolding amountIn bind
-    no-dollars e = rw (sign-is, e)
+  module _ (sign : Part Bool) (sign_is : sign_at s (past_blanks s 0) ≡ some sign) where
+    no-dollars : dollars_at s sign.next ≡ none → amount_in s ≡ none
+    unfolding amount_in bind
+    no-dollars e = rw (sign_is, e)
 
-    module _ (dollars : Part ℕ) (dollars-are : dollarsAt s sign.next ≡ some dollars) where
-      no-cents : centsAt s dollars.next ≡ none → amountIn s ≡ none
-      unfolding amountIn bind
-      no-cents e = rw (sign-is, dollars-are, e)
+    module _ (dollars : Part ℕ) (dollars_are : dollars_at s sign.next ≡ some dollars) where
+      no-cents : cents_at s dollars.next ≡ none → amount_in s ≡ none
+      unfolding amount_in bind
+      no-cents e = rw (sign_is, dollars_are, e)
 
-      module _ (cents : Part ℕ) (cents-are : centsAt s dollars.next ≡ some cents) where
-        something-after : (cents.next ≡ length s → ⊥) → amountIn s ≡ none
-        unfolding amountIn bind
-        something-after e = rw (sign-is, dollars-are, cents-are, ne_eqb cents.next (length s) e)
+      module _ (cents : Part ℕ) (cents_are : cents_at s dollars.next ≡ some cents) where
+        something-after : (cents.next ≡ length s → ⊥) → amount_in s ≡ none
+        unfolding amount_in bind
+        something-after e = rw (sign_is, dollars_are, cents_are, ne_eqb cents.next (length s) e)
 
-        nothing-after : cents.next ≡ length s → amountIn s ≡ withMinus sign.value (100 * dollars.value + cents.value)
-        unfolding amountIn bind
-        nothing-after e = rw (sign-is, dollars-are, cents-are, eq-eqb cents.next (length s) e)
+        nothing-after : cents.next ≡ length s → amount_in s ≡ with_minus sign.value (100 * dollars.value + cents.value)
+        unfolding amount_in bind
+        nothing-after e = rw (sign_is, dollars_are, cents_are, eq-eqb cents.next (length s) e)
 
-        in-range : 100 * dollars.value + cents.value ≤ 999999999999
-        in-range = omega (arith, (dollars-found s sign.next dollars dollars-are).0, (cents-found s dollars.next cents cents-are).0)
+        in_range : 100 * dollars.value + cents.value ≤ 999999999999
+        in_range = omega (arith, (dollars_found s sign.next dollars dollars_are).0, (cents_found s dollars.next cents cents_are).0)
 
 -- ---- the parts that the code found
 
-past-blanks : (c : tie.After-sign) → let s = c.before.before.before.before.args.field.now in
-    signPart c.sign.result ≡ signAt s (pastBlanks s 0)
-past-blanks c = c.sign.ensures ∙ rw (c.before.blanks.ensures, c.before.before.start.ensures)
+past_blanks_lem : (c : tie.After-sign) → let s = c.before.before.before.before.args.field.now in
+    sign_part c.sign.result ≡ sign_at s (past_blanks s 0)
+past_blanks_lem c = c.sign.ensures ∙ rw (c.before.blanks.ensures, c.before.before.start.ensures)
 
 abbrev text : tie.After-known-told → List ℕ
 text c = c.before.before.before.before.before.before.before.args.field.now
 
 abbrev theSign : tie.After-known-told → Part Bool
-theSign c = let g = c.before.is-minus.given.0 in record { value = g.0; next = g.1.0.at }
+theSign c = let g = c.before.is_minus.given.0 in record { value = g.0; next = g.1.0.at }
 
-sign-is : (c : tie.After-known-told) → signAt (text c) (pastBlanks (text c) 0) ≡ some (theSign c)
-sign-is c = sign-found (past-blanks c.before.before.before) c.before.is-minus.given.1
+sign_is : (c : tie.After-known-told) → sign_at (text c) (past_blanks (text c) 0) ≡ some (theSign c)
+sign_is c = sign_found (past_blanks_lem c.before.before.before) c.before.is_minus.given.1
 
 abbrev told : tie.After-known-told2 → tie.After-known-told
 told c = c.before.before.before.before
@@ -87,8 +87,8 @@ told c = c.before.before.before.before
 abbrev theDollars : tie.After-known-told2 → Part ℕ
 theDollars c = let g = c.before.dollars2.given.0 in record { value = g.0; next = g.1.0.at }
 
-dollars-are : (c : tie.After-known-told2) → dollarsAt (text (told c)) (theSign (told c)).next ≡ some (theDollars c)
-dollars-are c = number-found c.before.before.before.dollars.ensures c.before.dollars2.given.1
+dollars_are : (c : tie.After-known-told2) → dollars_at (text (told c)) (theSign (told c)).next ≡ some (theDollars c)
+dollars_are c = number-found c.before.before.before.dollars.ensures c.before.dollars2.given.1
 
 abbrev told2 : tie.After-known-told3 → tie.After-known-told2
 told2 c = c.before.before.before.before
@@ -96,12 +96,12 @@ told2 c = c.before.before.before.before
 abbrev theCents : tie.After-known-told3 → Part ℕ
 theCents c = let g = c.before.cents2.given.0 in record { value = g.0; next = g.1.0.at }
 
-cents-are : (c : tie.After-known-told3) → centsAt (text (told (told2 c))) (theDollars (told2 c)).next ≡ some (theCents c)
-cents-are c = number-found c.before.before.before.cents.ensures c.before.cents2.given.1
+cents_are : (c : tie.After-known-told3) → cents_at (text (told (told2 c))) (theDollars (told2 c)).next ≡ some (theCents c)
+cents_are c = number-found c.before.before.before.cents.ensures c.before.cents2.given.1
 
 range : (c : tie.After-known-told3) → 100 * (theDollars (told2 c)).value + (theCents c).value ≤ 999999999999
 range c = let d = told2 c in let t = told d in
-    in-range (text t) (theSign t) (sign-is t) (theDollars d) (dollars-are d) (theCents c) (cents-are c)
+    in_range (text t) (theSign t) (sign_is t) (theDollars d) (dollars_are d) (theCents c) (cents_are c)
 
 start-requires : tie.Need-start-requires
 start-requires c κs = tt
@@ -128,7 +128,7 @@ refused-requires c κs = tt
 returns : tie.Need-returns
 returns c = let p = c.before.before.before in let s = p.before.before.before.before.args.field.now in
     answered s c.refused.result none c.refused.ensures
-    (no_sign s (sym (past-blanks p) ∙ ap signPart c.before.enum_told.given.1))
+    (no_sign s (sym (past_blanks_lem p) ∙ ap sign_part c.before.enum_told.given.1))
 
 dollars-requires : tie.Need-dollars-requires
 dollars-requires c κs = tt
@@ -149,7 +149,7 @@ refused-requires-2 c κs = tt
 returns-2 : tie.Need-returns-2
 returns-2 c = let p = c.before.before.before in let t = p.before in
     answered (text t) c.refused2.result none c.refused2.ensures
-    (no-dollars (text t) (theSign t) (sign-is t) (sym p.dollars.ensures ∙ ap numberPart c.before.enum-told2.given.1))
+    (no-dollars (text t) (theSign t) (sign_is t) (sym p.dollars.ensures ∙ ap number_part c.before.enum-told2.given.1))
 
 cents-requires : tie.Need-cents-requires
 cents-requires c κs = tt
@@ -170,8 +170,8 @@ refused-requires-3 c κs = tt
 returns-3 : tie.Need-returns-3
 returns-3 c = let p = c.before.before.before in let d = p.before in let t = told d in
     answered (text t) c.refused3.result none c.refused3.ensures
-    (no-cents (text t) (theSign t) (sign-is t) (theDollars d) (dollars-are d)
-    (sym p.cents.ensures ∙ ap numberPart c.before.enum-told3.given.1))
+    (no-cents (text t) (theSign t) (sign_is t) (theDollars d) (dollars_are d)
+    (sym p.cents.ensures ∙ ap number_part c.before.enum-told3.given.1))
 
 -- the fourth reading::refused()
 refused-requires-4 : tie.Need-refused-requires-4
@@ -181,7 +181,7 @@ refused-requires-4 c κs = tt
 returns-4 : tie.Need-returns-4
 returns-4 c = let k = c.before.before.before in let d = told2 k in let t = told d in
     answered (text t) c.refused4.result none c.refused4.ensures
-    (something-after (text t) (theSign t) (sign-is t) (theDollars d) (dollars-are d) (theCents k) (cents-are k) c.before.if1.true)
+    (something-after (text t) (theSign t) (sign_is t) (theDollars d) (dollars_are d) (theCents k) (cents_are k) c.before.if1.true)
 
 -- 100 * dollars
 mul-signed : tie.Need-overflow-mul-signed
@@ -197,9 +197,9 @@ signed-requires c κs = range c.before.before
 -- reading::signed(is_minus, 100 * dollars + cents)
 returns-5 : tie.Need-returns-5
 returns-5 c = let k = c.before.before.before in let d = told2 k in let t = told d in
-    answered (text t) c.signed.result (withMinus (theSign t).value (100 * (theDollars d).value + (theCents k).value))
+    answered (text t) c.signed.result (with_minus (theSign t).value (100 * (theDollars d).value + (theCents k).value))
     c.signed.ensures
-    (nothing-after (text t) (theSign t) (sign-is t) (theDollars d) (dollars-are d) (theCents k) (cents-are k) c.before.if1.false)
+    (nothing-after (text t) (theSign t) (sign_is t) (theDollars d) (dollars_are d) (theCents k) (cents_are k) c.before.if1.false)
 
 pub read_spec : {M : Type 1} → statement M
 read_spec =

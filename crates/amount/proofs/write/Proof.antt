@@ -8,8 +8,8 @@ use lib.IntN.{ℤ, nat_abs}
 use lib.ListN.{length, drop, replicate, length-replicate, replicate-append-replicate}
 use lib.Seq.{drop_at}
 use Rattle.whole.proofs.Machine.{read_back}
-use Rattle.rules.specs.Text.{amountField, amountText}
-use Rattle.rules.proofs.Text.{text-fits-14, amount-field-width, write-out-of-range, write-too-narrow, write-accepted-at}
+use Rattle.rules.specs.Text.{amount_field, amount_text}
+use Rattle.rules.proofs.Text.{text_fits_14, amount_field_width, write_out_of_range, write_too_narrow, write_accepted_at}
 use Rattle.amount.proofs.write.Statement.{statement}
 use Rattle.amount.proofs.write.Tie as tie
 
@@ -19,14 +19,14 @@ fewer-blanks : (k m : ℕ) (t : List ℕ) → drop k (replicate (k + m) 32 ++ t)
 fewer-blanks k m t = rw (← replicate-append-replicate {A = ℕ} k m 32, append_assoc)
     (drop_at (replicate k 32) (replicate m 32 ++ t) k (length-replicate k 32))
 
-at_width : (z : ℤ) (w : ℕ) → length (amountText z) ≤ 14 → length (amountText z) ≤ w →
-    replicate (w - 14) 32 ++ drop (6 + (14 - w)) (amountField 20 z) ≡ amountField w z
-unfolding amountField
+at_width : (z : ℤ) (w : ℕ) → length (amount_text z) ≤ 14 → length (amount_text z) ≤ w →
+    replicate (w - 14) 32 ++ drop (6 + (14 - w)) (amount_field 20 z) ≡ amount_field w z
+unfolding amount_field
 at_width z w short fits =
-    let m = 14 - length (amountText z) - (14 - w) in
-    let cut : 20 - length (amountText z) ≡ 6 + (14 - w) + m = omega arith in
-    let blanks : w - 14 + m ≡ w - length (amountText z) = omega arith in
-    rw (cut, fewer-blanks (6 + (14 - w)) m (amountText z), ← append_assoc, replicate-append-replicate {A = ℕ} (w - 14) m 32, blanks)
+    let m = 14 - length (amount_text z) - (14 - w) in
+    let cut : 20 - length (amount_text z) ≡ 6 + (14 - w) + m = omega arith in
+    let blanks : w - 14 + m ≡ w - length (amount_text z) = omega arith in
+    rw (cut, fewer-blanks (6 + (14 - w)) m (amount_text z), ← append_assoc, replicate-append-replicate {A = ℕ} (w - 14) m 32, blanks)
 
 -- ---- the needs
 
@@ -38,11 +38,11 @@ range : (c : tie.After-write-amount) → nat_abs c.before.before.before.before.b
 range c = omega (arith, sized c.before.before.before)
 
 written : (c : tie.After-write-amount) → let z = c.before.before.before.before.before.args.cents in
-    (length (amountText z) ≤ 14) × (c.write-amount.result ≡ length (amountText z)) × (c.write-amount.new.0 ≡ amountField 20 z)
+    (length (amount_text z) ≤ 14) × (c.write_amount.result ≡ length (amount_text z)) × (c.write_amount.new.0 ≡ amount_field 20 z)
 written c =
     let s = c.before.before.before.before.before in
-    let w = rw (read_back s.ranges.cents) at c.write-amount.ensures in
-    (text-fits-14 s.args.cents (range c), w.0, w.1)
+    let w = rw (read_back s.ranges.cents) at c.write_amount.ensures in
+    (text_fits_14 s.args.cents (range c), w.0, w.1)
 
 size-of-requires : tie.Need-size-of-requires
 size-of-requires c κs = tt
@@ -51,7 +51,7 @@ size-of-requires c κs = tt
 returns : tie.Need-returns
 returns c =
     let s = c.before.before.before in
-    rw (write-out-of-range s.args.field.now s.args.cents (omega (arith, sized c.before))) (refl, refl)
+    rw (write_out_of_range s.args.field.now s.args.cents (omega (arith, sized c.before))) (refl, refl)
 
 write-amount-requires : tie.Need-write-amount-requires
 write-amount-requires c κs = search rules
@@ -61,12 +61,12 @@ returns-2 : tie.Need-returns-2
 returns-2 c =
     let s = c.before.before.before.before.before.before.args in
     let w = written c.before in
-    rw (write-too-narrow s.field.now s.cents (range c.before) (omega (arith, w.0, w.1))) (refl, refl)
+    rw (write_too_narrow s.field.now s.cents (range c.before) (omega (arith, w.0, w.1))) (refl, refl)
 
 put-requires : tie.Need-put-requires
 put-requires c κs =
     let w = written c.before.before.before in
-    rw w.2 (amount-field-width 20 c.before.before.before.before.before.before.before.before.args.cents (omega (arith, w.0)))
+    rw w.2 (amount_field_width 20 c.before.before.before.before.before.before.before.before.args.cents (omega (arith, w.0)))
 
 -- field: &mut [u8]
 same_length : tie.Need-same-length
@@ -78,8 +78,8 @@ returns-3 c =
     let t = c.before.before.before.before.before.before in
     let s = t.before.before.before.before.before.args in
     let w = written t in
-    let fits : length (amountText s.cents) ≤ length s.field.now = omega (arith, w.0, w.1) in
-    rw (write-accepted-at s.field.now s.cents (range t) fits)
+    let fits : length (amount_text s.cents) ≤ length s.field.now = omega (arith, w.0, w.1) in
+    rw (write_accepted_at s.field.now s.cents (range t) fits)
     (refl, c.before.before.put.ensures ∙ rw w.2 (at_width s.cents (length s.field.now) w.0 fits))
 
 pub write_spec : {M : Type 1} → statement M

@@ -1,22 +1,22 @@
 -- `blocks::bad_block` meets its contract. The loop's invariant: no block passed breaks the layout.
 use Rattle.std.proofs.Common.{◌≡◌, ℕ, ◌-◌, Bool, List, sym, refl, ap, ◌∙◌, arith}
 use mathlib.Core.Option.{none}
-use Rattle.whole.specs.Below.{firstBelow}
-use Rattle.whole.proofs.Search.{first_next, first-hit, first-less}
+use Rattle.whole.specs.Below.{first_below}
+use Rattle.whole.proofs.Search.{first_next, first_hit, first_less}
 use Rattle.rules.specs.declared.Layout.{Layout}
-use Rattle.rules.specs.HourFile.{word, blocks, blockWord}
-use Rattle.rules.specs.Ranges.{blockRule, firstBroken}
-use Rattle.rules.specs.Refusals.{isBroken, badBlock}
-use Rattle.rules.proofs.Faults.{block-part-broken}
-use Rattle.blocks.specs.Broken.{brokenBelow}
+use Rattle.rules.specs.HourFile.{word, blocks, block_word}
+use Rattle.rules.specs.Ranges.{block_rule, first_broken}
+use Rattle.rules.specs.Refusals.{is_broken, bad_block}
+use Rattle.rules.proofs.Faults.{block_part_broken}
+use Rattle.blocks.specs.Broken.{broken_below}
 use Rattle.blocks.proofs.bad_block.Statement.{statement}
 use Rattle.blocks.proofs.bad_block.Tie as tie
 
 abbrev bad : (layout : Layout) (s : List ℕ) (n b : ℕ) → Bool
-bad layout s n b = isBroken (firstBroken (blockRule layout n (blockWord s b 2) b) (blockWord s b) 128)
+bad layout s n b = is_broken (first_broken (block_rule layout n (block_word s b 2) b) (block_word s b) 128)
 
 abbrev invariant-loop : tie.invariant-loop
-invariant-loop layout file n b₀ b = firstBelow (bad layout file n) b ≡ none
+invariant-loop layout file n b₀ b = first_below (bad layout file n) b ≡ none
 
 abbrev decreases-loop : tie.decreases-loop
 decreases-loop layout file n b₀ b = n - b
@@ -32,28 +32,28 @@ module _ (turn : tie.At-loop invariant-loop decreases-loop) where
   n = turn.before.count.result
 
   -- the code counts the blocks once
-  over-all : badBlock layout file ≡ firstBelow (bad layout file n) n
-  unfolding badBlock
-  over-all = ap (λ (n : ℕ). firstBelow (bad layout file n) n) (sym turn.before.count.ensures)
+  over-all : bad_block layout file ≡ first_below (bad layout file n) n
+  unfolding bad_block
+  over-all = ap (λ (n : ℕ). first_below (bad layout file n) n) (sym turn.before.count.ensures)
 
 -- the turn of the loop in which a block was judged
 abbrev turn-of : tie.After-block-bad invariant-loop decreases-loop → tie.At-loop invariant-loop decreases-loop
 turn-of c = c.before.before.before
 
 told : (c : tie.After-block-bad invariant-loop decreases-loop) →
-    let turn = turn-of c in c.block-bad.result ≡ bad (layout turn) (file turn) (n turn) turn.loop.b
+    let turn = turn-of c in c.block_bad.result ≡ bad (layout turn) (file turn) (n turn) turn.loop.b
 told c =
     let turn = turn-of c in
     let b = turn.loop.b in
-    c.block-bad.ensures
-    ∙ ap (λ (block : List ℕ). brokenBelow (layout turn) 128 (n turn) (word block 2) b block) c.before.block.ensures
-    ∙ block-part-broken (layout turn) (file turn) (n turn) b
+    c.block_bad.ensures
+    ∙ ap (λ (block : List ℕ). broken_below (layout turn) 128 (n turn) (word block 2) b block) c.before.block.ensures
+    ∙ block_part_broken (layout turn) (file turn) (n turn) b
 
 count-requires : tie.Need-count-requires invariant-loop decreases-loop
 count-requires c κs = tt
 
 loop-holds : tie.Need-loop-init invariant-loop decreases-loop
-unfolding firstBelow
+unfolding first_below
 loop-holds c = refl
 
 block-requires : tie.Need-block-requires invariant-loop decreases-loop
@@ -79,7 +79,7 @@ returns c =
     let turn = turn-of c.before in
     let broken = sym (told c.before) ∙ c.if1.true in
     let there = c.before.before.before.loop-test.true in
-    sym (over-all turn ∙ first-hit (bad (layout turn) (file turn) (n turn)) turn.loop.b (n turn) turn.loop.inv broken there)
+    sym (over-all turn ∙ first_hit (bad (layout turn) (file turn) (n turn)) turn.loop.b (n turn) turn.loop.inv broken there)
 
 -- b += 1
 add-b : tie.Need-overflow-add-b invariant-loop decreases-loop
@@ -97,7 +97,7 @@ loop-again c =
 returns-2 : tie.Need-returns-2 invariant-loop decreases-loop
 returns-2 c =
     let turn = c.before in
-    sym (over-all turn ∙ first-less (bad (layout turn) (file turn) (n turn)) _ _ turn.loop.invariant c.loop-test.false)
+    sym (over-all turn ∙ first_less (bad (layout turn) (file turn) (n turn)) _ _ turn.loop.invariant c.loop-test.false)
 
 pub bad-block-spec : {M : Type 1} → statement M
 bad-block-spec =

@@ -3,17 +3,17 @@
 use Rattle.std.proofs.Common.{◌≡◌, ℕ, ◌*◌, ◌≤◌, Bool, sym, ap, ◌∙◌, mul-le-mul_right, arith}
 use Rattle.rules.specs.declared.Found.{Found}
 use Rattle.rules.specs.HourFile.{word}
-use Rattle.rules.specs.Refusals.{isBroken, found_at}
-use Rattle.rules.proofs.Layouts.{few-to-a-record}
-use Rattle.rules.proofs.Faults.{front-broken, first-block-whole, past-front}
-use Rattle.blocks.specs.Broken.{brokenBelow}
+use Rattle.rules.specs.Refusals.{is_broken, found_at}
+use Rattle.rules.proofs.Layouts.{few_to_a_record}
+use Rattle.rules.proofs.Faults.{front_broken, first_block_whole, past_front}
+use Rattle.blocks.specs.Broken.{broken_below}
 use Rattle.blocks.proofs.block_bad.Statement.{statement}
 use Rattle.blocks.proofs.block_bad.Tie as tie
 
 -- words to a record are so few that the product fits
 few : (c : tie.After-word) →
     c.before.before.args.layout.words * c.word.result ≤ 120 * c.word.result
-few c = mul-le-mul_right c.word.result (few-to-a-record c.before.before.requires)
+few c = mul-le-mul_right c.word.result (few_to_a_record c.before.before.requires)
 
 -- the moment at which the words in front have been judged, by the count that the code has read
 module _ (c : tie.After-front-bad) where
@@ -24,7 +24,7 @@ module _ (c : tie.After-front-bad) where
   given = counted.before.before
 
   abbrev broken : (held : ℕ) → Bool
-  broken held = let at = given.args in brokenBelow at.layout 128 at.n held at.b at.block.now
+  broken held = let at = given.args in broken_below at.layout 128 at.n held at.b at.block.now
 
   -- what is promised: by the block's own count
   abbrev promised : Bool
@@ -34,11 +34,11 @@ module _ (c : tie.After-front-bad) where
   as_read = ap broken (sym counted.word.ensures)
 
 -- past the front, what the search of the zeros found
-rest-told : (c : tie.After-first-not-zero) → promised c.before.before.before ≡ isBroken (found_at c.first-not-zero.result)
+rest-told : (c : tie.After-first-not-zero) → promised c.before.before.before ≡ is_broken (found_at c.first_not_zero.result)
 rest-told c =
     let front = c.before.before.before in
-    let passed = sym front.front-bad.ensures ∙ c.before.before.if1.false in
-    as_read front ∙ ap isBroken (past-front _ _ _ _ _ passed c.before.if2.false ∙ sym c.first-not-zero.ensures)
+    let passed = sym front.front_bad.ensures ∙ c.before.before.if1.false in
+    as_read front ∙ ap is_broken (past_front _ _ _ _ _ passed c.before.if2.false ∙ sym c.first_not_zero.ensures)
 
 word-requires : tie.Need-word-requires
 word-requires c κs = tt
@@ -60,13 +60,13 @@ front-bad-requires c κs = c.before.before.before.requires
 
 -- return true
 returns : tie.Need-returns
-returns c = sym (as_read c.before ∙ front-broken _ _ _ _ _ (sym c.before.front-bad.ensures ∙ c.if1.true))
+returns c = sym (as_read c.before ∙ front_broken _ _ _ _ _ (sym c.before.front_bad.ensures ∙ c.if1.true))
 
 -- return false
 returns-2 : tie.Need-returns-2
 returns-2 c =
     let front = c.before.before in
-    sym (as_read front ∙ first-block-whole _ _ _ _ _ (sym front.front-bad.ensures ∙ c.before.if1.false) c.if2.true)
+    sym (as_read front ∙ first_block_whole _ _ _ _ _ (sym front.front_bad.ensures ∙ c.before.if1.false) c.if2.true)
 
 first-not-zero-requires : tie.Need-first-not-zero-requires
 first-not-zero-requires c κs = tt
@@ -81,11 +81,11 @@ enum-told-2 c = c.match.keys2
 
 -- Found::At(_) => true
 returns-3 : tie.Need-returns-3
-returns-3 c = sym (rest-told c.before.before ∙ ap (λ (f : Found). isBroken (found_at f)) c.enum_told.given.1)
+returns-3 c = sym (rest-told c.before.before ∙ ap (λ (f : Found). is_broken (found_at f)) c.enum_told.given.1)
 
 -- Found::Nothing => false
 returns-4 : tie.Need-returns-4
-returns-4 c = sym (rest-told c.before.before ∙ ap (λ (f : Found). isBroken (found_at f)) c.enum-told2.given.1)
+returns-4 c = sym (rest-told c.before.before ∙ ap (λ (f : Found). is_broken (found_at f)) c.enum-told2.given.1)
 
 pub block-bad-spec : {M : Type 1} → statement M
 block-bad-spec =

@@ -1,7 +1,7 @@
 -- `blocks::block_word` meets its contract: past the last block, or past the file's own length, a word is 0.
 use Rattle.std.proofs.Common.{◌+◌, ◌*◌, sym, arith}
-use Rattle.rules.specs.HourFile.{blocks, blockWord}
-use Rattle.rules.proofs.PartWords.{word-past}
+use Rattle.rules.specs.HourFile.{blocks, block_word}
+use Rattle.rules.proofs.PartWords.{word_past}
 use Rattle.blocks.proofs.block_word.Statement.{statement}
 use Rattle.blocks.proofs.block_word.Tie as tie
 
@@ -10,13 +10,13 @@ count-requires c κs = tt
 
 -- return 0, where count(file) < b
 returns : tie.Need-returns
-unfolding blocks blockWord
-returns c = let at = c.before.before.before.args in sym (word-past at.file.now (128 * at.b + at.w) (omega arith))
+unfolding blocks block_word
+returns c = let at = c.before.before.before.args in sym (word_past at.file.now (128 * at.b + at.w) (omega arith))
 
 -- return 0, where file.len() <= w
 returns-2 : tie.Need-returns-2
-unfolding blockWord
-returns-2 c = let at = c.before.before.before.before.args in sym (word-past at.file.now (128 * at.b + at.w) (omega arith))
+unfolding block_word
+returns-2 c = let at = c.before.before.before.before.args in sym (word_past at.file.now (128 * at.b + at.w) (omega arith))
 
 -- 128 * b
 mul-word : tie.Need-overflow-mul-word
@@ -33,7 +33,7 @@ word-requires c κs = tt
 
 -- word(file, 128 * b + w)
 returns-3 : tie.Need-returns-3
-unfolding blockWord
+unfolding block_word
 returns-3 c = c.word.ensures
 
 pub block-word-spec : {M : Type 1} → statement M

@@ -14,7 +14,7 @@ keeps-requires : tie.Need-keeps-requires
 keeps-requires c κs = tt
 
 returns : tie.Need-returns
-returns c = ap not (c.keeps.ensures ∙ ap₂ keeps c.before.before.block-rule.ensures c.before.word.ensures)
+returns c = ap not (c.keeps.ensures ∙ ap₂ keeps c.before.before.block_rule.ensures c.before.word.ensures)
 
 pub block-word-bad-spec : {M : Type 1} → statement M
 block-word-bad-spec = tie.close (tie.spec block-rule-requires word-requires keeps-requires returns)

@@ -2,8 +2,8 @@
 use Rattle.std.proofs.Common.{◌≡◌, ℕ, ◌-◌, ◌≤◌, Bool, not, ◌&&◌, eqb, leb, List, sym, ◌∙◌, arith, eq-eqb, ne_eqb, le-leb}
 use mathlib.Core.Option.{none}
 use borrow.Author.Tests.{lt-leb}
-use Rattle.whole.specs.Below.{firstBelow}
-use Rattle.whole.proofs.Search.{first_next, first-hit, first-less, none_below}
+use Rattle.whole.specs.Below.{first_below}
+use Rattle.whole.proofs.Search.{first_next, first_hit, first_less, none_below}
 use Rattle.rules.specs.HourFile.{word}
 use Rattle.blocks.proofs.first_not_zero.Statement.{statement}
 use Rattle.blocks.proofs.first_not_zero.Tie as tie
@@ -12,7 +12,7 @@ abbrev not-zero : (block : List ℕ) (from w : ℕ) → Bool
 not-zero block from w = leb from w && not (eqb (word block w) 0)
 
 abbrev invariant-loop : tie.invariant-loop
-invariant-loop block from w₀ w = (from ≤ w) × (firstBelow (not-zero block from) w ≡ none)
+invariant-loop block from w₀ w = (from ≤ w) × (first_below (not-zero block from) w ≡ none)
 
 abbrev decreases-loop : tie.decreases-loop
 decreases-loop block from w₀ w = 128 - w
@@ -36,7 +36,7 @@ returns c =
     let turn = c.before.before.before in
     let w = turn.loop.w in
     let is-not = ne_eqb (word (block turn) w) 0 (λ e. c.if1.true (c.before.word.ensures ∙ e)) in
-    sym (first-hit (not-zero (block turn) (from turn)) w 128 turn.loop.invariant.1
+    sym (first_hit (not-zero (block turn) (from turn)) w 128 turn.loop.invariant.1
     (rw (le-leb _ _ turn.loop.invariant.0, is-not))
     c.before.before.loop-test.true)
 
@@ -56,7 +56,7 @@ loop-again c =
 
 -- Found::Nothing
 returns-2 : tie.Need-returns-2 invariant-loop decreases-loop
-returns-2 c = sym (first-less _ _ 128 c.before.loop.invariant.1 c.loop-test.false)
+returns-2 c = sym (first_less _ _ 128 c.before.loop.invariant.1 c.loop-test.false)
 
 pub first-not-zero-spec : {M : Type 1} → statement M
 first-not-zero-spec =

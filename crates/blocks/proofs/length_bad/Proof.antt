@@ -1,7 +1,7 @@
 -- `blocks::length_bad` meets its contract: each answer by the tests that led to it.
 use Rattle.std.proofs.Common.{◌≡◌, ℕ, ◌*◌, ◌/◌, ◌%◌, ltb, sym, ◌∙◌, arith, ltb-false, ltb-true, le-ltb, lt-ltb, eq-eqb, ne_eqb}
 use Rattle.whole.proofs.Tests.{split}
-use Rattle.rules.specs.HourFile.{lengthBad}
+use Rattle.rules.specs.HourFile.{length_bad}
 use Rattle.blocks.proofs.length_bad.Statement.{statement}
 use Rattle.blocks.proofs.length_bad.Tie as tie
 
@@ -13,17 +13,17 @@ over most n whole = split (ltb most (n / 512))
 
 -- return true, where n == 0
 returns : tie.Need-returns
-unfolding lengthBad
+unfolding length_bad
 returns c = simp (eq-eqb _ _ c.if1.true)
 
 -- return true, where n % 512 != 0
 returns-2 : tie.Need-returns-2
-unfolding lengthBad
+unfolding length_bad
 returns-2 c = simp (ne_eqb _ _ c.before.if1.false, ne_eqb _ _ c.if2.true)
 
 -- layout.blocks < n / 512
 returns-3 : tie.Need-returns-3
-unfolding lengthBad
+unfolding length_bad
 returns-3 c =
     over _ _ c.before.if2.false ∙ simp (ne_eqb _ _ c.before.before.if1.false, eq-eqb _ _ c.before.if2.false)
 

@@ -1,8 +1,8 @@
 -- `blocks::record` meets its contract: the block is there, so its body is whole, and the records that it may hold fit into it.
 use Rattle.std.proofs.Common.{◌≡◌, ℕ, ◌+◌, ◌-◌, ◌*◌, ◌/◌, ◌%◌, ◌≤◌, List, length, take, drop, sym, ap, ◌∙◌, ap₂, arith}
 use Rattle.rules.specs.HourFile.{blocks, body}
-use Rattle.rules.proofs.Layouts.{few-to-a-record, ends-inside}
-use Rattle.rules.proofs.Words.{body-length, body-there}
+use Rattle.rules.proofs.Layouts.{few_to_a_record, ends_inside}
+use Rattle.rules.proofs.Words.{body_length, body_there}
 use Rattle.blocks.proofs.record.Statement.{statement}
 use Rattle.blocks.proofs.record.Tie as tie
 
@@ -25,35 +25,35 @@ module _ (c : tie.After-whole-body) where
   abbrev from : ℕ
   from = size * (at.args.i % at.args.layout.records)
 
-  own : c.whole-body.result.now ≡ body at.args.layout at.args.file.now block
-  own = c.whole-body.ensures ∙ sym (body-there _ _ block at.pre.1.length-good at.pre.1.block-there)
+  own : c.whole_body.result.now ≡ body at.args.layout at.args.file.now block
+  own = c.whole_body.ensures ∙ sym (body_there _ _ block at.pre.1.length_good at.pre.1.block_there)
 
-  own-length : length c.whole-body.result.now ≡ 480
-  own-length = ap length own ∙ body-length _ _ block at.pre.1.length-good at.pre.1.block-there
+  own-length : length c.whole_body.result.now ≡ 480
+  own-length = ap length own ∙ body_length _ _ block at.pre.1.length_good at.pre.1.block_there
 
   ends : from + size ≤ 480
-  ends = omega (arith, ends-inside at.pre.0 at.args.i)
+  ends = omega (arith, ends_inside at.pre.0 at.args.i)
 
 -- 4 * layout.words
 mul-size : tie.Need-overflow-mul-size
-mul-size c = omega (arith, few-to-a-record (start c).requires.0)
+mul-size c = omega (arith, few_to_a_record (start c).requires.0)
 
 -- i / full
 div-whole-body : tie.Need-nonzero-div-whole-body
-div-whole-body c = omega (arith, (start c).requires.0.some-records)
+div-whole-body c = omega (arith, (start c).requires.0.some_records)
 
 -- 1 + i / full
 add-whole-body : tie.Need-overflow-add-whole-body
 unfolding blocks
-add-whole-body c = omega (arith, (start c).requires.1.block-there)
+add-whole-body c = omega (arith, (start c).requires.1.block_there)
 
 whole-body-requires : tie.Need-whole-body-requires
 unfolding blocks
-whole-body-requires c κs = omega (arith, (start c).requires.1.block-there)
+whole-body-requires c κs = omega (arith, (start c).requires.1.block_there)
 
 -- i % full
 rem-from : tie.Need-nonzero-rem-from
-rem-from c = omega (arith, (at c).requires.0.some-records)
+rem-from c = omega (arith, (at c).requires.0.some_records)
 
 -- size * (i % full)
 mul-from : tie.Need-overflow-mul-from

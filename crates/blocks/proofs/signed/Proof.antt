@@ -2,8 +2,8 @@
 use Rattle.std.proofs.Common.{◌≡◌, ℕ, ◌+◌, ◌%◌, ◌<◌, ◌≤◌, ltb, ℤ, pos, ◌+ℤ◌, ◌-ℤ◌, ap, ◌∙◌, arith, ltb-false, ltb-true}
 use Rattle.whole.proofs.Tests.{split}
 use Rattle.whole.proofs.Linear.{zr, all2}
-use Rattle.whole.proofs.Machine.{Num, local, #, ◌:-◌, fits, stored, i64-is}
-use Rattle.whole.proofs.Ranges.{upto-pos, u-upto}
+use Rattle.whole.proofs.Machine.{Num, local, #, ◌:-◌, fits, stored, i64_is}
+use Rattle.whole.proofs.Ranges.{upto_pos, u_upto}
 use Rattle.rules.specs.Record.{signed}
 use Rattle.blocks.proofs.signed.Statement.{statement}
 use Rattle.blocks.proofs.signed.Tie as tie
@@ -40,7 +40,7 @@ sum-few c = omega (arith, c.wrapping-add-u32.type-inv)
 abbrev less : (c : tie.After-wrapping-add-u32) → Num
 less c =
     let sum = c.wrapping-add-u32.result in
-    local (i64-is {n = sum} (omega (arith, sum-few c))) (u-upto (upto-pos sum 4294967296 (omega (arith, sum-few c)))) :- # (pos 2147483648)
+    local (i64_is {n = sum} (omega (arith, sum-few c))) (u_upto (upto_pos sum 4294967296 (omega (arith, sum-few c)))) :- # (pos 2147483648)
 
 -- (std::num::wrapping_add_u32(w, 2147483648) as i64) - 2147483648
 sub-result : tie.Need-overflow-sub-result

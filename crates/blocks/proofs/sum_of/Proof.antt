@@ -1,13 +1,13 @@
 -- `blocks::sum_of` meets its contract. The loop's invariant: the sum, modulo 2^32, of the words passed.
 use Rattle.std.proofs.Common.{◌≡◌, ℕ, ◌-◌, ◌%◌, ◌≤◌, List, refl, ap, ◌∙◌, arith}
-use Rattle.whole.specs.Below.{sumBelow}
-use Rattle.whole.proofs.Sums.{wraps-on}
+use Rattle.whole.specs.Below.{sum_below}
+use Rattle.whole.proofs.Sums.{wraps_on}
 use Rattle.rules.specs.HourFile.{word}
 use Rattle.blocks.proofs.sum_of.Statement.{statement}
 use Rattle.blocks.proofs.sum_of.Tie as tie
 
 abbrev invariant-loop : tie.invariant-loop
-invariant-loop block sum₀ w₀ sum w = (w ≤ 128) × (sum ≡ sumBelow (word block) w % 0x1_0000_0000)
+invariant-loop block sum₀ w₀ sum w = (w ≤ 128) × (sum ≡ sum_below (word block) w % 0x1_0000_0000)
 
 abbrev decreases-loop : tie.decreases-loop
 decreases-loop block sum₀ w₀ sum w = 128 - w
@@ -16,7 +16,7 @@ abbrev block : tie.At-loop invariant-loop decreases-loop → List ℕ
 block turn = turn.before.before.args.block.now
 
 loop-holds : tie.Need-loop-init invariant-loop decreases-loop
-unfolding sumBelow
+unfolding sum_below
 loop-holds c = (omega arith, refl)
 
 word-requires : tie.Need-word-requires invariant-loop decreases-loop
@@ -36,12 +36,12 @@ loop-again : tie.Need-loop-preserved invariant-loop decreases-loop
 loop-again c =
     let turn = c.before.before.before in
     let so_far = turn.loop.invariant.1 in
-    (omega arith, wraps-on 0x1_0000_0000 (word (block turn)) turn.loop.w _ _ _ so_far c.before.word.ensures c.added.ensures)
+    (omega arith, wraps_on 0x1_0000_0000 (word (block turn)) turn.loop.w _ _ _ so_far c.before.word.ensures c.added.ensures)
 
 returns : tie.Need-returns invariant-loop decreases-loop
 returns c =
     let e : c.before.loop.w ≡ 128 = omega arith in
-    c.before.loop.invariant.1 ∙ ap (λ (w : ℕ). sumBelow (word (block c.before)) w % 0x1_0000_0000) e
+    c.before.loop.invariant.1 ∙ ap (λ (w : ℕ). sum_below (word (block c.before)) w % 0x1_0000_0000) e
 
 pub sum-of-spec : {M : Type 1} → statement M
 sum-of-spec =

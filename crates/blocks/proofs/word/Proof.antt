@@ -1,6 +1,6 @@
 -- `blocks::word` meets its contract: a word past the end is 0.
 use Rattle.std.proofs.Common.{sym, arith}
-use Rattle.rules.proofs.PartWords.{word-past}
+use Rattle.rules.proofs.PartWords.{word_past}
 use Rattle.blocks.proofs.word.Statement.{statement}
 use Rattle.blocks.proofs.word.Tie as tie
 
@@ -22,7 +22,7 @@ returns-2 c = c.cut_word.ensures
 returns-3 : tie.Need-returns-3
 returns-3 c =
     let at = c.before.before.before.args in
-    sym (word-past at.part.now at.k (omega arith))
+    sym (word_past at.part.now at.k (omega arith))
 
 pub word-spec : {M : Type 1} → statement M
 word-spec = tie.close (tie.spec whole-word-requires returns cut-word-requires returns-2 returns-3)

@@ -6,17 +6,17 @@ use mathlib.Core.List.{List}
 use Prim.Native.Nat.{◌-◌, ◌≤◌}
 use native.Mathlib.Omega.{arith}
 use lib.IntN.{ℤ}
-use Rattle.whole.specs.Below.{firstBelow}
-use Rattle.whole.proofs.Search.{first_next, first-hit}
-use Rattle.whole.proofs.Machine.{element-fits}
+use Rattle.whole.specs.Below.{first_below}
+use Rattle.whole.proofs.Search.{first_next, first_hit}
+use Rattle.whole.proofs.Machine.{element_fits}
 use Rattle.rules.specs.declared.Tally.{Tally}
 use Rattle.byarea.specs.Posted.{unshared}
-use Rattle.byarea.proofs.Tallies.{nobody-demands, somebody-demands, nothing-to-share}
+use Rattle.byarea.proofs.Tallies.{nobody_demands, somebody_demands, nothing_to_share}
 use Rattle.byarea.proofs.area_without_demand.Statement.{statement}
 use Rattle.byarea.proofs.area_without_demand.Tie as tie
 
 abbrev invariant-loop : tie.invariant-loop
-invariant-loop areas t ufe a₀ a = (a ≤ areas) × (firstBelow (unshared t ufe) a ≡ none)
+invariant-loop areas t ufe a₀ a = (a ≤ areas) × (first_below (unshared t ufe) a ≡ none)
 
 abbrev decreases-loop : tie.decreases-loop
 decreases-loop areas t ufe a₀ a = areas - a
@@ -34,7 +34,7 @@ abbrev turn : tie.Joined1 invariant-loop decreases-loop → tie.At-loop invarian
 turn c = c.before.before.before
 
 loop-holds : tie.Need-loop-init invariant-loop decreases-loop
-unfolding firstBelow
+unfolding first_below
 loop-holds c = (omega arith, refl)
 
 -- the offset of t.demand[a]
@@ -58,8 +58,8 @@ returns : tie.Need-returns invariant-loop decreases-loop
 returns c =
     let demanded = c.before.before in
     let at = demanded.before.before.before in
-    let broken = nobody-demands (tally at) (figures at) at.loop.a demanded.if1.true c.if2.true in
-    sym (first-hit (unshared (tally at) (figures at)) at.loop.a _ at.loop.invariant.1 broken (omega arith))
+    let broken = nobody_demands (tally at) (figures at) at.loop.a demanded.if1.true c.if2.true in
+    sym (first_hit (unshared (tally at) (figures at)) at.loop.a _ at.loop.invariant.1 broken (omega arith))
 
 -- a += 1
 add_a : tie.Need-overflow-add-a invariant-loop decreases-loop
@@ -71,11 +71,11 @@ loop-less c = omega arith
 loop-again : tie.Need-loop-preserved invariant-loop decreases-loop
 loop-again c =
     let at = turn c in
-    let fits = element-fits (figures at) _ at.loop.a at.before.good.1.1.0.1.1 in
+    let fits = element_fits (figures at) _ at.loop.a at.before.good.1.1.0.1.1 in
     let whole =
     ⊎_elim
-    (λ w. nothing-to-share (tally at) (figures at) at.loop.a fits w.2.left)
-    (λ w. somebody-demands (tally at) (figures at) at.loop.a w.left)
+    (λ w. nothing_to_share (tally at) (figures at) at.loop.a fits w.2.left)
+    (λ w. somebody_demands (tally at) (figures at) at.loop.a w.left)
     c.if1.branch in
     (omega arith, first_next (unshared (tally at) (figures at)) at.loop.a at.loop.inv.1 whole)
 

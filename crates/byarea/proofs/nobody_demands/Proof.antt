@@ -4,14 +4,14 @@ use Prim.Native.Nat.{ℕ, ◌-◌, ◌≤◌}
 use native.Mathlib.Omega.{arith}
 use lib.ListN.{get_or}
 use borrow.Author.Tests.{eq-eqb, ne_eqb}
-use Rattle.whole.proofs.Sums.{sum-none, sum-add-one, sum-at}
+use Rattle.whole.proofs.Sums.{sum_none, sum_add_one, sum_at}
 use Rattle.rules.specs.declared.Tally.{Tally}
-use Rattle.byarea.specs.Posted.{demandIn}
+use Rattle.byarea.specs.Posted.{demand_in}
 use Rattle.byarea.proofs.nobody_demands.Statement.{statement}
 use Rattle.byarea.proofs.nobody_demands.Tie as tie
 
 abbrev invariant-loop : tie.invariant-loop
-invariant-loop areas t a₀ a = (a ≤ areas) × (demandIn t a ≡ 0)
+invariant-loop areas t a₀ a = (a ≤ areas) × (demand_in t a ≡ 0)
 
 abbrev decreases-loop : tie.decreases-loop
 decreases-loop areas t a₀ a = areas - a
@@ -25,7 +25,7 @@ module _ (c : tie.At-loop invariant-loop decreases-loop) where
   tally = c.before.args.t2
 
 loop-holds : tie.Need-loop-init invariant-loop decreases-loop
-loop-holds c = (omega arith, sum-none _)
+loop-holds c = (omega arith, sum_none _)
 
 -- the offset of t.demand[a]
 mul-if1 : tie.Need-overflow-mul-if1 invariant-loop decreases-loop
@@ -39,8 +39,8 @@ element-copy-out-if1 c = omega arith
 returns : tie.Need-returns invariant-loop decreases-loop
 returns c =
     let at = c.before.before.before in
-    sym (ne_eqb (demandIn (tally at) (areas at)) 0 (λ e. c.if1.true (
-    omega (arith, sum-at (λ a. get_or (tally at).demand a 0) (areas at) at.loop.a (omega arith)))))
+    sym (ne_eqb (demand_in (tally at) (areas at)) 0 (λ e. c.if1.true (
+    omega (arith, sum_at (λ a. get_or (tally at).demand a 0) (areas at) at.loop.a (omega arith)))))
 
 -- a += 1
 add_a : tie.Need-overflow-add-a invariant-loop decreases-loop
@@ -52,14 +52,14 @@ loop-less c = omega arith
 loop-again : tie.Need-loop-preserved invariant-loop decreases-loop
 loop-again c =
     let at = c.before.before.before in
-    (omega arith, omega (arith, c.if1.false, sum-add-one (λ a. get_or (tally at).demand a 0) at.loop.a))
+    (omega arith, omega (arith, c.if1.false, sum_add_one (λ a. get_or (tally at).demand a 0) at.loop.a))
 
 -- true
 returns-2 : tie.Need-returns-2 invariant-loop decreases-loop
 returns-2 c =
     let at = c.before in
     let all : areas at ≡ at.loop.a = omega arith in
-    sym (eq-eqb (demandIn (tally at) (areas at)) 0 (ap (demandIn (tally at)) all ∙ at.loop.invariant.1))
+    sym (eq-eqb (demand_in (tally at) (areas at)) 0 (ap (demand_in (tally at)) all ∙ at.loop.invariant.1))
 
 pub nobody-demands-spec : {M : Type 1} → statement M
 nobody-demands-spec =

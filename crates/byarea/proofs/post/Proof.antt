@@ -79,7 +79,7 @@ module _ {M : Type 1} {𝓤 : Ura M} (𝓛 : Logic 𝓤) (at_mem : Memory → SP
 
 module _ {M : Type 1} {𝓤 : Ura M} (𝓛 : Logic 𝓤) (at_mem : Memory → SProp 𝓤) (run : Routine → Fun 𝓤)
     (κ : Lft) (q : Share) (b o : ℕ) (γ : GName) (h : Tally) (area demand : ℕ) (energy : ℤ)
-    (area-fits : area < 2 ^ 64) (demand-fits : demand < 2 ^ 32) (energy-fits : mag energy < 2 ^ hbits w64) where
+    (area-fits : area < 2 ^ 64) (demand_fits : demand < 2 ^ 32) (energy_fits : mag energy < 2 ^ hbits w64) where
   open 𝓛 use {H}
 
   abbrev x : Arg
@@ -106,8 +106,8 @@ module _ {M : Type 1} {𝓤 : Ura M} (𝓛 : Logic 𝓤) (at_mem : Memory → SP
 
   own-numbers : ent 𝓤 (emp 𝓤) (sem 𝓛 Numbers)
   own-numbers =
-      qed 𝓛 [] ∵ nothing ! $ owned ! i64 (Is i64) (sint_Makes 𝓛 w64) energy _ (refl, energy-fits) $ fjoin ! $
-      owned ! u32 (Is u32) (uint_Makes 𝓛 w32) demand _ (refl, demand-fits) $ fjoin ! $
+      qed 𝓛 [] ∵ nothing ! $ owned ! i64 (Is i64) (sint_Makes 𝓛 w64) energy _ (refl, energy_fits) $ fjoin ! $
+      owned ! u32 (Is u32) (uint_Makes 𝓛 w32) demand _ (refl, demand_fits) $ fjoin ! $
       owned ! usize (Is usize) (uint_Makes 𝓛 w64) area _ (refl, area-fits) $ fjoin ! $ done !
 
   -- what `tallied` is passed, what it asks and what it ensures
@@ -144,8 +144,8 @@ module _ {M : Type 1} {𝓤 : Ura M} (𝓛 : Logic 𝓤) (at_mem : Memory → SP
         alloc1 ! (λ l₀. alloc1 ! (λ l₁. alloc1 ! (λ l₂. alloc1 ! (λ l₃. alloc1 ! (λ l₄. alloc1 ! (λ l₅. alloc1 ! (λ l₆. alloc0 ! $
         params1 ! $
         pass1 ! (init ! 10 refl (tt, tt)) $ pass1 ! (init ! 8 refl (tt, record { fits = area-fits })) $
-        pass1 ! (init ! 6 refl (tt, record { fits = demand-fits })) $
-        pass1 ! (init ! 4 refl (tt, of_z_fits w64 energy (record { sfits = energy-fits }))) $ pass0 ! $
+        pass1 ! (init ! 6 refl (tt, record { fits = demand_fits })) $
+        pass1 ! (init ! 4 refl (tt, of_z_fits w64 energy (record { sfits = energy_fits }))) $ pass0 ! $
         move ! (14 ∷ 15 ∷ 16 ∷ []) $ opens ! tt T.the_row {h = h} b o
         (λ vs. spelt ! T.the_row (Is T.the_row) (shows 𝓛 T.the_row) vals (LL.tells T.the_type T'.the_laws) full_share h vs b o $
         move ! (1 ∷ []) $ peeks ! T.the_row (Is T.the_row) (shows 𝓛 T.the_row) h (vals h) (λ was. move ! (1 ∷ 0 ∷ []) $

@@ -9,17 +9,17 @@ use mir.Syntax.{w64}
 use mir.Val.{to_z, of_z}
 use mir.ValLaws.{to_z-of_z}
 use borrow.Author.Rules.{sfits_of}
-use Rattle.rules.specs.Record.{entry_of, areaOf}
-use Rattle.rules.specs.Inner.Posting.{accounted, demandOf, tallyAfter}
-use Rattle.rules.specs.HourFile.{hourIn}
-use Rattle.hour.proofs.Figures.{head-records}
+use Rattle.rules.specs.Record.{entry_of, area_of}
+use Rattle.rules.specs.Inner.Posting.{accounted, demand_of, tally_after}
+use Rattle.rules.specs.HourFile.{hour_in}
+use Rattle.hour.proofs.Figures.{head_records}
 use Rattle.byarea.specs.Posted.{TalliedUpTo}
-use Rattle.byarea.proofs.Tallies.{has_room, next-tally}
+use Rattle.byarea.proofs.Tallies.{has_room, next_tally}
 use Rattle.byarea.proofs.tally_of.Statement.{statement}
 use Rattle.byarea.proofs.tally_of.Proof.Tie as tie
 
 abbrev invariant-loop : tie.invariant-loop
-invariant-loop file n tally₀ i₀ tally i = (i ≤ n) × (tally ≡ tallyAfter (hourIn file) i)
+invariant-loop file n tally₀ i₀ tally i = (i ≤ n) × (tally ≡ tally_after (hour_in file) i)
 
 abbrev decreases-loop : tie.decreases-loop
 decreases-loop file n tally₀ i₀ tally i = n - i
@@ -28,8 +28,8 @@ empty-tally-requires : tie.Need-empty-tally-requires invariant-loop decreases-lo
 empty-tally-requires c κs = tt
 
 loop-holds : tie.Need-loop-init invariant-loop decreases-loop
-unfolding tallyAfter
-loop-holds c = (omega arith, c.empty-tally.ensures)
+unfolding tally_after
+loop-holds c = (omega arith, c.empty_tally.ensures)
 
 -- a turn: record i, of which the tally has those before it
 module _ (turn : tie.In-loop invariant-loop decreases-loop) where
@@ -43,7 +43,7 @@ module _ (turn : tie.In-loop invariant-loop decreases-loop) where
   i = turn.before.loop.i
 
   up_to : TalliedUpTo file turn.before.loop.tally i
-  up_to = record { kept = start.pre.kept; there = omega (arith, head-records start.pre); posted = turn.before.loop.inv.1 }
+  up_to = record { kept = start.pre.kept; there = omega (arith, head_records start.pre); posted = turn.before.loop.inv.1 }
 
 area-of-requires : tie.Need-area-of-requires invariant-loop decreases-loop
 area-of-requires c κs = ((up_to c).kept, (up_to c).there)
@@ -57,21 +57,21 @@ entry-of-requires c κs = let t = c.before.before in ((up_to t).kept, (up_to t).
 accounted-requires : tie.Need-accounted-requires invariant-loop decreases-loop
 accounted-requires c κs =
     let t = c.before.before.before in
-    rw c.entry-of.ensures ((up_to t).kept.hour-kept.record-kept (i t) (up_to t).there).entry_kept
+    rw c.entry_of.ensures ((up_to t).kept.hour_kept.record_kept (i t) (up_to t).there).entry_kept
 
 -- the record's area, demand and energy are read
 module _ (c : tie.After-accounted invariant-loop decreases-loop) where
   abbrev turn : tie.In-loop invariant-loop decreases-loop
   turn = c.before.before.before.before
 
-  area-is : c.before.before.before.area_of.result ≡ areaOf (hourIn (file turn)) (i turn)
+  area-is : c.before.before.before.area_of.result ≡ area_of (hour_in (file turn)) (i turn)
   area-is = c.before.before.before.area_of.ensures
 
-  demand-is : c.before.before.demand-of.result ≡ demandOf (hourIn (file turn)) (i turn)
-  demand-is = c.before.before.demand-of.ensures
+  demand-is : c.before.before.demand_of.result ≡ demand_of (hour_in (file turn)) (i turn)
+  demand-is = c.before.before.demand_of.ensures
 
-  energy-is : to_z w64 (of_z w64 c.accounted.result) ≡ accounted (entry_of (hourIn (file turn)) (i turn))
-  energy-is = to_z-of_z w64 _ (sfits_of c.accounted.type-inv) ∙ c.accounted.ensures ∙ ap accounted c.before.entry-of.ensures
+  energy-is : to_z w64 (of_z w64 c.accounted.result) ≡ accounted (entry_of (hour_in (file turn)) (i turn))
+  energy-is = to_z-of_z w64 _ (sfits_of c.accounted.type-inv) ∙ c.accounted.ensures ∙ ap accounted c.before.entry_of.ensures
 
 post-requires : tie.Need-post-requires invariant-loop decreases-loop
 post-requires c κs = let r = c.before in has_room (up_to (turn r)) (area-is r) (demand-is r) (energy-is r)
@@ -86,15 +86,15 @@ loop-less c = omega arith
 loop-again : tie.Need-loop-preserved invariant-loop decreases-loop
 loop-again c =
     let r = c.before.before in
-    (omega arith, c.post.ensures ∙ next-tally (up_to (turn r)) (area-is r) (demand-is r) (energy-is r))
+    (omega arith, c.post.ensures ∙ next_tally (up_to (turn r)) (area-is r) (demand-is r) (energy-is r))
 
 returns : tie.Need-returns invariant-loop decreases-loop
 returns c =
     let at = c.before in
     let s = at.before.before.before in
-    let h = hourIn s.args.file.now in
-    let all : at.loop.i ≡ h.count = omega (arith, head-records s.requires) in
-    at.loop.invariant.1 ∙ ap (tallyAfter h) all
+    let h = hour_in s.args.file.now in
+    let all : at.loop.i ≡ h.count = omega (arith, head_records s.requires) in
+    at.loop.invariant.1 ∙ ap (tally_after h) all
 
 pub tally-of-spec : {M : Type 1} → statement M
 tally-of-spec =

@@ -5,12 +5,12 @@ use lib.IntN.{pos}
 use mir.Syntax.{w64}
 use mir.Val.{to_z}
 use borrow.Author.Rules.{rules}
-use Rattle.whole.proofs.Ranges.{u-upto}
+use Rattle.whole.proofs.Ranges.{u_upto}
 use Rattle.whole.proofs.Machine.{Num, #, at, local, ◌:+◌, ◌:-◌, ◌:*◌, fits, stored}
-use Rattle.rules.specs.Record.{tieIn, tieOut}
-use Rattle.rules.specs.HourFile.{hourIn}
-use Rattle.hour.proofs.Wide.{word-is}
-use Rattle.byarea.proofs.Tallies.{energy-under, ufe-is}
+use Rattle.rules.specs.Record.{tie_in, tie_out}
+use Rattle.rules.specs.HourFile.{hour_in}
+use Rattle.hour.proofs.Wide.{word_is}
+use Rattle.byarea.proofs.Tallies.{energy_under, ufe_is}
 use Rattle.byarea.proofs.ufe_of.Statement.{statement}
 use Rattle.byarea.proofs.ufe_of.Tie as tie
 
@@ -50,22 +50,22 @@ module _ (c : tie.After-head-word2) where
   abbrev start : tie.Start
   start = c.before.before.before
 
-  tie-in-is : to_z w64 c.before.head-word.result ≡ tieIn (hourIn start.args.file.now) start.args.a
-  unfolding tieIn
-  tie-in-is = word-is c.before.head-word.type-inv c.before.head-word.ensures
+  tie-in-is : to_z w64 c.before.head_word.result ≡ tie_in (hour_in start.args.file.now) start.args.a
+  unfolding tie_in
+  tie-in-is = word_is c.before.head_word.type-inv c.before.head_word.ensures
 
-  tie-out-is : to_z w64 c.head-word2.result ≡ tieOut (hourIn start.args.file.now) start.args.a
-  unfolding tieOut
-  tie-out-is = word-is c.head-word2.type-inv c.head-word2.ensures
+  tie-out-is : to_z w64 c.head-word2.result ≡ tie_out (hour_in start.args.file.now) start.args.a
+  unfolding tie_out
+  tie-out-is = word_is c.head-word2.type-inv c.head-word2.ensures
 
   -- tie in - tie out
   abbrev ties : Num
   ties =
-      let kept = start.pre.0.kept.hour-kept.area-kept start.args.a start.pre.1 in
-      local tie-in-is (u-upto kept.tie-in) :- local tie-out-is (u-upto kept.tie-out)
+      let kept = start.pre.0.kept.hour_kept.area_kept start.args.a start.pre.1 in
+      local tie-in-is (u_upto kept.tie_in_lem) :- local tie-out-is (u_upto kept.tie_out_lem)
 
   abbrev whole : Num
-  whole = # (pos 10000) :* ties :+ at (energy-under start.pre.0 start.args.a start.pre.1)
+  whole = # (pos 10000) :* ties :+ at (energy_under start.pre.0 start.args.a start.pre.1)
 
 -- tie_in - tie_out
 sub-result : tie.Need-overflow-sub-result
@@ -90,7 +90,7 @@ add-result c = fits (whole c.before) tt
 returns : tie.Need-returns
 returns c =
     let start = c.before.before.before.before in
-    stored (whole c.before) tt ∙ ufe-is start.requires.0 start.args.a start.requires.1
+    stored (whole c.before) tt ∙ ufe_is start.requires.0 start.args.a start.requires.1
 
 pub ufe-of-spec : {M : Type 1} → statement M
 ufe-of-spec =

@@ -2,20 +2,20 @@
 use mathlib.Core.Path.{◌≡◌, ◌∙◌, ap₂}
 use Prim.Native.Nat.{ℕ}
 use Rattle.whole.proofs.Machine.{Num, result, ◌:+◌, ◌:*◌, fits, stored, back, read_back}
-use Rattle.rules.specs.Record.{Hour, entry_of, areaOf}
+use Rattle.rules.specs.Record.{Hour, entry_of, area_of}
 use Rattle.rules.specs.Deviation.{deviation}
-use Rattle.rules.specs.Charge.{enteringAs, entering, grains}
+use Rattle.rules.specs.Charge.{entering_as, entering, grains}
 use Rattle.rules.specs.Inner.Kept.{RecordKept}
-use Rattle.whole.proofs.Ranges.{u-more}
-use Rattle.rules.proofs.Bounds.{deviation-under, entering-under, share-under, price-under}
-use Rattle.hour.proofs.Inside.{record-inside}
-use Rattle.rules.specs.HourFile.{hourIn}
-use Rattle.hour.proofs.Rows.{PartOf, part_length, part-kind}
+use Rattle.whole.proofs.Ranges.{u_more}
+use Rattle.rules.proofs.Bounds.{deviation_under, entering_under, share_under, price_under}
+use Rattle.hour.proofs.Inside.{record_inside}
+use Rattle.rules.specs.HourFile.{hour_in}
+use Rattle.hour.proofs.Rows.{PartOf, part_length, part_kind}
 use Rattle.bymember.proofs.grains.Statement.{statement}
 use Rattle.bymember.proofs.grains.Tie as tie
 
 record-requires : tie.Need-record-requires
-record-requires c κs = record-inside c.before.requires.kept c.before.requires.there
+record-requires c κs = record_inside c.before.requires.kept c.before.requires.there
 
 -- the record's part is read
 module _ (c : tie.After-record) where
@@ -23,7 +23,7 @@ module _ (c : tie.After-record) where
   start = c.before.before
 
   abbrev h : Hour
-  h = hourIn start.args.file.now
+  h = hour_in start.args.file.now
 
   abbrev i : ℕ
   i = start.args.i
@@ -32,16 +32,16 @@ module _ (c : tie.After-record) where
   own = record { kept = start.pre.kept; there = start.pre.there; part = c.record.ensures }
 
   kept : RecordKept h i
-  kept = start.pre.kept.hour-kept.record-kept i start.pre.there
+  kept = start.pre.kept.hour_kept.record_kept i start.pre.there
 
-  deviation-is : back start.args.deviation ≡ deviation (entry_of h i)
-  deviation-is = read_back start.fits.deviation ∙ start.pre.deviation-is
+  deviation_is : back start.args.deviation ≡ deviation (entry_of h i)
+  deviation_is = read_back start.fits.deviation ∙ start.pre.deviation_is
 
 kind-in-requires : tie.Need-kind-in-requires
 kind-in-requires c κs = part_length (own c)
 
 entering-requires : tie.Need-entering-requires
-entering-requires c κs = let read = c.before in rw (deviation-is read) (u-more 144000000000 (deviation-under (kept read).entry_kept) tt)
+entering-requires c κs = let read = c.before in rw (deviation_is read) (u_more 144000000000 (deviation_under (kept read).entry_kept) tt)
 
 -- price, deviation and share, each as a number with its range
 module _ (c : tie.After-entering) where
@@ -50,16 +50,16 @@ module _ (c : tie.After-entering) where
 
   entering-is : c.entering.result ≡ entering (entry_of (h read) (i read))
   unfolding entering
-  entering-is = c.entering.ensures ∙ ap₂ enteringAs (c.before.kind-in.ensures ∙ part-kind (own read)) (deviation-is read)
+  entering-is = c.entering.ensures ∙ ap₂ entering_as (c.before.kind_in.ensures ∙ part_kind (own read)) (deviation_is read)
 
   abbrev priced : Num
-  priced = result (start read).pre.price-is (price-under (start read).pre.kept.hour-kept (areaOf (h read) (i read)) (kept read).area-there)
+  priced = result (start read).pre.price_is (price_under (start read).pre.kept.hour_kept (area_of (h read) (i read)) (kept read).area_there)
 
   abbrev entered : Num
-  entered = result entering-is (entering-under (kept read).entry_kept)
+  entered = result entering-is (entering_under (kept read).entry_kept)
 
   abbrev shared : Num
-  shared = result (start read).pre.share-is (share-under (start read).pre.kept.hour-kept (i read) (start read).pre.there)
+  shared = result (start read).pre.share_is (share_under (start read).pre.kept.hour_kept (i read) (start read).pre.there)
 
 -- formula::deviation::entering(kind, deviation) + share
 add-result : tie.Need-overflow-add-result

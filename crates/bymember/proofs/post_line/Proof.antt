@@ -50,8 +50,8 @@ use denote.Triple.Walked.{says, needs, Stays, stay_slice, stay_none, walk_of, Al
 use denote.Triple.Walked.{walk_Meets}
 use denote.Exit.{yes}
 use Rattle.rules.specs.declared.Line.{Line}
-use Rattle.rules.specs.Inner.Posting.{lineWith, linesWith}
-use Rattle.rules.specs.Settling.{emptyLine}
+use Rattle.rules.specs.Inner.Posting.{line_with, lines_with}
+use Rattle.rules.specs.Settling.{empty_line}
 use Rattle.rules.specs.contracts.Line as T
 use Rattle.rules.proofs.Line.TheLaws as T'
 use Rattle.formula.specs.Room.{LineRoom}
@@ -80,7 +80,7 @@ module _ {M : Type 1} {𝓤 : Ura M} (𝓛 : Logic 𝓤) (at_mem : Memory → SP
 
 module _ {M : Type 1} {𝓤 : Ura M} (𝓛 : Logic 𝓤) (at_mem : Memory → SProp 𝓤) (run : Routine → Fun 𝓤)
     (κ : Lft) (q : Share) (b o : ℕ) (γ : GName) (ls : List Line) (m : ℕ) (grains : ℤ)
-    (length-fits : Room T.the_row (length ls)) (m-fits : m < 2 ^ 64) (grains-fit : mag grains < 2 ^ hbits w64) where
+    (length-fits : Room T.the_row (length ls)) (m_fits : m < 2 ^ 64) (grains_fit : mag grains < 2 ^ hbits w64) where
   open 𝓛 use {H}
 
   abbrev x : Arg
@@ -94,7 +94,7 @@ module _ {M : Type 1} {𝓤 : Ura M} (𝓛 : Logic 𝓤) (at_mem : Memory → SP
 
   -- the member's line
   abbrev l : Line
-  l = get_or ls m emptyLine
+  l = get_or ls m empty_line
 
   abbrev passed : List Val
   passed = slice_val (b, o) (length ls) ∷ vint w64 m ∷ vint w64 (of_z w64 grains) ∷ []
@@ -111,8 +111,8 @@ module _ {M : Type 1} {𝓤 : Ura M} (𝓛 : Logic 𝓤) (at_mem : Memory → SP
 
   own-numbers : ent 𝓤 (emp 𝓤) (sem 𝓛 Numbers)
   own-numbers =
-      qed 𝓛 [] ∵ nothing ! $ owned ! i64 (Is i64) (sint_Makes 𝓛 w64) grains _ (refl, grains-fit) $ fjoin ! $ owned ! usize (Is usize)
-      (uint_Makes 𝓛 w64) m _ (refl, m-fits) $ fjoin ! $ done !
+      qed 𝓛 [] ∵ nothing ! $ owned ! i64 (Is i64) (sint_Makes 𝓛 w64) grains _ (refl, grains_fit) $ fjoin ! $ owned ! usize (Is usize)
+      (uint_Makes 𝓛 w64) m _ (refl, m_fits) $ fjoin ! $ done !
 
   -- what `line_with` is passed, what it asks and what it ensures
   abbrev to : (LineWith 𝓛 at_mem run).Ghost
@@ -121,16 +121,16 @@ module _ {M : Type 1} {𝓤 : Ura M} (𝓛 : Logic 𝓤) (at_mem : Memory → SP
   asked : LineRoom l grains → ent 𝓤 (sem 𝓛 ((T.the_row).own_val l (vals l))) ((LineWith 𝓛 at_mem run).pre to)
   asked room =
       qed 𝓛 (‵ ((T.the_row).own_val l (vals l)) ∷ []) ∵ says ! room $ nothing ! $ owned ! i64 (Is i64) (sint_Makes 𝓛 w64) grains _
-      (refl, grains-fit) $ fjoin ! $ move ! (1 ∷ 0 ∷ []) $ fjoin ! $ nothing ! $ done !
+      (refl, grains_fit) $ fjoin ! $ move ! (1 ∷ 0 ∷ []) $ fjoin ! $ nothing ! $ done !
 
-  said : (r : Line) → ent 𝓤 (ensured 𝓛 g.ended (g.clauses 𝓛 at_mem run) tt (l, (grains, tt)) tt r) (fact 𝓤 (r ≡ lineWith l grains))
-  said r = ex_e 𝓤 _ (λ ws. snd∗ 𝓤 (sem 𝓛 (lasts g.ended tt (l, (grains, tt)) ws)) (fact 𝓤 (r ≡ lineWith l grains)))
+  said : (r : Line) → ent 𝓤 (ensured 𝓛 g.ended (g.clauses 𝓛 at_mem run) tt (l, (grains, tt)) tt r) (fact 𝓤 (r ≡ line_with l grains))
+  said r = ex_e 𝓤 _ (λ ws. snd∗ 𝓤 (sem 𝓛 (lasts g.ended tt (l, (grains, tt)) ws)) (fact 𝓤 (r ≡ line_with l grains)))
 
-  posted : (r : Line) → r ≡ lineWith l grains → set ls m r ≡ linesWith ls m grains
-  unfolding linesWith
+  posted : (r : Line) → r ≡ line_with l grains → set ls m r ≡ lines_with ls m grains
+  unfolding lines_with
   posted r e = ap (set ls m) e
 
-  exits : (r : Line) → r ≡ lineWith l grains →
+  exits : (r : Line) → r ≡ line_with l grains →
       ent 𝓤 (⋆ 𝓛 (‵ (fobs γ ((coded_holeys T.the_row).code (heres T.the_row (set ls m r)))) ∷ ‵
       (fbor κ (Held T.the_row (length (set ls m r)) b o γ)) ∷ ‵ (flft κ q) ∷ [])) (Post vunit)
   exits r e =
@@ -154,8 +154,8 @@ module _ {M : Type 1} {𝓤 : Ura M} (𝓛 : Logic 𝓤) (at_mem : Memory → SP
         (λ l₁. alloc1 ! (λ l₂. alloc1 !
         (λ l₃. alloc1 ! (λ l₄. alloc1 ! (λ l₅. alloc1 ! (λ l₆. alloc1 ! (λ l₇. alloc1 ! (λ l₈. alloc0 ! $ params1 ! $
         pass1 ! (init ! 14 refl (tt, (tt, (record { fits = length-fits.0 }, tt)))) $
-        pass1 ! (init ! 12 refl (tt, record { fits = m-fits })) $
-        pass1 ! (init ! 10 refl (tt, of_z_fits w64 grains (record { sfits = grains-fit }))) $ pass0 ! $
+        pass1 ! (init ! 12 refl (tt, record { fits = m_fits })) $
+        pass1 ! (init ! 10 refl (tt, of_z_fits w64 grains (record { sfits = grains_fit }))) $ pass0 ! $
         -- where the line stands: [_8; …; _7; …; … ; _1; …; room for _0; …; the token; what the parameters own]
         assigns ! (bin ! (load ! (from ! (stop !)) (look ! 12 refl)) (lit ! tt) (record { fits = scaled })) (from ! (stop !))
         (init ! 6 refl (tt, record { fits = scaled })) $
@@ -164,7 +164,7 @@ module _ {M : Type 1} {𝓤 : Ura M} (𝓛 : Logic 𝓤) (at_mem : Memory → SP
         rewrite ! 4 (λ (p : ℕ). ‵ (fat full_share ty_ptr l₆ 0 (vptr b p))) (sym (place_is 16 o m)) refl $
         move ! (19 ∷ []) $ fsplit ! $ fsplit ! $ move ! (1 ∷ []) $ fsplit ! $ move ! (22 ∷ []) $ split ! $ move ! (2 ∷ 3 ∷ 0 ∷ []) $
         opens_slice ! tt T.the_row ls b o $ elem_out ! T.the_row (Is T.the_row) (shows 𝓛 T.the_row) vals
-        (LL.tells T.the_type T'.the_laws) full_share ls m emptyLine b o within (λ was.
+        (LL.tells T.the_type T'.the_laws) full_share ls m empty_line b o within (λ was.
         -- before = lines[member]: [the line's cell; what it owns; the others; the open borrow; obs; auth; true; the slice's fact;
         -- what the numbers own; _8; …]
         assigns ! (of_opd ! (load ! (from ! (hop ! (look ! 13 refl) (stop !))) (look_raw ! 0 refl))) (from ! (stop !))
@@ -176,8 +176,8 @@ module _ {M : Type 1} {𝓤 : Ura M} (𝓛 : Logic 𝓤) (at_mem : Memory → SP
         (and_then ! (load ! (from ! (stop !)) (look ! 17 refl)) (and_then ! (load ! (from ! (stop !)) (look ! 19 refl)) (no_more !))) (λ u.
         use1 𝓛 (later (some (λ (r : Line). (‵ ftrue ⊛ ‵ ((T.the_row).own_val r (u ∷ []))) ⊛
         raw (ensured 𝓛 g.ended (g.clauses 𝓛 at_mem run) tt (l, (grains, tt)) tt r)))) (id⊢ 𝓤 _) $ await ! tt $ pick ! (λ r.
-        split ! $ move ! (1 ∷ []) $ use1 𝓛 (raw (fact 𝓤 (r ≡ lineWith l grains))) (said r) $
-        heard ! (r ≡ lineWith l grains) (λ e. split ! $ drop ! $
+        split ! $ move ! (1 ∷ []) $ use1 𝓛 (raw (fact 𝓤 (r ≡ line_with l grains))) (said r) $
+        heard ! (r ≡ line_with l grains) (λ e. split ! $ drop ! $
         peeks ! T.the_row (Is T.the_row) (shows 𝓛 T.the_row) r (u ∷ []) (λ is.
         land ! (from ! (stop !)) (store ! 11 refl (lawful.typed r _ is).0) $
         -- lines[member] = the result: [what the result owns; the line's cell; the others; the open borrow; …], at the same place
@@ -210,7 +210,7 @@ module _ {M : Type 1} {𝓤 : Ura M} (𝓛 : Logic 𝓤) (at_mem : Memory → SP
   post-line-walks C Λ fm known = walked 𝓛 f.ended stayed (f.clauses 𝓛 at_mem run) (WpFn 𝓤 H C Λ code.function)
       (λ κs. (mut_slice_vals, (uint_vals w64, (sint_vals w64, tt))))
       (λ κs. (mut_slice_Tells (named 0) κs.0 T.the_row, (uint_Tells w64, (sint_Tells w64, tt))))
-      (λ κs qs bounds a _ are. needs 𝓤 ((a.1.0 < length a.0.now) × LineRoom (get_or a.0.now a.1.0 emptyLine) a.1.1.0) _
+      (λ κs qs bounds a _ are. needs 𝓤 ((a.1.0 < length a.0.now) × LineRoom (get_or a.0.now a.1.0 empty_line) a.1.1.0) _
       (walk 𝓛 at_mem run κs.0 qs.0 a.0.ref_ptr.0 a.0.ref_ptr.1 a.0.ghost_name a.0.now a.1.0 a.1.1.0 are.0.0.1
       are.1.0.1 are.1.1.0.1 C Λ fm known))
 

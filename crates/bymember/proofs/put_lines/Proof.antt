@@ -13,29 +13,29 @@ use mir.ValLaws.{to_z-of_z}
 use borrow.Author.Rules.{sfits_of}
 use Rattle.whole.specs.Below.{replacingFirst}
 use Rattle.rules.specs.declared.Line.{Line}
-use Rattle.rules.specs.Record.{Hour, areas, price, memberOf, areaOf}
+use Rattle.rules.specs.Record.{Hour, areas, price, member_of, area_of}
 use Rattle.rules.specs.Charge.{grains}
-use Rattle.rules.specs.Inner.Posting.{linesAfter}
-use Rattle.rules.specs.Settling.{emptyLine}
+use Rattle.rules.specs.Inner.Posting.{lines_after}
+use Rattle.rules.specs.Settling.{empty_line}
 use Rattle.rules.specs.Inner.Kept.{HourKept}
 use Rattle.hour.specs.declared.Head.{Head}
-use Rattle.rules.specs.HourFile.{hourIn}
-use Rattle.hour.proofs.Figures.{head-members, head-records, head-price}
+use Rattle.rules.specs.HourFile.{hour_in}
+use Rattle.hour.proofs.Figures.{head_members, head_records, head_price}
 use Rattle.bymember.specs.Lined.{AllWorked}
-use Rattle.bymember.proofs.Lines.{lines-length, can-post, next-lines}
+use Rattle.bymember.proofs.Lines.{lines_length, can_post, next_lines}
 use Rattle.bymember.proofs.put_lines.Statement.{statement}
 use Rattle.bymember.proofs.put_lines.Proof.Tie as tie
 
 -- the loop starts from cleared lines: whatever they were before
 abbrev invariant-loop : tie.invariant-loop
 invariant-loop file deviations shares cleared head n i₀ lines i =
-    (i ≤ n) × ((old : List Line) → cleared ≡ linesAfter (hourIn file) old 0 → lines ≡ linesAfter (hourIn file) old i)
+    (i ≤ n) × ((old : List Line) → cleared ≡ lines_after (hour_in file) old 0 → lines ≡ lines_after (hour_in file) old i)
 
 abbrev decreases-loop : tie.decreases-loop
 decreases-loop file deviations shares cleared head n i₀ lines i = n - i
 
 clear-lines-requires : tie.Need-clear-lines-requires invariant-loop decreases-loop
-clear-lines-requires c κs = let s = c.before.before in omega (arith, head-members s.requires.0, s.requires.2)
+clear-lines-requires c κs = let s = c.before.before in omega (arith, head_members s.requires.0, s.requires.2)
 
 loop-holds : tie.Need-loop-init invariant-loop decreases-loop
 loop-holds c = (omega arith, λ old e. e)
@@ -46,7 +46,7 @@ module _ (c : tie.At-loop invariant-loop decreases-loop) where
   start = c.before.before.before.before.before
 
   abbrev h : Hour
-  h = hourIn start.args.file.now
+  h = hour_in start.args.file.now
 
   -- the head, as it was handed over
   abbrev headed : Head
@@ -56,22 +56,22 @@ module _ (c : tie.At-loop invariant-loop decreases-loop) where
   old = start.args.lines.now
 
   kept : HourKept h
-  kept = start.pre.0.kept.hour-kept
+  kept = start.pre.0.kept.hour_kept
 
   -- the lines are those of the records so far
-  posted : c.loop.lines ≡ linesAfter h old c.loop.i
-  unfolding linesAfter
+  posted : c.loop.lines ≡ lines_after h old c.loop.i
+  unfolding lines_after
   posted = c.loop.invariant.1 old
-      (c.before.before.clear_lines.ensures ∙ ap (λ k. replacingFirst (λ m. emptyLine) k old) (head-members start.pre.0))
+      (c.before.before.clear_lines.ensures ∙ ap (λ k. replacingFirst (λ m. empty_line) k old) (head_members start.pre.0))
 
   counted : headed.records ≡ h.count
-  counted = head-records start.pre.0
+  counted = head_records start.pre.0
 
   so-many : c.loop.i ≤ h.count
   so-many = omega (arith, c.loop.invariant.0, counted)
 
   pub as_long : length c.loop.lines ≡ length old
-  as_long = ap length posted ∙ lines-length kept old c.loop.i so-many start.pre.2
+  as_long = ap length posted ∙ lines_length kept old c.loop.i so-many start.pre.2
 
 -- a turn: record i is there
 module _ (turn : tie.In-loop invariant-loop decreases-loop) where
@@ -88,10 +88,10 @@ module _ (turn : tie.In-loop invariant-loop decreases-loop) where
   there = omega (arith, counted at)
 
   in-deviations : i < length (start at).args.deviations.now
-  in-deviations = omega (arith, there, worked.deviations-room)
+  in-deviations = omega (arith, there, worked.deviations_room)
 
   in-shares : i < length (start at).args.shares.now
-  in-shares = omega (arith, there, worked.shares-room)
+  in-shares = omega (arith, there, worked.shares_room)
 
 member-of-requires : tie.Need-member-of-requires invariant-loop decreases-loop
 member-of-requires c κs = ((worked c).kept, there c)
@@ -107,14 +107,14 @@ module _ (c : tie.After-area-of invariant-loop decreases-loop) where
   abbrev hour : Hour
   hour = h (at turn)
 
-  area-there : c.area_of.result < areas hour
-  area-there = omega (arith, c.area_of.ensures, ((kept (at turn)).record-kept (i turn) (there turn)).area-there)
+  area_there : c.area_of.result < areas hour
+  area_there = omega (arith, c.area_of.ensures, ((kept (at turn)).record_kept (i turn) (there turn)).area_there)
 
   area-few : c.area_of.result < 8
-  area-few = omega (arith, area-there, (kept (at turn)).areas-most)
+  area-few = omega (arith, area_there, (kept (at turn)).areas_most)
 
-  price-is : get_or (headed (at turn)).prices c.area_of.result (pos 0) ≡ price hour (areaOf hour (i turn))
-  price-is = head-price (start (at turn)).pre.0 c.area_of.result area-there ∙ ap (price hour) c.area_of.ensures
+  price_is : get_or (headed (at turn)).prices c.area_of.result (pos 0) ≡ price hour (area_of hour (i turn))
+  price_is = head_price (start (at turn)).pre.0 c.area_of.result area_there ∙ ap (price hour) c.area_of.ensures
 
 -- the offset of head.prices[area]
 mul-grains : tie.Need-overflow-mul-grains invariant-loop decreases-loop
@@ -152,9 +152,9 @@ grains-requires c κs =
     record {
       kept = w.kept;
       there = there t;
-      price-is = to_z-of_z w64 price (sfits_of c.before.before.grains-arg.given) ∙ price-is read;
-      deviation-is = to_z-of_z w64 deviation (sfits_of c.before.grains-arg2.given) ∙ w.deviations-are (i t) (there t);
-      share-is = to_z-of_z w64 share (sfits_of c.grains-arg3.given) ∙ w.shares-are (i t) (there t);
+      price_is = to_z-of_z w64 price (sfits_of c.before.before.grains-arg.given) ∙ price_is read;
+      deviation_is = to_z-of_z w64 deviation (sfits_of c.before.grains-arg2.given) ∙ w.deviations_are (i t) (there t);
+      share_is = to_z-of_z w64 share (sfits_of c.grains-arg3.given) ∙ w.shares_are (i t) (there t);
     }
 
 -- the record's member and grains are read
@@ -162,7 +162,7 @@ module _ (c : tie.After-grains invariant-loop decreases-loop) where
   abbrev areaed : tie.After-area-of invariant-loop decreases-loop
   areaed = c.before.before.before.before
 
-  member_is : areaed.before.member_of.result ≡ memberOf (hour areaed) (i (turn areaed))
+  member_is : areaed.before.member_of.result ≡ member_of (hour areaed) (i (turn areaed))
   member_is = areaed.before.member_of.ensures
 
   grains-is : to_z w64 (of_z w64 c.grains.result) ≡ grains (hour areaed) (i (turn areaed))
@@ -172,7 +172,7 @@ post-line-requires : tie.Need-post-line-requires invariant-loop decreases-loop
 post-line-requires c κs =
     let read = c.before in
     let t = turn (areaed read) in
-    can-post (kept (at t)) (old (at t)) (i t) (there t) (posted (at t)) (member_is read) (grains-is read) (start (at t)).pre.2
+    can_post (kept (at t)) (old (at t)) (i t) (there t) (posted (at t)) (member_is read) (grains-is read) (start (at t)).pre.2
 
 -- i += 1
 add-i : tie.Need-overflow-add-i invariant-loop decreases-loop
@@ -186,8 +186,8 @@ loop-again c =
     let read = c.before.before.before in
     let t = turn (areaed read) in (
       omega arith,
-      λ before e. c.before.post-line.ensures
-          ∙ next-lines (kept (at t)) before (i t) (there t) ((at t).loop.inv.1 before e) (member_is read) (grains-is read),
+      λ before e. c.before.post_line.ensures
+          ∙ next_lines (kept (at t)) before (i t) (there t) ((at t).loop.inv.1 before e) (member_is read) (grains-is read),
     )
 
 -- lines: &mut [Line]
@@ -198,7 +198,7 @@ returns : tie.Need-returns invariant-loop decreases-loop
 returns c =
     let ended = c.before in
     let all : ended.loop.i ≡ (h ended).count = omega (arith, counted ended) in
-    posted ended ∙ ap (linesAfter (h ended) (old ended)) all
+    posted ended ∙ ap (lines_after (h ended) (old ended)) all
 
 pub put-lines-spec : {M : Type 1} → statement M
 put-lines-spec =

@@ -2,17 +2,17 @@
 use borrow.Author.Rules.{rules}
 use Rattle.answer.proofs.Refusing.{no_other}
 use Rattle.pool.specs.Unlined.{unlined}
-use Rattle.pool.proofs.Rooms.{Rooms, same-verdict}
-use Rattle.explain.proofs.Answers.{refused-alike, settled}
+use Rattle.pool.proofs.Rooms.{Rooms, same_verdict}
+use Rattle.explain.proofs.Answers.{refused_alike, settled}
 use Rattle.explain.proofs.explain_in.Statement.{statement}
 use Rattle.explain.proofs.explain_in.Tie as tie
 
 rooms : (s : tie.Start) → Rooms (unlined s.args.charges.now s.args.finals.now s.args.shares.now s.args.deviations.now)
 rooms s = record {
-  charges-room = s.requires.0;
-  finals-room = s.requires.1;
-  shares-room = s.requires.2;
-  deviations-room = s.requires.3;
+  charges_room = s.requires.0;
+  finals_room = s.requires.1;
+  shares_room = s.requires.2;
+  deviations_room = s.requires.3;
 }
 
 settle-unlined-requires : tie.Need-settle-unlined-requires
@@ -47,7 +47,7 @@ returns c =
     let m = c.before in
     let p = m.before.before.before.before.before in
     let s = p.before.before.before.before.before.before in
-    refused-alike s.args.file.now s.args.member (same-verdict (rooms s) p.settle-unlined.ensures)
+    refused_alike s.args.file.now s.args.member (same_verdict (rooms s) p.settle_unlined.ensures)
     (λ e. no_other (rw e at m.match.keys2)) c.unexplained.ensures
 
 explain-settled-requires : tie.Need-explain-settled-requires
@@ -55,7 +55,7 @@ explain-settled-requires c κs =
     let t = c.before.before.before in
     let p = t.before.before.before.before.before.before in
     let s = p.before.before.before.before.before.before in
-    settled (rooms s) p.settle-unlined.ensures t.enum_told.given.1
+    settled (rooms s) p.settle_unlined.ensures t.enum_told.given.1
 
 -- charges, where it is accepted
 same-length-5 : tie.Need-same-length-5

@@ -2,7 +2,7 @@
 use mathlib.Core.Path.{sym}
 use borrow.Author.Rules.{rules}
 use lib.Seq.{length-take-le}
-use Rattle.printing.proofs.Showing.{count-within}
+use Rattle.printing.proofs.Showing.{count_within}
 use Rattle.explanation.proofs.print_explanation.Statement.{statement}
 use Rattle.explanation.proofs.print_explanation.Tie as tie
 
@@ -15,7 +15,7 @@ put-explanation-requires c κs = search rules
 
 -- &text[..length]
 array-share-prefix-text : tie.Need-array-share-prefix-text
-array-share-prefix-text c = count-within (record { count-is = c.before.put-explanation.ensures.0; out-is = c.before.put-explanation.ensures.1 })
+array-share-prefix-text c = count_within (record { count_is = c.before.put_explanation.ensures.0; out_is = c.before.put_explanation.ensures.1 })
 
 -- &text[..length]
 slice-aggregate-print : tie.Need-slice-aggregate-print

@@ -7,12 +7,12 @@ use denote.Enum.Declared.{tag_of}
 use Rattle.rules.specs.contracts.Kind.{the_type}
 use Rattle.rules.specs.declared.Kind.{Kind}
 use Rattle.rules.specs.declared.Kind.TheVariants.{Generator, RealTimeLoad, ProfileLoad, Import, Export, Unknown}
-use Rattle.rules.specs.Record.{isImport, actual}
+use Rattle.rules.specs.Record.{is_import, actual}
 use Rattle.hour.proofs.actual.Statement.{statement}
 use Rattle.hour.proofs.actual.Tie as tie
 
 -- the kinds but an import, as code that matches tells them apart
-no-import : (k : Kind) → OneOf (0 ∷ 1 ∷ 2 ∷ 4 ∷ 5 ∷ []) (tag_of the_type k) → isImport k ≡ false
+no-import : (k : Kind) → OneOf (0 ∷ 1 ∷ 2 ∷ 4 ∷ 5 ∷ []) (tag_of the_type k) → is_import k ≡ false
 no-import Generator other = refl
 no-import RealTimeLoad other = refl
 no-import ProfileLoad other = refl

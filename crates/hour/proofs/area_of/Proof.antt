@@ -1,12 +1,12 @@
 -- `hour::area_of` meets its contract: the record's part has the record's numbers.
 use mathlib.Core.Path.{◌∙◌}
-use Rattle.hour.proofs.Inside.{record-inside}
-use Rattle.hour.proofs.Rows.{PartOf, part_length, part-area}
+use Rattle.hour.proofs.Inside.{record_inside}
+use Rattle.hour.proofs.Rows.{PartOf, part_length, part_area}
 use Rattle.hour.proofs.area_of.Statement.{statement}
 use Rattle.hour.proofs.area_of.Tie as tie
 
 record-requires : tie.Need-record-requires
-record-requires c κs = record-inside c.before.requires.0 c.before.requires.1
+record-requires c κs = record_inside c.before.requires.0 c.before.requires.1
 
 module _ (c : tie.After-record) where
   abbrev start : tie.Start
@@ -19,7 +19,7 @@ area-in-requires : tie.Need-area-in-requires
 area-in-requires c κs = part_length (own c)
 
 returns : tie.Need-returns
-returns c = c.area_in.ensures ∙ part-area (own c.before)
+returns c = c.area_in.ensures ∙ part_area (own c.before)
 
 pub area-of-spec : {M : Type 1} → statement M
 area-of-spec = tie.close (tie.spec record-requires area-in-requires returns)

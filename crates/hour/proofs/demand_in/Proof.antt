@@ -1,9 +1,9 @@
 -- `hour::demand_in` meets its contract: a load's word 4, and 0 for any other kind.
 use mathlib.Core.Path.{◌≡◌, sym, ◌∙◌, ap}
 use native.Mathlib.Omega.{arith}
-use Rattle.rules.specs.Record.{kind_of, isLoad, entry}
+use Rattle.rules.specs.Record.{kind_of, is_load, entry}
 use Rattle.rules.specs.HourFile.{word}
-use Rattle.rules.specs.Inner.Posting.{demandBy}
+use Rattle.rules.specs.Inner.Posting.{demand_by}
 use Rattle.rules.proofs.Posting.{load_word}
 use Rattle.hour.proofs.demand_in.Statement.{statement}
 use Rattle.hour.proofs.demand_in.Tie as tie
@@ -18,12 +18,12 @@ whole-word-requires : tie.Need-whole-word-requires
 whole-word-requires c κs = omega arith
 
 -- what the test answered of the kind is what the definition asks
-is-load : (c : tie.After-is-load) → isLoad (kind_of (word c.before.before.before.args.words.now 0)) ≡ c.is-load.result
-is-load c = sym (ap isLoad c.before.kind-in.ensures) ∙ sym c.is-load.ensures
+is-load : (c : tie.After-is-load) → is_load (kind_of (word c.before.before.before.args.words.now 0)) ≡ c.is_load.result
+is-load c = sym (ap is_load c.before.kind_in.ensures) ∙ sym c.is_load.ensures
 
 -- return blocks::whole_word(words, 4)
 returns : tie.Need-returns
-unfolding demandBy entry
+unfolding demand_by entry
 returns c =
     let load = is-load c.before.before ∙ c.before.if1.true in
     let words = c.before.before.before.before.before.args.words.now in
@@ -31,7 +31,7 @@ returns c =
 
 -- 0
 returns-2 : tie.Need-returns-2
-unfolding demandBy entry
+unfolding demand_by entry
 returns-2 c = rw (is-load c.before ∙ c.if1.false)
 
 pub demand-in-spec : {M : Type 1} → statement M

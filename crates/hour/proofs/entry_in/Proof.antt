@@ -4,7 +4,7 @@ use native.Mathlib.Omega.{arith}
 use borrow.Author.Rules.{sfits_of}
 use Rattle.whole.proofs.Machine.{read_back}
 use Rattle.rules.specs.Record.{actual, entry, signed}
-use Rattle.hour.proofs.Wide.{word-is}
+use Rattle.hour.proofs.Wide.{word_is}
 use Rattle.hour.proofs.entry_in.Statement.{statement}
 use Rattle.hour.proofs.entry_in.Tie as tie
 
@@ -89,18 +89,18 @@ returns c =
     let a = j.before.before in
     let metered = a.before in
     let s = metered.before in
-    let kind = s.before.kind-in in
+    let kind = s.before.kind_in in
     λ k. record {
       kind = kind.ensures k;
-      S = word-is s.whole_word.type-inv s.whole_word.ensures k;
-      A = word-is a.actual.type-inv
+      S = word_is s.whole_word.type-inv s.whole_word.ensures k;
+      A = word_is a.actual.type-inv
           (a.actual.ensures ∙ λ l. actual (kind.ensures l) (s.whole_word.ensures l) (metered.whole-word2.ensures l)) k;
       J = (read_back (sfits_of j.signed.type-inv) ∙ j.signed.ensures ∙ ap signed j.before.whole-word3.ensures) k;
-      N = word-is n.whole-word4.type-inv n.whole-word4.ensures k;
-      O = word-is o.whole-word5.type-inv o.whole-word5.ensures k;
-      M = word-is m.whole-word6.type-inv m.whole-word6.ensures k;
-      F = word-is f.whole-word7.type-inv f.whole-word7.ensures k;
-      H = word-is c.whole-word8.type-inv c.whole-word8.ensures k;
+      N = word_is n.whole-word4.type-inv n.whole-word4.ensures k;
+      O = word_is o.whole-word5.type-inv o.whole-word5.ensures k;
+      M = word_is m.whole-word6.type-inv m.whole-word6.ensures k;
+      F = word_is f.whole-word7.type-inv f.whole-word7.ensures k;
+      H = word_is c.whole-word8.type-inv c.whole-word8.ensures k;
     }
 
 pub entry-in-spec : {M : Type 1} → statement M

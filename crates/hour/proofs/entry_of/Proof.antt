@@ -1,12 +1,12 @@
 -- `hour::entry_of` meets its contract: the record's part has the record's numbers.
 use mathlib.Core.Path.{◌∙◌}
-use Rattle.hour.proofs.Inside.{record-inside}
-use Rattle.hour.proofs.Rows.{PartOf, part_length, part-entry}
+use Rattle.hour.proofs.Inside.{record_inside}
+use Rattle.hour.proofs.Rows.{PartOf, part_length, part_entry}
 use Rattle.hour.proofs.entry_of.Statement.{statement}
 use Rattle.hour.proofs.entry_of.Tie as tie
 
 record-requires : tie.Need-record-requires
-record-requires c κs = record-inside c.before.requires.0 c.before.requires.1
+record-requires c κs = record_inside c.before.requires.0 c.before.requires.1
 
 module _ (c : tie.After-record) where
   abbrev start : tie.Start
@@ -19,7 +19,7 @@ entry-in-requires : tie.Need-entry-in-requires
 entry-in-requires c κs = part_length (own c)
 
 returns : tie.Need-returns
-returns c = c.entry_in.ensures ∙ part-entry (own c.before)
+returns c = c.entry_in.ensures ∙ part_entry (own c.before)
 
 pub entry-of-spec : {M : Type 1} → statement M
 entry-of-spec = tie.close (tie.spec record-requires entry-in-requires returns)

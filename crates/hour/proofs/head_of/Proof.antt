@@ -13,7 +13,7 @@ cast-areas : tie.Need-overflow-cast-areas
 cast-areas c = search rules
 
 prices-requires : tie.Need-prices-requires
-prices-requires c κs = (c.before.before.requires, c.head-word.ensures)
+prices-requires c κs = (c.before.before.requires, c.head_word.ensures)
 
 -- head_word(file, 9)
 head-word-requires-2 : tie.Need-head-word-requires-2
@@ -33,7 +33,7 @@ returns c =
     let p = m.before in
     λ k. record {
       members = m.head-word2.ensures k;
-      areas = p.before.head-word.ensures k;
+      areas = p.before.head_word.ensures k;
       records = c.records.ensures k;
       prices = p.prices.ensures k;
     }

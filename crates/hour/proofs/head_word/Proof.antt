@@ -7,7 +7,7 @@ head-word-requires : tie.Need-head-word-requires
 head-word-requires c κs = tt
 
 returns : tie.Need-returns
-returns c = c.head-word.ensures hourly
+returns c = c.head_word.ensures hourly
 
 pub head-word-spec : {M : Type 1} → statement M
 head-word-spec = tie.close (tie.spec head-word-requires returns)

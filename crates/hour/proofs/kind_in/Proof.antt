@@ -12,7 +12,7 @@ kind-of-requires : tie.Need-kind-of-requires
 kind-of-requires c κs = tt
 
 returns : tie.Need-returns
-returns c = c.kind-of.ensures ∙ ap kind_of c.before.whole_word.ensures
+returns c = c.kind_of.ensures ∙ ap kind_of c.before.whole_word.ensures
 
 pub kind-in-spec : {M : Type 1} → statement M
 kind-in-spec = tie.close (tie.spec whole-word-requires kind-of-requires returns)

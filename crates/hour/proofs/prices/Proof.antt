@@ -6,17 +6,17 @@ use lib.IntN.{pos}
 use lib.ListN.{replicate}
 use borrow.Author.Rules.{sfits_of}
 use Rattle.whole.proofs.Machine.{read_back}
-use Rattle.whole.proofs.Filling.{Filled, none_filled, next-filled, first-filled}
+use Rattle.whole.proofs.Filling.{Filled, none_filled, next_filled, first_filled}
 use Rattle.rules.specs.Record as Record
-use Rattle.rules.specs.HourFile.{hourIn}
-use Rattle.hour.specs.Hour.{pricesOf}
-use Rattle.hour.proofs.Figures.{eight-filled}
+use Rattle.rules.specs.HourFile.{hour_in}
+use Rattle.hour.specs.Hour.{prices_of}
+use Rattle.hour.proofs.Figures.{eight_filled}
 use Rattle.hour.proofs.prices.Statement.{statement}
 use Rattle.hour.proofs.prices.Tie as tie
 
 abbrev invariant-loop : tie.invariant-loop
 invariant-loop file areas prices₀ a₀ prices a =
-    Filled (Record.price (hourIn file)) (Record.areas (hourIn file)) a (replicate 8 (pos 0)) prices
+    Filled (Record.price (hour_in file)) (Record.areas (hour_in file)) a (replicate 8 (pos 0)) prices
 
 abbrev decreases-loop : tie.decreases-loop
 decreases-loop file areas prices₀ a₀ prices a = areas - a
@@ -25,11 +25,11 @@ module _ (c : tie.At-loop invariant-loop decreases-loop) where
   abbrev start : tie.Start invariant-loop decreases-loop
   start = c.before.before
 
-  few : Record.areas (hourIn start.args.file.now) ≤ 8
-  few = start.pre.0.hour-kept.areas-most
+  few : Record.areas (hour_in start.args.file.now) ≤ 8
+  few = start.pre.0.hour_kept.areas_most
 
 loop-holds : tie.Need-loop-init invariant-loop decreases-loop
-loop-holds c = none_filled c.before.requires.0.hour-kept.areas-most
+loop-holds c = none_filled c.before.requires.0.hour_kept.areas_most
 
 price-requires : tie.Need-price-requires invariant-loop decreases-loop
 price-requires c κs = let s = start c.before in (s.pre.0, omega (arith, s.pre.1))
@@ -52,14 +52,14 @@ loop-less c = omega arith
 loop-again : tie.Need-loop-preserved invariant-loop decreases-loop
 loop-again c =
     let at = c.before.before in
-    next-filled at.loop.invariant (omega (arith, (start at).requires.1)) (read_back (sfits_of c.price.type-inv) ∙ c.price.ensures)
+    next_filled at.loop.invariant (omega (arith, (start at).requires.1)) (read_back (sfits_of c.price.type-inv) ∙ c.price.ensures)
 
 returns : tie.Need-returns invariant-loop decreases-loop
-unfolding pricesOf
+unfolding prices_of
 returns c =
     let at = c.before in
-    let h = hourIn (start at).args.file.now in
-    first-filled at.loop.invariant (omega (arith, (start at).requires.1)) ∙ eight-filled (Record.price h) (Record.areas h) (few at)
+    let h = hour_in (start at).args.file.now in
+    first_filled at.loop.invariant (omega (arith, (start at).requires.1)) ∙ eight_filled (Record.price h) (Record.areas h) (few at)
 
 pub prices-spec : {M : Type 1} → statement M
 prices-spec =

@@ -2,10 +2,10 @@
 use mathlib.Core.Path.{◌≡◌, sym, ◌∙◌, ap}
 use mathlib.Core.Option.{none}
 use borrow.Author.Rules.{rules}
-use Rattle.rules.specs.Refusals.{placeZeroIf, badArea, noDemand, found_at}
-use Rattle.rules.specs.HourFile.{hourIn}
+use Rattle.rules.specs.Refusals.{place_zero_if, bad_area, no_demand, found_at}
+use Rattle.rules.specs.HourFile.{hour_in}
 use Rattle.byarea.specs.Posted.{Tallied}
-use Rattle.byarea.proofs.Tallies.{few-areas, unshared-is-bad}
+use Rattle.byarea.proofs.Tallies.{few_areas, unshared_is_bad}
 use Rattle.pool.proofs.Answers.{area-refused, demand-refused, some-short, all_pass}
 use Rattle.pool.proofs.answered.Statement.{statement}
 use Rattle.pool.proofs.answered.Tie as tie
@@ -18,21 +18,21 @@ start c = c.before.before
 tally-of-requires : tie.Need-tally-of-requires
 tally-of-requires c κs = c.before.requires.1
 
-tallied : (c : tie.After-tally-of) → Tallied (start c).args.file.now c.tally-of.result
-tallied c = record { kept = (start c).requires.1.kept; posted = c.tally-of.ensures }
+tallied : (c : tie.After-tally-of) → Tallied (start c).args.file.now c.tally_of.result
+tallied c = record { kept = (start c).requires.1.kept; posted = c.tally_of.ensures }
 
 ufe-figures-requires : tie.Need-ufe-figures-requires
 ufe-figures-requires c κs = ((start c).requires.1, tallied c)
 
 area-without-demand-requires : tie.Need-area-without-demand-requires
-area-without-demand-requires c κs = few-areas (tallied c.before) (start c.before).requires.1
+area-without-demand-requires c κs = few_areas (tallied c.before) (start c.before).requires.1
 
 -- the first area found is the hour's
-searched-is : (c : tie.After-area-without-demand) → found_at c.area-without-demand.result ≡
-    badArea (hourIn (start c.before.before).args.file.now)
+searched-is : (c : tie.After-area-without-demand) → found_at c.area_without_demand.result ≡
+    bad_area (hour_in (start c.before.before).args.file.now)
 searched-is c =
     let figured = c.before in
-    c.area-without-demand.ensures ∙ unshared-is-bad (tallied figured.before) (start figured.before).requires.1 figured.ufe-figures.ensures
+    c.area_without_demand.ensures ∙ unshared_is_bad (tallied figured.before) (start figured.before).requires.1 figured.ufe_figures.ensures
 
 -- Found::At(a)
 enum-known-a : tie.Need-enum-known-a
@@ -68,7 +68,7 @@ module _ (c : tie.After-enum-told) where
   abbrev begun : tie.Start
   begun = start figured.before
 
-  areas-pass : badArea (hourIn begun.args.file.now) ≡ none
+  areas-pass : bad_area (hour_in begun.args.file.now) ≡ none
   areas-pass = sym (searched-is searched) ∙ ap found_at c.enum_told.given.1
 
 no-demand-requires : tie.Need-no-demand-requires
@@ -84,7 +84,7 @@ returns-2 c =
     let asked = c.before.before in
     let p = asked.before in
     let s = begun p in
-    let broken = sym asked.no-demand.ensures ∙ ap placeZeroIf c.before.if1.true in
+    let broken = sym asked.no_demand.ensures ∙ ap place_zero_if c.before.if1.true in
     rw c.refused2.ensures
     (record { says = λ b l. demand-refused s.args.file.now b s.pre.0 s.pre.1.kept (areas-pass p) broken })
 
@@ -102,8 +102,8 @@ module _ (c : tie.After-too-short) where
   abbrev passed : tie.After-enum-told
   passed = c.before.before.before
 
-  demand-passes : noDemand (hourIn (begun passed).args.file.now) ≡ none
-  demand-passes = sym c.before.before.no-demand.ensures ∙ ap placeZeroIf c.before.if1.false
+  demand-passes : no_demand (hour_in (begun passed).args.file.now) ≡ none
+  demand-passes = sym c.before.before.no_demand.ensures ∙ ap place_zero_if c.before.if1.false
 
 -- return answer::refused(Answer::TooShort)
 returns-3 : tie.Need-returns-3
@@ -124,7 +124,7 @@ returns-4 c =
     let s = begun p in
     record {
       says = λ b l. all_pass s.args.file.now b s.pre.0 s.pre.1.kept (areas-pass p) (demand-passes t) l s.pre.1
-          (sym t.too_short.ensures ∙ c.if2.false) (figured p).ufe-figures.ensures;
+          (sym t.too_short.ensures ∙ c.if2.false) (figured p).ufe_figures.ensures;
     }
 
 pub answered-spec : {M : Type 1} → statement M

@@ -4,13 +4,13 @@ use Prim.Native.Nat.{◌≤◌}
 use native.Mathlib.Omega.{arith}
 use lib.Seq.{length-take-le}
 use borrow.Author.Rules.{rules}
-use Rattle.hour.proofs.Figures.{head-records}
+use Rattle.hour.proofs.Figures.{head_records}
 use Rattle.pool.proofs.put_shares.Statement.{statement}
 use Rattle.pool.proofs.put_shares.Tie as tie
 
 -- the head's count is the file's
 few : (c : tie.Start) → c.args.head.records ≤ 250
-few c = omega (arith, head-records c.requires.0, c.requires.0.kept.hour-kept.count_most)
+few c = omega (arith, head_records c.requires.0, c.requires.0.kept.hour_kept.count_most)
 
 -- &mut room[..n]
 array-borrow-prefix-room : tie.Need-array-borrow-prefix-room
@@ -27,8 +27,8 @@ put-shares-requires c κs =
       pre.0,
       record {
         kept = pre.0.kept;
-        figures-of = pre.1;
-        places = length-take-le _ _ (few start) ∙ head-records pre.0;
+        figures_of = pre.1;
+        places = length-take-le _ _ (few start) ∙ head_records pre.0;
         room_out = pre.2;
       },
     )
@@ -38,7 +38,7 @@ same_length : tie.Need-same-length
 same_length c = search rules
 
 returns : tie.Need-returns
-returns c = c.before.before.put-shares.ensures.0
+returns c = c.before.before.put_shares.ensures.0
 
 pub put-shares-spec : {M : Type 1} → statement M
 put-shares-spec =

@@ -6,16 +6,16 @@ use mathlib.Core.List.{List}
 use Prim.Native.Nat.{ℕ}
 use borrow.Author.Rules.{rules}
 use Rattle.rules.specs.declared.Answer.TheVariants.{Accepted}
-use Rattle.rules.specs.Refusals.{accepted, verdictOf, verdict, fileRows, Buffers}
+use Rattle.rules.specs.Refusals.{accepted, verdict_of, verdict, file_rows, Buffers}
 use Rattle.rules.specs.Inner.Kept.{FileKept}
 use Rattle.hour.specs.Hour.{Headed}
-use Rattle.hour.proofs.Figures.{head-members}
+use Rattle.hour.proofs.Figures.{head_members}
 use Rattle.answer.proofs.Refusing.{no_other}
-use Rattle.examine.proofs.Examined.{accepted-kept}
+use Rattle.examine.proofs.Examined.{accepted_kept}
 use Rattle.pool.specs.AsSettled.{Says}
 use Rattle.pool.specs.Buffers.{buffers}
 use Rattle.pool.proofs.Answers.{file-unchanged, unchanged, room, can-share, can-put-lines, can-put-charges}
-use Rattle.pool.proofs.Answers.{can-put-finals, all-filled}
+use Rattle.pool.proofs.Answers.{can-put-finals, all_filled}
 use Rattle.pool.proofs.settle.Statement.{statement}
 use Rattle.pool.proofs.settle.Proof.Tie as tie
 
@@ -55,17 +55,17 @@ module _ (c : tie.After-enum-told) where
   abbrev examined : tie.After-examine
   examined = c.before.before
 
-  passed : verdict (fileRows (file examined)) ≡ accepted
-  passed = sym examined.examine.ensures ∙ ap verdictOf c.enum_told.given.1
+  passed : verdict (file_rows (file examined)) ≡ accepted
+  passed = sym examined.examine.ensures ∙ ap verdict_of c.enum_told.given.1
 
   keeps : FileKept (file examined)
-  keeps = accepted-kept (file examined) examined.examine.result examined.examine.ensures c.enum_told.given.1
+  keeps = accepted_kept (file examined) examined.examine.result examined.examine.ensures c.enum_told.given.1
 
 head-of-requires : tie.Need-head-of-requires
 head-of-requires c κs = keeps c
 
 headed : (c : tie.After-head-of) → Headed (file (examined c.before)) c.head_of.result
-headed c = record { kept = keeps c.before; head-is = c.head_of.ensures }
+headed c = record { kept = keeps c.before; head_is = c.head_of.ensures }
 
 -- ---- rows 6, 12 and 11
 
@@ -79,7 +79,7 @@ module _ (c : tie.After-answered) where
 
   said : Says (file whole) (lent whole) c.answered.result
   said = c.answered.ensures.says (lent whole)
-      (record { of-charges = refl; of-finals = refl; of-lines = refl; of_shares = refl; of-deviations = refl })
+      (record { of_charges = refl; of_finals = refl; of_lines = refl; of_shares = refl; of_deviations = refl })
 
 -- let Answer::Accepted = answer
 enum-told-2 : tie.Need-enum-told-2
@@ -112,7 +112,7 @@ module _ (c : tie.After-enum-told2) where
 put-deviations-requires : tie.Need-put-deviations-requires
 put-deviations-requires c κs =
     let t = c.before in
-    (with-head t, (room (bytes t) (rooms t) (said (answer t)) (accepts t)).deviations-room)
+    (with-head t, (room (bytes t) (rooms t) (said (answer t)) (accepts t)).deviations_room)
 
 -- the moments at which deviations, shares, lines, charges and finals are put
 abbrev deviated : tie.After-put-shares-arg → tie.After-put-deviations
@@ -138,7 +138,7 @@ put-lines-requires c κs =
     let p = shared c in
     let d = deviated p.before in
     let t = d.before.before in
-    let can = can-put-lines (bytes t) (rooms t) (said (answer t)) (accepts t) d.put-deviations.ensures p.put-shares.ensures in
+    let can = can-put-lines (bytes t) (rooms t) (said (answer t)) (accepts t) d.put_deviations.ensures p.put_shares.ensures in
     (with-head t, can.0, can.1)
 
 put-charges-requires : tie.Need-put-charges-requires
@@ -147,8 +147,8 @@ put-charges-requires c κs =
     let p = shared l.before in
     let d = deviated p.before in
     let t = d.before.before in
-    can-put-charges (bytes t) (rooms t) (said (answer t)) (accepts t) d.put-deviations.ensures p.put-shares.ensures
-    l.put-lines.ensures (head-members (with-head t))
+    can-put-charges (bytes t) (rooms t) (said (answer t)) (accepts t) d.put_deviations.ensures p.put_shares.ensures
+    l.put_lines.ensures (head_members (with-head t))
 
 put-finals-requires : tie.Need-put-finals-requires
 put-finals-requires c κs =
@@ -157,8 +157,8 @@ put-finals-requires c κs =
     let p = shared l.before in
     let d = deviated p.before in
     let t = d.before.before in
-    let can = can-put-finals (bytes t) (rooms t) (said (answer t)) (accepts t) d.put-deviations.ensures p.put-shares.ensures
-    l.put-lines.ensures (head-members (with-head t)) q.put-charges.ensures in
+    let can = can-put-finals (bytes t) (rooms t) (said (answer t)) (accepts t) d.put_deviations.ensures p.put_shares.ensures
+    l.put_lines.ensures (head_members (with-head t)) q.put_charges.ensures in
     (with-head t, can.0, can.1)
 
 -- lines: &mut [Line]
@@ -190,8 +190,8 @@ returns-3 c =
     let p = shared l.before in
     let d = deviated p.before in
     let t = d.before.before in
-    all-filled (bytes t) (rooms t) (said (answer t)) (accepts t) d.put-deviations.ensures p.put-shares.ensures
-    l.put-lines.ensures (head-members (with-head t)) q.put-charges.ensures f.put-finals.ensures
+    all_filled (bytes t) (rooms t) (said (answer t)) (accepts t) d.put_deviations.ensures p.put_shares.ensures
+    l.put_lines.ensures (head_members (with-head t)) q.put_charges.ensures f.put_finals.ensures
 
 pub settle-spec : {M : Type 1} → statement M
 settle-spec =

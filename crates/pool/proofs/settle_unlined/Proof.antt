@@ -8,9 +8,9 @@ use lib.ListN.{replicate}
 use borrow.Author.Rules.{rules}
 use Rattle.rules.specs.declared.Line.{Line}
 use Rattle.rules.specs.declared.Settled.{Settled}
-use Rattle.rules.specs.Settling.{emptyLine}
+use Rattle.rules.specs.Settling.{empty_line}
 use Rattle.rules.specs.Promised.Demands.{Fits}
-use Rattle.pool.specs.Unlined.{Unlined, withLines, FitsUnlined}
+use Rattle.pool.specs.Unlined.{Unlined, with_lines, FitsUnlined}
 use Rattle.pool.proofs.settle_unlined.Statement.{statement}
 use Rattle.pool.proofs.settle_unlined.Proof.Tie as tie
 
@@ -42,14 +42,14 @@ same-length-4 c = search rules
 
 -- each of the lines is empty
 unseen : {s : List ℕ} {b after : Unlined} {r : Settled} {l : Line} {lines : List Line} →
-    l ≡ emptyLine → Fits s (withLines b (replicate 32 l)) r (withLines after lines) → FitsUnlined s b r after
+    l ≡ empty_line → Fits s (with_lines b (replicate 32 l)) r (with_lines after lines) → FitsUnlined s b r after
 unseen {lines = lines} e fits = record { lines = lines; fits = rw e at fits }
 
 returns : tie.Need-returns
 returns c =
     let t = c.before.before.before.before.before in
     let made = t.before.before.before.before.before.before in
-    unseen made.empty-line.ensures t.settle.ensures
+    unseen made.empty_line.ensures t.settle.ensures
 
 pub settle-unlined-spec : {M : Type 1} → statement M
 settle-unlined-spec =

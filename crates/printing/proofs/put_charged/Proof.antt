@@ -8,32 +8,32 @@ use borrow.Author.Rules.{rules}
 use lib.IntN.{ℤ, nat_abs}
 use lib.ListN.{set, length-set}
 use Rattle.whole.proofs.Machine.{read_back}
-use Rattle.rules.specs.Text.{digitByte}
+use Rattle.rules.specs.Text.{digit_byte}
 use Rattle.rules.specs.Statement.{column}
 use Rattle.printing.specs.Put.{Put}
 use Rattle.printing.specs.Charged.{charged}
-use Rattle.printing.proofs.Putting.{put_on, put_as, put-length}
+use Rattle.printing.proofs.Putting.{put_on, put_as, put_length}
 use Rattle.printing.proofs.put_charged.Statement.{statement}
 use Rattle.printing.proofs.put_charged.Tie as tie
 
 three-stored : (o : List ℕ) (at a b c : ℕ) → Put o at (a ∷ b ∷ c ∷ []) (at + 3) (set (set (set o at a) (at + 1) b) (at + 2) c)
-three-stored o at a b c = record { next-is = omega arith; after_is = simp towards_suc }
+three-stored o at a b c = record { next_is = omega arith; after_is = simp towards_suc }
 
-by_parts : (m tens ones : ℕ) (z : ℤ) → m < 100 → tens ≡ digitByte (m / 10 % 10) → ones ≡ digitByte (m % 10) →
+by_parts : (m tens ones : ℕ) (z : ℤ) → m < 100 → tens ≡ digit_byte (m / 10 % 10) → ones ≡ digit_byte (m % 10) →
     tens ∷ ones ∷ 32 ∷ [] ++ column z ≡ charged m z
 by_parts m tens ones z l t o =
     let two : m / 10 % 10 ≡ m / 10 = omega arith in
     rw (t, o, two)
 
 whole : (c : tie.After-put-column) → let s = c.before.before.before.before.before.args in
-    Put s.out.now s.at (charged s.member s.charge) c.put-column.result c.put-column.new.0
+    Put s.out.now s.at (charged s.member s.charge) c.put_column.result c.put_column.new.0
 whole c =
     let ones = c.before.before in
     let tens = c.before.before.before in
     let s = tens.before.before in
     put_as (by_parts s.args.member _ _ s.args.charge s.requires.1 tens.digit.ensures ones.digit2.ensures)
     (put_on (three-stored s.args.out.now s.args.at tens.digit.result ones.digit2.result 32)
-    (put_as (ap column (read_back s.ranges.charge)) c.put-column.ensures))
+    (put_as (ap column (read_back s.ranges.charge)) c.put_column.ensures))
 
 -- amount::decimal::digit(member as u64 / 10)
 digit-requires : tie.Need-digit-requires
@@ -74,7 +74,7 @@ put-column-requires c κs =
 
 -- out: &mut [u8]
 same_length : tie.Need-same-length
-same_length c = put-length (whole c.before.before)
+same_length c = put_length (whole c.before.before)
 
 returns : tie.Need-returns
 returns c = whole c.before.before

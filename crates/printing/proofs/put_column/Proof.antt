@@ -8,8 +8,8 @@ use lib.ListN.{length, replicate}
 use Rattle.whole.proofs.Machine.{read_back}
 use Rattle.rules.specs.Settling.{write}
 use Rattle.rules.specs.Statement.{column}
-use Rattle.rules.proofs.Text.{field-has-width, written-in-14}
-use Rattle.printing.proofs.Putting.{put_as, part-put}
+use Rattle.rules.proofs.Text.{field_has_width, written_in_14}
+use Rattle.printing.proofs.Putting.{put_as, part_put}
 use Rattle.printing.proofs.put_column.Statement.{statement}
 use Rattle.printing.proofs.put_column.Tie as tie
 
@@ -45,10 +45,10 @@ returns c =
     let at = s.args.at in
     let part : length (mid_of at (at + 14 - at) o) ≡ 14 = mid_len at (at + 14) o s.requires.0 ∙ omega arith in
     let field : w.new.1.0 ≡ (write (replicate 14 32) s.args.cents).field =
-    w.ensures.1 ∙ rw (read_back s.ranges.cents) (written-in-14 (mid_of at (at + 14 - at) o) s.args.cents part s.requires.1) in
-    let width : length w.new.1.0 ≡ at + 14 - at = ap length field ∙ field-has-width (replicate 14 32) s.args.cents
+    w.ensures.1 ∙ rw (read_back s.ranges.cents) (written_in_14 (mid_of at (at + 14 - at) o) s.args.cents part s.requires.1) in
+    let width : length w.new.1.0 ≡ at + 14 - at = ap length field ∙ field_has_width (replicate 14 32) s.args.cents
     ∙ omega arith in
-    put_as field (part-put o w.new.1.0 at (at + 14) (omega arith) s.requires.0 width)
+    put_as field (part_put o w.new.1.0 at (at + 14) (omega arith) s.requires.0 width)
 
 pub put-column-spec : {M : Type 1} → statement M
 put-column-spec =

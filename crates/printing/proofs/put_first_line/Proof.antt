@@ -1,8 +1,8 @@
 -- `printing::put_first_line` meets its contract: three counts and a line feed, one after the other.
 use borrow.Author.Rules.{rules}
 use Rattle.rules.specs.Text.{bytes}
-use Rattle.rules.specs.Statement.{firstLine}
-use Rattle.printing.proofs.Putting.{put_on, put-count-on}
+use Rattle.rules.specs.Statement.{first_line}
+use Rattle.printing.proofs.Putting.{put_on, put_count_on}
 use Rattle.printing.proofs.put_first_line.Statement.{statement}
 use Rattle.printing.proofs.put_first_line.Tie as tie
 
@@ -42,15 +42,15 @@ same_length : tie.Need-same-length
 same_length c = search rules
 
 returns : tie.Need-returns
-unfolding firstLine
+unfolding first_line
 returns c =
     let b = c.before.before in
     let r = b.before.before.before.before.before in
     let q = r.before.before.before.before.before in
     let p = q.before.before.before.before.before in
-    let two = put-count-on (bytes " members ") _ p.put_count.ensures.0 q.put-count2.ensures.0 in
-    let three = put-count-on (bytes " records ") _ two r.put-count3.ensures.0 in
-    put_on three b.put-bytes.ensures
+    let two = put_count_on (bytes " members ") _ p.put_count.ensures.0 q.put-count2.ensures.0 in
+    let three = put_count_on (bytes " records ") _ two r.put-count3.ensures.0 in
+    put_on three b.put_bytes.ensures
 
 pub put-first-line-spec : {M : Type 1} → statement M
 put-first-line-spec =

@@ -8,12 +8,12 @@ use lib.IntN.{ℤ, nat_abs}
 use lib.ListN.{length, length-append}
 use Rattle.whole.proofs.Machine.{read_back}
 use Rattle.rules.specs.Text.{bytes}
-use Rattle.rules.specs.Statement.{column, memberLine}
-use Rattle.rules.proofs.Stated.{column-width}
+use Rattle.rules.specs.Statement.{column, member_line}
+use Rattle.rules.proofs.Stated.{column_width}
 use Rattle.printing.specs.Put.{Put}
 use Rattle.printing.specs.Charged.{charged}
-use Rattle.printing.proofs.Putting.{put_on, put_as, put-length}
-use Rattle.printing.proofs.Charged.{charged-width}
+use Rattle.printing.proofs.Putting.{put_on, put_as, put_length}
+use Rattle.printing.proofs.Charged.{charged_width}
 use Rattle.printing.proofs.put_member.Statement.{statement}
 use Rattle.printing.proofs.put_member.Tie as tie
 
@@ -26,25 +26,25 @@ module _ (m : ℕ) (charge final : ℤ) where
   toFinal = toBlank ++ column final
 
   widths : (length toBlank ≡ 18) × (length toFinal ≡ 32)
-  widths = simp length-append (omega (arith, column-width charge, column-width final))
+  widths = simp length-append (omega (arith, column_width charge, column_width final))
 
 abbrev start : tie.After-put-charged → tie.Start
 start c = c.before.before.before
 
 charge-put : (c : tie.After-put-charged) → let s = (start c).args in
-    Put s.out.now s.at (charged s.member s.charge) c.put-charged.result c.put-charged.new.0
-charge-put c = let s = start c in put_as (ap (charged s.args.member) (read_back s.fits.charge)) c.put-charged.ensures
+    Put s.out.now s.at (charged s.member s.charge) c.put_charged.result c.put_charged.new.0
+charge-put c = let s = start c in put_as (ap (charged s.args.member) (read_back s.fits.charge)) c.put_charged.ensures
 
 blank-put : (c : tie.After-put-bytes) → let s = (start c.before.before.before.before.before).args in
-    Put s.out.now s.at (toBlank s.member s.charge s.final-amount) c.put-bytes.result c.put-bytes.new.0
-blank-put c = put_on (charge-put c.before.before.before.before.before) c.put-bytes.ensures
+    Put s.out.now s.at (toBlank s.member s.charge s.final-amount) c.put_bytes.result c.put_bytes.new.0
+blank-put c = put_on (charge-put c.before.before.before.before.before) c.put_bytes.ensures
 
 final-put : (c : tie.After-put-column) → let s = (start c.before.before.before.before.before.before.before.before.before).args in
-    Put s.out.now s.at (toFinal s.member s.charge s.final-amount) c.put-column.result c.put-column.new.0
+    Put s.out.now s.at (toFinal s.member s.charge s.final-amount) c.put_column.result c.put_column.new.0
 final-put c =
     let b = c.before.before.before.before in
     let s = start b.before.before.before.before.before in
-    put_on (blank-put b) (put_as (ap column (read_back s.fits.final-amount)) c.put-column.ensures)
+    put_on (blank-put b) (put_as (ap column (read_back s.fits.final-amount)) c.put_column.ensures)
 
 put-charged-requires : tie.Need-put-charged-requires
 put-charged-requires c κs = let s = c.before.before in
@@ -60,7 +60,7 @@ put-bytes-requires c κs =
     let p = c.before.before.before.before in
     let s = start p in
     let f = charge-put p in
-    omega (arith, f.next-is, put-length f, charged-width s.args.member s.args.charge, s.pre.0)
+    omega (arith, f.next_is, put_length f, charged_width s.args.member s.args.charge, s.pre.0)
 
 -- put_column(out, after_blank, final_amount)
 put-column-requires : tie.Need-put-column-requires
@@ -68,7 +68,7 @@ put-column-requires c κs =
     let b = c.before.before.before in
     let s = start b.before.before.before.before.before in
     let f = blank-put b in (
-      omega (arith, f.next-is, put-length f, (widths s.args.member s.args.charge s.args.final-amount).0, s.pre.0),
+      omega (arith, f.next_is, put_length f, (widths s.args.member s.args.charge s.args.final-amount).0, s.pre.0),
       omega (arith, ap nat_abs (read_back s.fits.final-amount), s.pre.3),
     )
 
@@ -82,16 +82,16 @@ put-bytes-requires-2 c κs =
     let q = c.before.before.before.before in
     let s = start q.before.before.before.before.before.before.before.before.before in
     let f = final-put q in
-    omega (arith, f.next-is, put-length f, (widths s.args.member s.args.charge s.args.final-amount).1, s.pre.0)
+    omega (arith, f.next_is, put_length f, (widths s.args.member s.args.charge s.args.final-amount).1, s.pre.0)
 
 -- out: &mut [u8]
 same_length : tie.Need-same-length
 same_length c =
     let b = c.before.before in
-    put-length b.put-bytes2.ensures ∙ put-length (final-put b.before.before.before.before.before)
+    put_length b.put-bytes2.ensures ∙ put_length (final-put b.before.before.before.before.before)
 
 returns : tie.Need-returns
-unfolding memberLine
+unfolding member_line
 returns c =
     let b = c.before.before in
     put_on (final-put b.before.before.before.before.before) b.put-bytes2.ensures

@@ -1,8 +1,8 @@
 -- `printing::put_refusal` meets its contract: two counts and a line feed, one after the other.
 use borrow.Author.Rules.{rules}
 use Rattle.rules.specs.Text.{bytes}
-use Rattle.rules.specs.Statement.{refusedLine}
-use Rattle.printing.proofs.Putting.{put_on, put-count-on}
+use Rattle.rules.specs.Statement.{refused_line}
+use Rattle.printing.proofs.Putting.{put_on, put_count_on}
 use Rattle.printing.proofs.put_refusal.Statement.{statement}
 use Rattle.printing.proofs.put_refusal.Tie as tie
 
@@ -34,12 +34,12 @@ same_length : tie.Need-same-length
 same_length c = search rules
 
 returns : tie.Need-returns
-unfolding refusedLine
+unfolding refused_line
 returns c =
     let b = c.before.before in
     let q = b.before.before.before.before.before in
     let p = q.before.before.before.before.before in
-    put_on (put-count-on (bytes " at ") _ p.put_count.ensures.0 q.put-count2.ensures.0) b.put-bytes.ensures
+    put_on (put_count_on (bytes " at ") _ p.put_count.ensures.0 q.put-count2.ensures.0) b.put_bytes.ensures
 
 pub put-refusal-spec : {M : Type 1} → statement M
 put-refusal-spec =

@@ -1,6 +1,6 @@
 -- `printing::put_refused` meets its contract: the answer's number and place are the line's.
 use borrow.Author.Rules.{rules}
-use Rattle.rules.specs.Statement.{refusedLine}
+use Rattle.rules.specs.Statement.{refused_line}
 use Rattle.printing.proofs.put_refused.Statement.{statement}
 use Rattle.printing.proofs.put_refused.Tie as tie
 
@@ -18,11 +18,11 @@ same_length : tie.Need-same-length
 same_length c = search rules
 
 returns : tie.Need-returns
-unfolding refusedLine
+unfolding refused_line
 returns c =
     let p = c.before.before in
     let known = p.before.before in
-    rw (← known.before.number_of_lem.ensures, ← known.place_of.ensures) p.put-refusal.ensures
+    rw (← known.before.number_of_lem.ensures, ← known.place_of.ensures) p.put_refusal.ensures
 
 pub put-refused-spec : {M : Type 1} → statement M
 put-refused-spec =

@@ -5,8 +5,8 @@
 use Rattle.std.specs.Prelude.{ℕ, ◌≡◌, List, [], ◌∷◌, ◌++◌, ℤ, pos, neg_ℤ, replicate}
 use Rattle.rules.specs.declared.Line.{Line}
 use Rattle.rules.specs.Text.{bytes}
-use Rattle.rules.specs.Charge.{poolTotal}
-use Rattle.rules.specs.HourFile.{hourIn}
+use Rattle.rules.specs.Charge.{pool_total}
+use Rattle.rules.specs.HourFile.{hour_in}
 use Rattle.rules.specs.Refusals.{accepted, Buffers}
 use Rattle.rules.specs.Settling.{Settlement, settle}
 use Rattle.rules.specs.Statement.{statement}
@@ -14,11 +14,11 @@ use Rattle.rules.specs.Figures.Files.{first, other}
 
 -- three members; zone 0 at 5,000 and zone 1 at 3,000 below zero; area 0 in zone 1 with 40 coming in and 15 going out, area 1 in zone 0 with
 -- 5 and 30
-abbrev pub twoZones : List ℕ
-twoZones = 7 ∷ 3 ∷ 2 ∷ 2 ∷ 5000 ∷ 4294964296 ∷ 0 ∷ 0 ∷ 1 ∷ 40 ∷ 15 ∷ 0 ∷ 0 ∷ 5 ∷ 30 ∷ 0 ∷ []
+abbrev pub two_zones : List ℕ
+two_zones = 7 ∷ 3 ∷ 2 ∷ 2 ∷ 5000 ∷ 4294964296 ∷ 0 ∷ 0 ∷ 1 ∷ 40 ∷ 15 ∷ 0 ∷ 0 ∷ 5 ∷ 30 ∷ 0 ∷ []
 
-unfoldable pub everyKind : List ℕ
-everyKind = first 1 twoZones ++ other 1 7 0 (
+unfoldable pub every_kind : List ℕ
+every_kind = first 1 two_zones ++ other 1 7 0 (
     -- kind ∷ member ∷ area ∷ S ∷ A ∷ J ∷ N ∷ O ∷ M ∷ F ∷ H ∷ zero
     1 ∷ 0 ∷ 0 ∷ 1000 ∷ 900 ∷ 60 ∷ 35 ∷ 0 ∷ 2000 ∷ 9900 ∷ 9700 ∷ 0
     ∷ 2 ∷ 1 ∷ 0 ∷ 1000 ∷ 870 ∷ 20 ∷ 12 ∷ 0 ∷ 0 ∷ 0 ∷ 0 ∷ 0
@@ -30,8 +30,8 @@ everyKind = first 1 twoZones ++ other 1 7 0 (
     ∷ 2 ∷ 2 ∷ 0 ∷ 100 ∷ 101 ∷ 7 ∷ 0 ∷ 0 ∷ 0 ∷ 0 ∷ 0 ∷ 0 ∷ [])
 
 -- buffers that hold something else, one place longer than needed
-unfoldable pub longBuffers : Buffers
-longBuffers = record {
+unfoldable pub long_buffers : Buffers
+long_buffers = record {
   charges = replicate 4 (pos 9);
   finals = replicate 4 (pos 4);
   shares = replicate 8 (pos 8);
@@ -45,8 +45,8 @@ below n = neg_ℤ (pos n)
 abbrev pub line : ℤ → ℕ → Line
 line amount records = record { amount = amount; records = records }
 
-unfoldable pub everySettlement : Settlement
-everySettlement = record {
+unfoldable pub every_settlement : Settlement
+every_settlement = record {
   verdict = accepted;
   ufe = below 730000 ∷ pos 5510000 ∷ replicate 6 (pos 0);
   buffers = record {
@@ -60,9 +60,9 @@ everySettlement = record {
 }
 
 pub record EveryKindRight : Type 0 where
-  pub settled : settle everyKind longBuffers ≡ everySettlement
+  pub settled : settle every_kind long_buffers ≡ every_settlement
   -- what the three lines add up to
-  pub pooled : poolTotal (hourIn everyKind) ≡ pos 32234000000
-  pub stated : statement everyKind ≡
+  pub pooled : pool_total (hour_in every_kind) ≡ pos 32234000000
+  pub stated : statement every_kind ≡
       bytes "hour 7 members 3 records 7\n00          -6.31          -6.31\n"
       ++ bytes "01          +9.83          -9.90\n02         +28.71         +16.21\n"

@@ -24,8 +24,8 @@ abbrev pub first : ℕ → List ℕ → List ℕ
 first others body = sealed (1 ∷ 0 ∷ others ∷ 0 ∷ 0 ∷ 0 ∷ 0 ∷ body)
 
 -- hour 7, so many members, one zone at 5,000, one area without ties
-abbrev pub plainHead : ℕ → List ℕ
-plainHead members = 7 ∷ members ∷ 1 ∷ 1 ∷ 5000 ∷ []
+abbrev pub plain_head : ℕ → List ℕ
+plain_head members = 7 ∷ members ∷ 1 ∷ 1 ∷ 5000 ∷ []
 
 -- a generator of member 0 that is scheduled so much, with a maximum of 1 and an actual energy of 1
 abbrev pub engine : (scheduled : ℕ) → List ℕ
@@ -40,8 +40,8 @@ abbrev pub unsealed : (position count six : ℕ) → List ℕ → List ℕ
 unsealed position count six records = block (2 ∷ position ∷ count ∷ 0 ∷ 0 ∷ 0 ∷ six ∷ 0 ∷ records)
 
 -- buffers that hold something else, one place longer than needed
-unfoldable pub usedBuffers : Buffers
-usedBuffers = record {
+unfoldable pub used_buffers : Buffers
+used_buffers = record {
   charges = replicate 3 (pos 9);
   finals = replicate 3 (pos 4);
   shares = replicate 3 (pos 8);

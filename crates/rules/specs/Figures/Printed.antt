@@ -5,19 +5,19 @@ use Rattle.rules.specs.Text.{bytes}
 use Rattle.rules.specs.Refusals.{accepted}
 use Rattle.rules.specs.Settling.{Settlement, settle}
 use Rattle.rules.specs.Statement.{statement}
-use Rattle.rules.specs.Figures.Files.{block, usedBuffers}
+use Rattle.rules.specs.Figures.Files.{block, used_buffers}
 
 -- hour 7, two members, one zone at 5,000, one area with both ties 0; a generator of member 0, a load of member 1
-unfoldable pub printedFile : List ℕ
-printedFile =
+unfoldable pub printed_file : List ℕ
+printed_file =
     block (1 ∷ 0 ∷ 1 ∷ 0 ∷ 0 ∷ 0 ∷ 0 ∷ 4294962283 ∷ 7 ∷ 2 ∷ 1 ∷ 1 ∷ 5000 ∷ [])
     ++ block (
     2 ∷ 1 ∷ 2 ∷ 0 ∷ 0 ∷ 0 ∷ 0 ∷ 4294941517
     ∷ 1 ∷ 0 ∷ 0 ∷ 1000 ∷ 900 ∷ 0 ∷ 0 ∷ 0 ∷ 2000 ∷ 10000 ∷ 10000 ∷ 0
     ∷ 2 ∷ 1 ∷ 0 ∷ 1000 ∷ 870 ∷ 0 ∷ 0 ∷ 0 ∷ 0 ∷ 0 ∷ 0 ∷ 0 ∷ [])
 
-unfoldable pub printedSettlement : Settlement
-printedSettlement = record {
+unfoldable pub printed_settlement : Settlement
+printed_settlement = record {
   verdict = accepted;
   ufe = pos 300000 ∷ replicate 7 (pos 0);
   buffers = record {
@@ -32,6 +32,6 @@ printedSettlement = record {
 }
 
 pub record PrintedRight : Type 0 where
-  pub settled : settle printedFile usedBuffers ≡ printedSettlement
-  pub stated : statement printedFile ≡
+  pub settled : settle printed_file used_buffers ≡ printed_settlement
+  pub stated : statement printed_file ≡
       bytes "hour 7 members 2 records 2\n00          +5.00          +5.00\n01          -5.00          -5.00\n"

@@ -2,40 +2,40 @@
 -- that the first place does.
 -- Document 02, A2 and A6.
 use Rattle.std.specs.Prelude.{ℕ, List, [], ◌∷◌, ◌++◌, replicate}
-use Rattle.rules.specs.Refusals.{refusedAt}
-use Rattle.rules.specs.Settling.{writeHour}
+use Rattle.rules.specs.Refusals.{refused_at}
+use Rattle.rules.specs.Settling.{write_hour}
 use Rattle.rules.specs.Figures.Cases.{Case, ◌is◌, AllRight}
-use Rattle.rules.specs.Figures.Files.{plainHead, engine}
+use Rattle.rules.specs.Figures.Files.{plain_head, engine}
 
 -- a buffer a byte shorter than the shortest file
-abbrev pub shortBuffer : List ℕ
-shortBuffer = replicate 511 9
+abbrev pub short_buffer : List ℕ
+short_buffer = replicate 511 9
 
 -- the length is 0, and the buffer is as it was
 abbrev pub unwritten : (number place : ℕ) (head records : List ℕ) → Case
 unwritten number place head records =
-    writeHour head records shortBuffer is record { verdict = refusedAt number place; length = 0; file = shortBuffer }
+    write_hour head records short_buffer is record { verdict = refused_at number place; length = 0; file = short_buffer }
 
 -- a head of two members, with this for its last word
-abbrev pub headTo : ℕ → List ℕ
-headTo last = plainHead 2 ++ replicate 114 0 ++ last ∷ []
+abbrev pub head_to : ℕ → List ℕ
+head_to last = plain_head 2 ++ replicate 114 0 ++ last ∷ []
 
 -- an engine scheduled above its maximum, and two records of kind 6
-abbrev pub badRecords : List ℕ
-badRecords = engine 2 ++ 6 ∷ replicate 11 0 ++ 6 ∷ replicate 11 0
+abbrev pub bad_records : List ℕ
+bad_records = engine 2 ++ 6 ∷ replicate 11 0 ++ 6 ∷ replicate 11 0
 
-unfoldable pub unwrittenCases : List Case
-unwrittenCases =
+unfoldable pub unwritten_cases : List Case
+unwritten_cases =
     -- a head a word short; a record a word long; a 251st record
-    unwritten 1 0 (plainHead 2 ++ replicate 113 0 ++ 1 ∷ []) badRecords
-    ∷ unwritten 1 0 (headTo 1) (badRecords ++ 6 ∷ [])
-    ∷ unwritten 1 0 (headTo 1) (replicate 3012 6)
+    unwritten 1 0 (plain_head 2 ++ replicate 113 0 ++ 1 ∷ []) bad_records
+    ∷ unwritten 1 0 (head_to 1) (bad_records ++ 6 ∷ [])
+    ∷ unwritten 1 0 (head_to 1) (replicate 3012 6)
     -- the head's last word is word 127 of its block
-    ∷ unwritten 4 127 (headTo 1) badRecords
-    ∷ unwritten 5 1 (headTo 0) badRecords
-    ∷ unwritten 14 1 (headTo 0) (engine 1 ++ engine 2 ++ engine 2)
-    ∷ unwritten 11 0 (headTo 0) []
+    ∷ unwritten 4 127 (head_to 1) bad_records
+    ∷ unwritten 5 1 (head_to 0) bad_records
+    ∷ unwritten 14 1 (head_to 0) (engine 1 ++ engine 2 ++ engine 2)
+    ∷ unwritten 11 0 (head_to 0) []
     ∷ []
 
 abbrev pub UnwrittenRight : Type 0
-UnwrittenRight = AllRight unwrittenCases
+UnwrittenRight = AllRight unwritten_cases

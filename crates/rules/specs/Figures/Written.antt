@@ -2,19 +2,19 @@
 -- refused. Document 02, A2.
 use Rattle.std.specs.Prelude.{ℕ, List, [], ◌∷◌, ◌++◌, take, drop}
 use Rattle.rules.specs.Text.{bytes}
-use Rattle.rules.specs.RawHour.{rawWritten}
+use Rattle.rules.specs.RawHour.{raw_written}
 use Rattle.rules.specs.Figures.Cases.{Case, ◌is◌, AllRight}
-use Rattle.rules.specs.Figures.Printed.{printedFile}
+use Rattle.rules.specs.Figures.Printed.{printed_file}
 
 -- the 480 bytes of the first body, and two records of 48 bytes from the second
-unfoldable pub printedWords : List ℕ
-printedWords = take 480 (drop 32 printedFile) ++ take 96 (drop 544 printedFile)
+unfoldable pub printed_words : List ℕ
+printed_words = take 480 (drop 32 printed_file) ++ take 96 (drop 544 printed_file)
 
-unfoldable pub writtenCases : List Case
-writtenCases =
-    rawWritten printedWords is printedFile
-    ∷ rawWritten (printedWords ++ 0 ∷ []) is bytes "refused 1 at 0\n"
+unfoldable pub written_cases : List Case
+written_cases =
+    raw_written printed_words is printed_file
+    ∷ raw_written (printed_words ++ 0 ∷ []) is bytes "refused 1 at 0\n"
     ∷ []
 
 abbrev pub WrittenRight : Type 0
-WrittenRight = AllRight writtenCases
+WrittenRight = AllRight written_cases

@@ -6,7 +6,7 @@ use Rattle.rules.specs.declared.Mode.TheVariants.{Hourly, TenMinutes}
 
 -- the records that a block may hold fit into its body of 120 words
 pub record FitsBody (l : Layout) : Type 0 where
-  pub some-records : 1 ≤ l.records
+  pub some_records : 1 ≤ l.records
   pub some_words : 1 ≤ l.words
   pub no_longer : l.words * l.records ≤ 120
 

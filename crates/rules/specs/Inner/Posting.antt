@@ -6,29 +6,29 @@ use Rattle.rules.specs.declared.Kind.{Kind}
 use Rattle.rules.specs.declared.Kind.TheVariants.{Generator, RealTimeLoad, ProfileLoad, Import, Export, Unknown}
 use Rattle.rules.specs.declared.Line.{Line}
 use Rattle.rules.specs.declared.Tally.{Tally}
-use Rattle.rules.specs.Record.{Hour, Entry, members, price, memberOf, areaOf, entry_of, isLoad}
-use Rattle.rules.specs.Deviation.{unitsPerKWh, multiplierOne}
+use Rattle.rules.specs.Record.{Hour, Entry, members, price, member_of, area_of, entry_of, is_load}
+use Rattle.rules.specs.Deviation.{units_per_kwh, multiplier_one}
 use Rattle.rules.specs.Ufe.{D}
 use Rattle.rules.specs.Charge.{entering, share_of, grains}
-use Rattle.rules.specs.Settling.{emptyLine}
-use Rattle.rules.specs.Explanation.{noHeads, headAt}
+use Rattle.rules.specs.Settling.{empty_line}
+use Rattle.rules.specs.Explanation.{no_heads, head_at}
 
 -- ---- the tally
 
 -- what a record adds to its area's energy: generation less its losses, minus load, minus an import's losses
-unfoldable pub accountedAs : Kind → (A H : ℤ) → ℤ
-accountedAs Generator A H = unitsPerKWh *ℤ A -ℤ A *ℤ (multiplierOne -ℤ H)
-accountedAs RealTimeLoad A H = neg_ℤ (unitsPerKWh *ℤ A)
-accountedAs ProfileLoad A H = neg_ℤ (unitsPerKWh *ℤ A)
-accountedAs Import A H = neg_ℤ (A *ℤ (multiplierOne -ℤ H))
-accountedAs Export A H = pos 0
-accountedAs Unknown A H = pos 0
+unfoldable pub accounted_as : Kind → (A H : ℤ) → ℤ
+accounted_as Generator A H = units_per_kwh *ℤ A -ℤ A *ℤ (multiplier_one -ℤ H)
+accounted_as RealTimeLoad A H = neg_ℤ (units_per_kwh *ℤ A)
+accounted_as ProfileLoad A H = neg_ℤ (units_per_kwh *ℤ A)
+accounted_as Import A H = neg_ℤ (A *ℤ (multiplier_one -ℤ H))
+accounted_as Export A H = pos 0
+accounted_as Unknown A H = pos 0
 
 unfoldable pub accounted : Entry → ℤ
-accounted r = accountedAs r.kind r.A r.H
+accounted r = accounted_as r.kind r.A r.H
 
-unfoldable pub emptyTally : Tally
-emptyTally = record { records = 0; demand = replicate 8 0; energy = replicate 8 (pos 0) }
+unfoldable pub empty_tally : Tally
+empty_tally = record { records = 0; demand = replicate 8 0; energy = replicate 8 (pos 0) }
 
 -- a record of area a, with its demand and its energy, brings the tally up to date
 unfoldable pub tallied : Tally → (a demand : ℕ) (energy : ℤ) → Tally
@@ -39,54 +39,54 @@ tallied t a d e = record {
 }
 
 -- what a record demands: a load its D, another kind nothing
-unfoldable pub demandBy : Entry → ℕ
-demandBy r = cond (isLoad r.kind) (D r) 0
+unfoldable pub demand_by : Entry → ℕ
+demand_by r = cond (is_load r.kind) (D r) 0
 
 module _ (h : Hour) where
-  abbrev pub demandOf : ℕ → ℕ
-  demandOf i = demandBy (entry_of h i)
+  abbrev pub demand_of : ℕ → ℕ
+  demand_of i = demand_by (entry_of h i)
 
   -- the tally once the first n records are posted
-  unfoldable pub tallyAfter : ℕ → Tally
-  tallyAfter zero = emptyTally
-  tallyAfter (suc n) = tallied (tallyAfter n) (areaOf h n) (demandOf n) (accounted (entry_of h n))
+  unfoldable pub tally_after : ℕ → Tally
+  tally_after zero = empty_tally
+  tally_after (suc n) = tallied (tally_after n) (area_of h n) (demand_of n) (accounted (entry_of h n))
 
 -- ---- the members' lines
 
-unfoldable pub lineWith : Line → ℤ → Line
-lineWith l g = record { amount = l.amount +ℤ g; records = l.records + 1 }
+unfoldable pub line_with : Line → ℤ → Line
+line_with l g = record { amount = l.amount +ℤ g; records = l.records + 1 }
 
 -- a posting touches one line and no other
-unfoldable pub linesWith : List Line → (m : ℕ) (grains : ℤ) → List Line
-linesWith ls m g = set ls m (lineWith (get_or ls m emptyLine) g)
+unfoldable pub lines_with : List Line → (m : ℕ) (grains : ℤ) → List Line
+lines_with ls m g = set ls m (line_with (get_or ls m empty_line) g)
 
 module _ (h : Hour) (old : List Line) where
   -- the lines once the first n records are posted: what a member's line held before isn't read
-  unfoldable pub linesAfter : ℕ → List Line
-  linesAfter zero = replacingFirst (λ m. emptyLine) (members h) old
-  linesAfter (suc n) = linesWith (linesAfter n) (memberOf h n) (grains h n)
+  unfoldable pub lines_after : ℕ → List Line
+  lines_after zero = replacingFirst (λ m. empty_line) (members h) old
+  lines_after (suc n) = lines_with (lines_after n) (member_of h n) (grains h n)
 
 -- ---- a member's heads
 
 -- where among the five the deviation of a kind stands; an unknown kind enters with nothing
-abbrev pub headPlace : Kind → ℕ
-headPlace Generator = 0
-headPlace RealTimeLoad = 1
-headPlace ProfileLoad = 1
-headPlace Import = 2
-headPlace Export = 3
-headPlace Unknown = 4
+abbrev pub head_place : Kind → ℕ
+head_place Generator = 0
+head_place RealTimeLoad = 1
+head_place ProfileLoad = 1
+head_place Import = 2
+head_place Export = 3
+head_place Unknown = 4
 
-unfoldable pub headWith : List ℤ → (k : ℕ) (grains : ℤ) → List ℤ
-headWith hs k g = set hs k (headAt hs k +ℤ g)
+unfoldable pub head_with : List ℤ → (k : ℕ) (grains : ℤ) → List ℤ
+head_with hs k g = set hs k (head_at hs k +ℤ g)
 
 -- the grains of a record's deviation as it enters, and of its share
-unfoldable pub headsWith : List ℤ → Kind → (deviation share : ℤ) → List ℤ
-headsWith hs kind d s = headWith (headWith hs (headPlace kind) d) 4 s
+unfoldable pub heads_with : List ℤ → Kind → (deviation share : ℤ) → List ℤ
+heads_with hs kind d s = head_with (head_with hs (head_place kind) d) 4 s
 
 module _ (h : Hour) (m : ℕ) where
   -- the heads once the first n records are posted: of the member's alone
-  unfoldable pub headsAfter : ℕ → List ℤ
-  headsAfter zero = noHeads
-  headsAfter (suc n) = let p = price h (areaOf h n) in let r = entry_of h n in
-      cond (eqb (memberOf h n) m) (headsWith (headsAfter n) r.kind (p *ℤ entering r) (p *ℤ share_of h n)) (headsAfter n)
+  unfoldable pub heads_after : ℕ → List ℤ
+  heads_after zero = no_heads
+  heads_after (suc n) = let p = price h (area_of h n) in let r = entry_of h n in
+      cond (eqb (member_of h n) m) (heads_with (heads_after n) r.kind (p *ℤ entering r) (p *ℤ share_of h n)) (heads_after n)

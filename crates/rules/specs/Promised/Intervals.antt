@@ -4,11 +4,11 @@
 -- otherwise, 003 decides (document 01, "What the first release covers").
 -- All energies are in 24ths; a GMM is given in ten-thousandths, so that an energy times a GMM, and any other energy times 10,000, are units.
 use Rattle.std.specs.Prelude.{ℕ, zero, suc, ◌+◌, ◌*◌, Bool, cond, ◌&&◌, ℤ, pos, negsuc, ◌+ℤ◌, ◌-ℤ◌, ◌*ℤ◌, eqb}
-use Rattle.whole.specs.Below.{totalBelow}
+use Rattle.whole.specs.Below.{total_below}
 use Rattle.rules.specs.declared.Kind.{Kind}
 use Rattle.rules.specs.declared.Kind.TheVariants.{Generator, RealTimeLoad, ProfileLoad, Import, Export, Unknown}
-use Rattle.rules.specs.Record.{Hour, zones, zoneOf, memberOf, areaOf, signed, kind_of, isGenerator, isLoad, isImport, isExport}
-use Rattle.rules.specs.Promised.Tariff.{inUnits}
+use Rattle.rules.specs.Record.{Hour, zones, zone_of, member_of, area_of, signed, kind_of, is_generator, is_load, is_import, is_export}
+use Rattle.rules.specs.Promised.Tariff.{in_units}
 
 -- an energy, its sixth and its 24th
 abbrev pub whole : ℤ → ℤ
@@ -17,14 +17,14 @@ whole energy = pos 24 *ℤ energy
 abbrev pub sixth : ℤ → ℤ
 sixth energy = pos 4 *ℤ energy
 
-abbrev pub twentyFourth : ℤ → ℤ
-twentyFourth energy = energy
+abbrev pub twenty_fourth : ℤ → ℤ
+twenty_fourth energy = energy
 
 -- Gs,b and Ls,b: of the schedules of this hour, the one before and the next
-unfoldable pub beepSchedule : (s s-1 s+1 : ℤ) (b : ℕ) → ℤ
-beepSchedule s s-1 s+1 b =
-    cond (eqb b 1) (sixth s -ℤ twentyFourth (s -ℤ s-1))
-    (cond (eqb b 6) (sixth s +ℤ twentyFourth (s+1 -ℤ s)) (sixth s))
+unfoldable pub beep_schedule : (s s-1 s+1 : ℤ) (b : ℕ) → ℤ
+beep_schedule s s-1 s+1 b =
+    cond (eqb b 1) (sixth s -ℤ twenty_fourth (s -ℤ s-1))
+    (cond (eqb b 6) (sixth s +ℤ twenty_fourth (s+1 -ℤ s)) (sixth s))
 
 -- ---- deviations of a record with these words in BEEP Interval b
 
@@ -39,51 +39,51 @@ module _ (w : ℕ → ℕ) (b : ℕ) where
   abbrev pub ancillary : ℤ
   ancillary = whole (pos (w (19 + b)))
 
-  unfoldable pub beepGenDev : ℤ
-  beepGenDev = let Gsb = beepSchedule (pos (w 3)) (pos (w 4)) (pos (w 5)) b in let GMMf = pos (w 6) in let GMMa = pos (w 7) in
-      Gsb *ℤ GMMf -ℤ ((metered -ℤ adj) *ℤ GMMa -ℤ inUnits ancillary)
+  unfoldable pub beep_gen_dev : ℤ
+  beep_gen_dev = let Gsb = beep_schedule (pos (w 3)) (pos (w 4)) (pos (w 5)) b in let GMMf = pos (w 6) in let GMMa = pos (w 7) in
+      Gsb *ℤ GMMf -ℤ ((metered -ℤ adj) *ℤ GMMa -ℤ in_units ancillary)
 
   -- of a Participating Load, metered in the interval
-  unfoldable pub beepLoadDev : ℤ
-  beepLoadDev = let Lsb = beepSchedule (pos (w 3)) (pos (w 4)) (pos (w 5)) b in
-      inUnits Lsb -ℤ (inUnits (metered -ℤ adj) +ℤ inUnits ancillary)
+  unfoldable pub beep_load_dev : ℤ
+  beep_load_dev = let Lsb = beep_schedule (pos (w 3)) (pos (w 4)) (pos (w 5)) b in
+      in_units Lsb -ℤ (in_units (metered -ℤ adj) +ℤ in_units ancillary)
 
   -- of another, with Lat its hourly metered quantity
-  unfoldable pub beepProfileDev : ℤ
-  beepProfileDev = let Lsb = sixth (pos (w 3)) in let Lat = pos (w 8) in let La = sixth Lat in
-      inUnits Lsb -ℤ (inUnits (La -ℤ adj) +ℤ inUnits ancillary)
+  unfoldable pub beep_profile_dev : ℤ
+  beep_profile_dev = let Lsb = sixth (pos (w 3)) in let Lat = pos (w 8) in let La = sixth Lat in
+      in_units Lsb -ℤ (in_units (La -ℤ adj) +ℤ in_units ancillary)
 
   -- the actual import is deemed to be the scheduled
-  unfoldable pub beepImpDev : ℤ
-  beepImpDev = let Isb = sixth (pos (w 3)) in let GMMf = pos (w 6) in let Ia = Isb in let GMMah = pos (w 7) in
-      Isb *ℤ GMMf -ℤ (Ia -ℤ adj) *ℤ GMMah +ℤ inUnits ancillary
+  unfoldable pub beep_imp_dev : ℤ
+  beep_imp_dev = let Isb = sixth (pos (w 3)) in let GMMf = pos (w 6) in let Ia = Isb in let GMMah = pos (w 7) in
+      Isb *ℤ GMMf -ℤ (Ia -ℤ adj) *ℤ GMMah +ℤ in_units ancillary
 
-  unfoldable pub beepExpDev : ℤ
-  beepExpDev = let Esb = sixth (pos (w 3)) in let Ea = metered in
-      inUnits Esb -ℤ inUnits Ea -ℤ inUnits adj
+  unfoldable pub beep_exp_dev : ℤ
+  beep_exp_dev = let Esb = sixth (pos (w 3)) in let Ea = metered in
+      in_units Esb -ℤ in_units Ea -ℤ in_units adj
 
-  abbrev pub beepDevAs : Kind → ℤ
-  beepDevAs Generator = beepGenDev
-  beepDevAs RealTimeLoad = beepLoadDev
-  beepDevAs ProfileLoad = beepProfileDev
-  beepDevAs Import = beepImpDev
-  beepDevAs Export = beepExpDev
-  beepDevAs Unknown = pos 0
+  abbrev pub beep_dev_as : Kind → ℤ
+  beep_dev_as Generator = beep_gen_dev
+  beep_dev_as RealTimeLoad = beep_load_dev
+  beep_dev_as ProfileLoad = beep_profile_dev
+  beep_dev_as Import = beep_imp_dev
+  beep_dev_as Export = beep_exp_dev
+  beep_dev_as Unknown = pos 0
 
   -- LoadDev of either kind of Load
-  abbrev pub beepAnyLoadDev : ℤ
-  beepAnyLoadDev = beepDevAs (kind_of (w 0))
+  abbrev pub beep_any_load_dev : ℤ
+  beep_any_load_dev = beep_dev_as (kind_of (w 0))
 
 -- ---- the charge on Scheduling Coordinator j for Zone x in BEEP Interval b
 
 module _ (h : Hour) (j x b : ℕ) where
   -- the sum of a figure over the coordinator's records of some kinds in the zone
-  unfoldable pub beepSum : (Kind → Bool) → ((w : ℕ → ℕ) (b : ℕ) → ℤ) → ℤ
-  beepSum kinds figure = totalBelow (λ i.
-      cond (kinds (kind_of (h.rec i 0)) && eqb (memberOf h i) j && eqb (zoneOf h (areaOf h i)) x) (figure (h.rec i) b) (pos 0)) h.count
+  unfoldable pub beep_sum : (Kind → Bool) → ((w : ℕ → ℕ) (b : ℕ) → ℤ) → ℤ
+  beep_sum kinds figure = total_below (λ i.
+      cond (kinds (kind_of (h.rec i 0)) && eqb (member_of h i) j && eqb (zone_of h (area_of h i)) x) (figure (h.rec i) b) (pos 0)) h.count
 
   unfoldable pub NetDev : ℤ
-  NetDev = beepSum isGenerator beepGenDev -ℤ beepSum isLoad beepAnyLoadDev +ℤ beepSum isImport beepImpDev -ℤ beepSum isExport beepExpDev
+  NetDev = beep_sum is_generator beep_gen_dev -ℤ beep_sum is_load beep_any_load_dev +ℤ beep_sum is_import beep_imp_dev -ℤ beep_sum is_export beep_exp_dev
 
 -- the price: for decremental Energy if NetDev < 0, for incremental Energy if NetDev > 0
 abbrev pub BIP : (inc dec net : ℤ) → ℤ
@@ -98,5 +98,5 @@ module _ (h : Hour) (j : ℕ) where
       NetDev h j x b *ℤ BIP inc dec (NetDev h j x b)
 
   -- over all zones and intervals
-  unfoldable pub allDevC : ℤ
-  allDevC = totalBelow (λ x. totalBelow (λ k. DevC x (suc k)) 6) (zones h)
+  unfoldable pub all_dev_C : ℤ
+  all_dev_C = total_below (λ x. total_below (λ k. DevC x (suc k)) 6) (zones h)

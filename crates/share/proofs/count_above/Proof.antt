@@ -4,13 +4,13 @@ use Prim.Native.Nat.{◌+◌, ◌-◌, ◌≤◌}
 use native.Mathlib.Omega.{arith}
 use lib.ListN.{length}
 use Rattle.whole.proofs.Gathering.{count_none}
-use Rattle.share.specs.Steps.{aboveBefore}
-use Rattle.share.proofs.Parts.{above_more, above-few}
+use Rattle.share.specs.Steps.{above_before}
+use Rattle.share.proofs.Parts.{above_more, above_few}
 use Rattle.share.proofs.count_above.Statement.{statement}
 use Rattle.share.proofs.count_above.Tie as tie
 
 abbrev invariant-loop : tie.invariant-loop
-invariant-loop demands size t bound count₀ i₀ count i = (i ≤ length demands) × (count ≡ aboveBefore demands size bound i)
+invariant-loop demands size t bound count₀ i₀ count i = (i ≤ length demands) × (count ≡ above_before demands size bound i)
 
 abbrev decreases-loop : tie.decreases-loop
 decreases-loop demands size t bound count₀ i₀ count i = length demands - i
@@ -28,7 +28,7 @@ shared-slice-read-one-if-above c = omega arith
 
 -- demands[i] * size
 mul-one-if-above-2 : tie.Need-overflow-mul-one-if-above-2 invariant-loop decreases-loop
-mul-one-if-above-2 c = omega (arith, c.before.before.before.before.requires.products-fit c.before.before.loop.i (omega arith))
+mul-one-if-above-2 c = omega (arith, c.before.before.before.before.requires.products_fit c.before.before.loop.i (omega arith))
 
 -- demands[i] * size % t
 rem-one-if-above : tie.Need-nonzero-rem-one-if-above invariant-loop decreases-loop
@@ -45,13 +45,13 @@ module _ (c : tie.After-one-if-above invariant-loop decreases-loop) where
   abbrev start : tie.Start invariant-loop decreases-loop
   start = turn.before.before
 
-  counted : turn.loop.count + c.one-if-above.result ≡
-      aboveBefore start.args.demands.now start.args.size start.args.bound (turn.loop.i + 1)
-  counted = above_more start.pre start.args.bound turn.loop.i turn.loop.count turn.loop.inv.1 c.one-if-above.ensures.0
+  counted : turn.loop.count + c.one_if_above.result ≡
+      above_before start.args.demands.now start.args.size start.args.bound (turn.loop.i + 1)
+  counted = above_more start.pre start.args.bound turn.loop.i turn.loop.count turn.loop.inv.1 c.one_if_above.ensures.0
 
 -- count += one_if_above(..)
 add-count : tie.Need-overflow-add-count invariant-loop decreases-loop
-add-count c = omega (arith, counted c, above-few (start c).requires (start c).args.bound ((turn c).loop.i + 1), (start c).well-formed.0.1)
+add-count c = omega (arith, counted c, above_few (start c).requires (start c).args.bound ((turn c).loop.i + 1), (start c).well-formed.0.1)
 
 -- i += 1
 add-i : tie.Need-overflow-add-i invariant-loop decreases-loop
@@ -67,7 +67,7 @@ returns : tie.Need-returns invariant-loop decreases-loop
 returns c =
     let start = c.before.before.before in
     let e : c.before.loop.i ≡ length start.args.demands.now = omega arith in
-    c.before.loop.invariant.1 ∙ ap (aboveBefore start.args.demands.now start.args.size start.args.bound) e
+    c.before.loop.invariant.1 ∙ ap (above_before start.args.demands.now start.args.size start.args.bound) e
 
 pub count-above-spec : {M : Type 1} → statement M
 count-above-spec =

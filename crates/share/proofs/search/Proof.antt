@@ -4,7 +4,7 @@ use native.Mathlib.Omega.{arith}
 use lib.ListN.{length}
 use borrow.Author.Tests.{ltb-true, ltb-false}
 use Rattle.share.specs.Steps.{rest_of, Between}
-use Rattle.share.proofs.Above.{from-exact, from_low}
+use Rattle.share.proofs.Above.{from_exact, from_low}
 use Rattle.share.proofs.search.Statement.{statement}
 use Rattle.share.proofs.search.Tie as tie
 
@@ -47,8 +47,8 @@ loop-again c =
       a.invariant.0,
       record {
         ordered = omega arith;
-        above_low = omega (arith, c.before.count-above.ensures);
-        above-high = a.invariant.1.above-high;
+        above_low = omega (arith, c.before.count_above.ensures);
+        above_high = a.invariant.1.above_high;
       },
     )
 
@@ -64,7 +64,7 @@ loop-again-2 c =
       record {
         ordered = omega arith;
         above_low = a.invariant.1.above_low;
-        above-high = omega (arith, c.before.count-above.ensures);
+        above_high = omega (arith, c.before.count_above.ensures);
       },
     )
 
@@ -75,7 +75,7 @@ returns c =
     let start = c.before.before.before.before in
     let demands = start.args.demands.now in
     record {
-      with-spare = a.invariant.1.above-high;
+      with_spare = a.invariant.1.above_high;
       enough = from_low (rest_of demands start.args.size) (length demands) start.args.units a.low a.high
           (omega (arith, ltb-false 1 (a.high - a.low) c.if1.false)) a.invariant.1.above_low;
     }
@@ -87,9 +87,9 @@ returns-2 c =
     let start = c.before.before.before in
     let demands = start.args.demands.now in
     record {
-      with-spare = a.invariant.1.above-high;
-      enough = from-exact (rest_of demands start.args.size) (length demands) start.args.units a.high
-          (omega (arith, a.invariant.1.above-high));
+      with_spare = a.invariant.1.above_high;
+      enough = from_exact (rest_of demands start.args.size) (length demands) start.args.units a.high
+          (omega (arith, a.invariant.1.above_high));
     }
 
 pub search-spec : {M : Type 1} → statement M

@@ -1,7 +1,7 @@
 -- `share::share_in_place` meets its contract: nothing where nobody demands anything, else the sizes down to the bound.
 use borrow.Author.Rules.{rules}
 use Rattle.share.specs.Steps.{Dividing}
-use Rattle.share.proofs.Shared.{nothing-shared, can-divide, few-left, sizes-are}
+use Rattle.share.proofs.Shared.{nothing_shared, can_divide, few_left, sizes_are}
 use Rattle.share.proofs.share_in_place.Statement.{statement}
 use Rattle.share.proofs.share_in_place.Tie as tie
 
@@ -16,12 +16,12 @@ same_length c = search rules
 returns : tie.Need-returns
 returns c =
     let added = c.before in
-    nothing-shared added.before.before.before.requires added.total.result added.total.ensures c.if1.true
+    nothing_shared added.before.before.before.requires added.total.result added.total.ensures c.if1.true
 
 -- somebody demands something
 divides : (c : tie.Else1) → Dividing c.before.before.before.before.args.places.now c.before.before.before.before.args.size
     c.before.total.result
-divides c = can-divide c.before.before.before.before.requires c.before.total.result c.before.total.ensures c.if1.false
+divides c = can_divide c.before.before.before.before.requires c.before.total.result c.before.total.ensures c.if1.false
 
 left-over-requires : tie.Need-left-over-requires
 left-over-requires c κs = divides c.before
@@ -30,7 +30,7 @@ threshold-requires : tie.Need-threshold-requires
 threshold-requires c κs =
     let over = c.before in
     let d = divides over.before.before in
-    (d, few-left d over.left_over.result.units over.left_over.ensures.0, over.left_over.ensures.1)
+    (d, few_left d over.left_over.result.units over.left_over.ensures.0, over.left_over.ensures.1)
 
 put-sizes-requires : tie.Need-put-sizes-requires
 put-sizes-requires c κs = divides c.before.before.before.before.before
@@ -45,8 +45,8 @@ returns-2 c =
     let put = c.before.before in
     let found = put.before.before in
     let over = found.before.before in
-    sizes-are (divides over.before.before) over.left_over.result.units over.left_over.ensures.0 found.threshold.ensures
-    put.put-sizes.ensures
+    sizes_are (divides over.before.before) over.left_over.result.units over.left_over.ensures.0 found.threshold.ensures
+    put.put_sizes.ensures
 
 pub share-in-place-spec : {M : Type 1} → statement M
 share-in-place-spec =

@@ -17,7 +17,7 @@ search-requires c κs =
       record {
         ordered = omega arith;
         above_low = omega (arith, start.requires.2);
-        above-high = omega (arith, none_above (rest_of demands start.args.size) (length demands) start.args.t (rest_below d));
+        above_high = omega (arith, none_above (rest_of demands start.args.size) (length demands) start.args.t (rest_below d));
       },
     )
 
@@ -32,7 +32,7 @@ search-requires-2 c κs =
       record {
         ordered = omega arith;
         above_low = start.requires.1;
-        above-high = omega (arith, start.requires.2);
+        above_high = omega (arith, start.requires.2);
       },
     )
 

@@ -5,8 +5,8 @@ use mathlib.Core.List.{List}
 use native.Mathlib.Omega.{arith}
 use lib.ListN.{length}
 use Rattle.rules.specs.HourFile.{blocks}
-use Rattle.sneupelaar.specs.HandedOut.{bodyPart}
-use Rattle.sneupelaar.proofs.HandedOut.{handed_out, none-there, one-there}
+use Rattle.sneupelaar.specs.HandedOut.{body_part}
+use Rattle.sneupelaar.proofs.HandedOut.{handed_out, none_there, one_there}
 use Rattle.sneupelaar.proofs.sneupelaar_body.Statement.{statement}
 use Rattle.sneupelaar.proofs.sneupelaar_body.Tie as tie
 
@@ -25,16 +25,16 @@ module _ (c : tie.After-body) where
 returns : tie.Need-returns
 returns c =
     let b = c.before in
-    handed_out (file b) (block b) (none-there (file b) (block b) (ap length b.body.ensures) c.if1.true)
+    handed_out (file b) (block b) (none_there (file b) (block b) (ap length b.body.ensures) c.if1.true)
 
 -- a body that isn't empty
 module _ (c : tie.Else1) where
   abbrev asked : tie.After-body
   asked = c.before
 
-  found : (bodyPart (file asked) (block asked) ≡ record { from = 512 * block asked + 32; length = length asked.body.result.now })
+  found : (body_part (file asked) (block asked) ≡ record { from = 512 * block asked + 32; length = length asked.body.result.now })
       × (block asked < blocks (file asked))
-  found = one-there (file asked) (block asked) (ap length asked.body.ensures) c.if1.false
+  found = one_there (file asked) (block asked) (ap length asked.body.ensures) c.if1.false
 
 -- 512 * block
 mul-t6 : tie.Need-overflow-mul-t6

@@ -5,7 +5,7 @@ use mir.Syntax.{w64}
 use mir.ValLaws.{to_z-of_z}
 use borrow.Author.Rules.{sfits_of}
 use Rattle.rules.specs.Refusals.{Verdict}
-use Rattle.sneupelaar.proofs.HandedOut.{numbered-verdict}
+use Rattle.sneupelaar.proofs.HandedOut.{numbered_verdict}
 use Rattle.sneupelaar.proofs.sneupelaar_read.Statement.{statement}
 use Rattle.sneupelaar.proofs.sneupelaar_read.Tie as tie
 
@@ -22,7 +22,7 @@ returns : tie.Need-returns
 returns c =
     let answered = c.before.before.before.read in
     ap₂ (λ (v : Verdict) (amount : ℤ). record { verdict = v; amount = amount })
-    (numbered-verdict answered.result.answer c.before.before.number_of_lem.ensures c.before.place_of.ensures
+    (numbered_verdict answered.result.answer c.before.before.number_of_lem.ensures c.before.place_of.ensures
     ∙ answered.ensures.0)
     (to_z-of_z w64 answered.result.amount (sfits_of c.struct_told.given.1.0.1) ∙ answered.ensures.1)
 

@@ -46,7 +46,7 @@ use Rattle.rules.specs.contracts.Settled as S
 use Rattle.rules.proofs.Settled.TheLaws as S'
 use Rattle.sneupelaar.specs.declared.NumberedSettled.{NumberedSettled}
 use Rattle.pool.specs.Buffers.{buffers}
-use Rattle.sneupelaar.proofs.HandedOut.{numbered-fits}
+use Rattle.sneupelaar.proofs.HandedOut.{numbered_fits}
 use Rattle.sneupelaar.specs.contracts.NumberedSettled as N
 use Rattle.sneupelaar.proofs.NumberedSettled.TheLaws as N'
 use Rattle.pool.specs.contracts.settle as g
@@ -127,7 +127,7 @@ module _ {M : Type 1} {𝓤 : Ura M} (𝓛 : Logic 𝓤) (at_mem : Memory → SP
         qed 𝓛 (raw (alive 𝓛 g.signature κs qs) ∷ ‵ (lasts g.ended κs a ws) ∷ ‵ ((N.the_row).own_val n (w ∷ [])) ∷ []) ∵
         suffices ! _ (ends_at 𝓛 f.ended stayed (f.clauses 𝓛 at_mem run) ((κs, qs, tt, a, at), tt) w n ws
         (tt, (tt, (tt, (tt, (tt, (tt, tt))))))) $
-        says ! (numbered-fits a.0.now lent fits e) $ done !
+        says ! (numbered_fits a.0.now lent fits e) $ done !
 
   module _ (C : Calls 𝓤 H) (Λ : Loops 𝓤 H) (fm : FmC 𝓤 H 𝓛.laws C)
       (settles : Triple 𝓤 (C #settle) (Settles 𝓛 at_mem run)) (numbers : Triple 𝓤 (C #numbered) (Numbers 𝓛 at_mem run)) where

@@ -7,7 +7,7 @@ use mir.Val.{to_z, of_z}
 use borrow.Author.Rules.{rules}
 use Rattle.rules.specs.Refusals.{Verdict}
 use Rattle.rules.specs.Settling.{write}
-use Rattle.sneupelaar.proofs.HandedOut.{numbered-verdict}
+use Rattle.sneupelaar.proofs.HandedOut.{numbered_verdict}
 use Rattle.sneupelaar.proofs.sneupelaar_write.Statement.{statement}
 use Rattle.sneupelaar.proofs.sneupelaar_write.Tie as tie
 
@@ -32,7 +32,7 @@ returns c =
     let start = c.before.before.before.before.before.before.before in
     let answered = c.before.before.before.before.write in
     ap₂ (λ (v : Verdict) (field : List ℕ). record { verdict = v; field = field })
-    (numbered-verdict answered.result c.before.number_of_lem.ensures c.place_of.ensures ∙ answered.ensures.0)
+    (numbered_verdict answered.result c.before.number_of_lem.ensures c.place_of.ensures ∙ answered.ensures.0)
     answered.ensures.1
     ∙ ap (write start.args.field.now) (same-cents start)
 

@@ -2,7 +2,7 @@
 use mathlib.Core.Path.{sym}
 use borrow.Author.Rules.{rules}
 use lib.Seq.{length-take-le}
-use Rattle.printing.proofs.Showing.{count-within}
+use Rattle.printing.proofs.Showing.{count_within}
 use Rattle.statement.proofs.print_statement.Statement.{statement}
 use Rattle.statement.proofs.print_statement.Tie as tie
 
@@ -15,7 +15,7 @@ put-statement-requires c κs = search rules
 
 -- &text[..length]
 array-share-prefix-text : tie.Need-array-share-prefix-text
-array-share-prefix-text c = count-within (record { count-is = c.before.put-statement.ensures.0; out-is = c.before.put-statement.ensures.1 })
+array-share-prefix-text c = count_within (record { count_is = c.before.put_statement.ensures.0; out_is = c.before.put_statement.ensures.1 })
 
 -- &text[..length]
 slice-aggregate-print : tie.Need-slice-aggregate-print

@@ -5,10 +5,10 @@ use Prim.Native.Nat.{ℕ}
 use native.Mathlib.Omega.{arith}
 use lib.IntN.{ℤ}
 use borrow.Author.Rules.{rules}
-use Rattle.rules.specs.Ranges.{tenMinutesForm}
-use Rattle.rules.specs.Refusals.{accepted, verdictOf, verdict, formRows}
+use Rattle.rules.specs.Ranges.{ten_minutes_form}
+use Rattle.rules.specs.Refusals.{accepted, verdict_of, verdict, form_rows}
 use Rattle.answer.proofs.Refusing.{no_other}
-use Rattle.tenminutes.proofs.Settled.{file-refused, kept, too_short, all-charged}
+use Rattle.tenminutes.proofs.Settled.{file_refused, kept, too_short, all_charged}
 use Rattle.tenminutes.proofs.settle.Statement.{statement}
 use Rattle.tenminutes.proofs.settle.Tie as tie
 
@@ -34,17 +34,17 @@ module _ (c : tie.After-examine-ten-minutes) where
 returns : tie.Need-returns
 returns c =
     let e = c.before in
-    let as-told = file-refused (file e) (lent e) e.examine-ten-minutes.result e.examine-ten-minutes.ensures
+    let as-told = file_refused (file e) (lent e) e.examine_ten_minutes.result e.examine_ten_minutes.ensures
     (λ a. no_other (rw a at c.match.keys2)) in
-    (as-told.verdict-is, as-told.charges-are)
+    (as-told.verdict_is, as-told.charges_are)
 
 -- rows 1 to 5 are passed
 module _ (c : tie.After-enum-told) where
   abbrev examined : tie.After-examine-ten-minutes
   examined = c.before.before
 
-  passed : verdict (formRows tenMinutesForm (file examined)) ≡ accepted
-  passed = sym examined.examine-ten-minutes.ensures ∙ ap verdictOf c.enum_told.given.1
+  passed : verdict (form_rows ten_minutes_form (file examined)) ≡ accepted
+  passed = sym examined.examine_ten_minutes.ensures ∙ ap verdict_of c.enum_told.given.1
 
 head-word-requires : tie.Need-head-word-requires
 head-word-requires c κs = (kept (file (examined c)) (lent (examined c)) (passed c), omega arith, omega arith)
@@ -57,14 +57,14 @@ returns-2 : tie.Need-returns-2
 returns-2 c =
     let counted = c.before in
     let e = examined counted.before in
-    let as-told = too_short (file e) (lent e) (passed counted.before) (omega (arith, counted.head-word.ensures, c.if1.true)) in
-    (as-told.verdict-is, as-told.charges-are)
+    let as-told = too_short (file e) (lent e) (passed counted.before) (omega (arith, counted.head_word.ensures, c.if1.true)) in
+    (as-told.verdict_is, as-told.charges_are)
 
 put-charges-requires : tie.Need-put-charges-requires
 put-charges-requires c κs =
     let counted = c.before.before in
     let e = examined counted.before in
-    (kept (file e) (lent e) (passed counted.before), counted.head-word.ensures, omega (arith, counted.head-word.ensures, c.before.if1.false))
+    (kept (file e) (lent e) (passed counted.before), counted.head_word.ensures, omega (arith, counted.head_word.ensures, c.before.if1.false))
 
 -- charges: &mut [i64]
 same_length : tie.Need-same-length
@@ -77,9 +77,9 @@ returns-3 c =
     let tested = put.before.before in
     let counted = tested.before in
     let e = examined counted.before in
-    let as-told = all-charged (file e) (lent e) (passed counted.before) (omega (arith, counted.head-word.ensures, tested.if1.false))
-    put.put-charges.ensures in
-    (as-told.verdict-is, as-told.charges-are)
+    let as-told = all_charged (file e) (lent e) (passed counted.before) (omega (arith, counted.head_word.ensures, tested.if1.false))
+    put.put_charges.ensures in
+    (as-told.verdict_is, as-told.charges_are)
 
 pub settle-spec : {M : Type 1} → statement M
 settle-spec =

@@ -1,7 +1,7 @@
 -- `whole::size_of` meets its contract: below zero the size is one more than −1 − z, which fits for the least i64 too.
 use borrow.Author.Rules.{rules}
 use native.Mathlib.Omega.{arith}
-use Rattle.whole.proofs.Machine.{OneLess, one_less, none-less}
+use Rattle.whole.proofs.Machine.{OneLess, one_less, none_less}
 use Rattle.whole.proofs.size_of.Statement.{statement}
 use Rattle.whole.proofs.size_of.Tie as tie
 
@@ -10,7 +10,7 @@ less c = one_less c.before.args.z c.before.ranges.z c.if1.true
 
 -- -1 - z
 sub-result : tie.Need-overflow-sub-result
-sub-result c = (less c).less-fits
+sub-result c = (less c).less_fits
 
 -- (-1 - z) as u64
 cast-result : tie.Need-overflow-cast-result
@@ -26,7 +26,7 @@ returns c = (less c).size_is
 
 -- z as u64
 cast-result-2 : tie.Need-overflow-cast-result-2
-cast-result-2 c = none-less c.before.args.z c.before.ranges.z c.if1.false
+cast-result-2 c = none_less c.before.args.z c.before.ranges.z c.if1.false
 
 -- z as u64
 returns-2 : tie.Need-returns-2

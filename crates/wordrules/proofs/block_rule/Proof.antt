@@ -2,7 +2,7 @@
 use mathlib.Core.Path.{◌∙◌}
 use borrow.Author.Rules.{rules}
 use borrow.Author.Tests.{lt-ltb, le-ltb, ne_eqb}
-use Rattle.rules.specs.Ranges.{blockRule}
+use Rattle.rules.specs.Ranges.{block_rule}
 use Rattle.rules.proofs.RuleTables.{block_words}
 use Rattle.wordrules.proofs.block_rule.Statement.{statement}
 use Rattle.wordrules.proofs.block_rule.Tie as tie
@@ -12,15 +12,15 @@ mark-rule-requires c κs = search rules
 
 -- return mark_rule(layout, b)
 returns : tie.Need-returns
-unfolding blockRule
-returns c = c.mark-rule.ensures ∙ rw c.before.if1.true
+unfolding block_rule
+returns c = c.mark_rule.ensures ∙ rw c.before.if1.true
 
 only-requires : tie.Need-only-requires
 only-requires c κs = search rules
 
 -- return only(b)
 returns-2 : tie.Need-returns-2
-unfolding blockRule
+unfolding block_rule
 returns-2 c = c.only.ensures ∙ rw c.before.if2.true
 
 count-rule-requires : tie.Need-count-rule-requires
@@ -28,12 +28,12 @@ count-rule-requires c κs = search rules
 
 -- return count_rule(layout, n, b)
 returns-3 : tie.Need-returns-3
-unfolding blockRule
-returns-3 c = c.count-rule.ensures ∙ rw c.before.if3.true
+unfolding block_rule
+returns-3 c = c.count_rule.ensures ∙ rw c.before.if3.true
 
 -- return ZERO
 returns-4 : tie.Need-returns-4
-unfolding blockRule
+unfolding block_rule
 returns-4 c = rw block_words (simp (
   ne_eqb _ _ c.before.before.before.if1.false,
   ne_eqb _ _ c.before.before.if2.false,
@@ -43,7 +43,7 @@ returns-4 c = rw block_words (simp (
 
 -- return Rule::Any
 returns-5 : tie.Need-returns-5
-unfolding blockRule
+unfolding block_rule
 returns-5 c = rw c.if5.true
 
 past-rule-requires : tie.Need-past-rule-requires
@@ -51,10 +51,10 @@ past-rule-requires c κs = search rules
 
 -- past_rule(layout, held, b, w)
 returns-6 : tie.Need-returns-6
-unfolding blockRule
+unfolding block_rule
 returns-6 c =
     let at = c.before in
-    c.past-rule.ensures
+    c.past_rule.ensures
     ∙ rw block_words
     (simp (
       ne_eqb _ _ at.before.before.before.before.if1.false,

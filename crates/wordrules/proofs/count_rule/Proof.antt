@@ -4,14 +4,14 @@ use Prim.Native.Nat.{◌+◌}
 use native.Mathlib.Omega.{arith}
 use borrow.Author.Rules.{rules}
 use borrow.Author.Tests.{lt-ltb, le-ltb, eq-eqb, ne_eqb}
-use Rattle.rules.specs.Ranges.{countRule}
-use Rattle.rules.proofs.Layouts.{few-to-a-block}
+use Rattle.rules.specs.Ranges.{count_rule}
+use Rattle.rules.proofs.Layouts.{few_to_a_block}
 use Rattle.wordrules.proofs.count_rule.Statement.{statement}
 use Rattle.wordrules.proofs.count_rule.Tie as tie
 
 -- return ZERO
 returns : tie.Need-returns
-unfolding countRule
+unfolding count_rule
 returns c = rw (c.before.if1.true, c.if2.true)
 
 -- n - 1
@@ -24,12 +24,12 @@ only-requires c κs = search rules
 
 -- return only(n - 1)
 returns-2 : tie.Need-returns-2
-unfolding countRule
+unfolding count_rule
 returns-2 c = c.only.ensures ∙ simp (eq-eqb _ _ c.before.before.if1.true)
 
 -- layout.records as u32
 cast-full : tie.Need-overflow-cast-full
-cast-full c = omega (arith, few-to-a-block c.before.before.requires)
+cast-full c = omega (arith, few_to_a_block c.before.before.requires)
 
 -- b + 1
 add-if4 : tie.Need-overflow-add-if4
@@ -41,17 +41,17 @@ only-requires-2 c κs = search rules
 
 -- return only(full)
 returns-3 : tie.Need-returns-3
-unfolding countRule
+unfolding count_rule
 returns-3 c = c.only2.ensures ∙ simp (ne_eqb _ _ c.before.before.before.before.if1.false, lt-ltb _ _ c.before.if4.true)
 
 -- Rule::Between(1, full), where b < n
 returns-4 : tie.Need-returns-4
-unfolding countRule
+unfolding count_rule
 returns-4 c = simp (ne_eqb _ _ c.before.before.before.if1.false, le-ltb _ _ c.if4.false)
 
 -- Rule::Between(1, full), where n <= b
 returns-5 : tie.Need-returns-5
-unfolding countRule
+unfolding count_rule
 returns-5 c =
     let at = c.before.before.before.args in
     simp (ne_eqb _ _ c.before.before.if1.false, le-ltb (at.b + 1) at.n (omega arith))

@@ -2,13 +2,13 @@
 use mathlib.Core.Path.{◌∙◌}
 use borrow.Author.Rules.{rules}
 use borrow.Author.Tests.{lt-ltb, le-ltb}
-use Rattle.rules.specs.Ranges.{headRule}
+use Rattle.rules.specs.Ranges.{head_rule}
 use Rattle.wordrules.proofs.head_rule.Statement.{statement}
 use Rattle.wordrules.proofs.head_rule.Tie as tie
 
 -- return Rule::Any
 returns : tie.Need-returns
-unfolding headRule
+unfolding head_rule
 returns c = simp (lt-ltb _ _ c.if1.true)
 
 counts-rule-requires : tie.Need-counts-rule-requires
@@ -16,12 +16,12 @@ counts-rule-requires c κs = search rules
 
 -- return counts_rule(w)
 returns-2 : tie.Need-returns-2
-unfolding headRule
-returns-2 c = c.counts-rule.ensures ∙ simp (le-ltb _ _ c.before.before.if1.false, lt-ltb _ _ c.before.if2.true)
+unfolding head_rule
+returns-2 c = c.counts_rule.ensures ∙ simp (le-ltb _ _ c.before.before.if1.false, lt-ltb _ _ c.before.if2.true)
 
 -- return Rule::AtMostInSize(1000000)
 returns-3 : tie.Need-returns-3
-unfolding headRule
+unfolding head_rule
 returns-3 c = simp (
   le-ltb _ _ c.before.before.before.if1.false,
   le-ltb _ _ c.before.before.if2.false,
@@ -31,7 +31,7 @@ returns-3 c = simp (
 
 -- return ZERO
 returns-4 : tie.Need-returns-4
-unfolding headRule
+unfolding head_rule
 returns-4 c = simp (
   le-ltb _ _ c.before.before.before.if1.false,
   le-ltb _ _ c.before.before.if2.false,
@@ -44,10 +44,10 @@ area-rule-requires c κs = search rules
 
 -- return area_rule(zones, (w - 16) % 4)
 returns-5 : tie.Need-returns-5
-unfolding headRule
+unfolding head_rule
 returns-5 c =
     let at = c.before.before in
-    c.area-rule.ensures
+    c.area_rule.ensures
     ∙ simp (
       le-ltb _ _ at.before.before.before.if1.false,
       le-ltb _ _ at.before.before.if2.false,
@@ -58,7 +58,7 @@ returns-5 c =
 
 -- ZERO, where w < 48
 returns-6 : tie.Need-returns-6
-unfolding headRule
+unfolding head_rule
 returns-6 c =
     let at = c.before in
     simp (
@@ -71,7 +71,7 @@ returns-6 c =
 
 -- ZERO, where 48 <= w
 returns-7 : tie.Need-returns-7
-unfolding headRule
+unfolding head_rule
 returns-7 c = simp (
   le-ltb _ _ c.before.before.before.if1.false,
   le-ltb _ _ c.before.before.if2.false,

@@ -21,7 +21,7 @@ head-rule-requires-2 : tie.Need-head-rule-requires-2
 head-rule-requires-2 c κs = tt
 
 returns : tie.Need-returns
-returns c = rw c.before.enum_told.given.1 c.head-rule.ensures
+returns c = rw c.before.enum_told.given.1 c.head_rule.ensures
 
 returns-2 : tie.Need-returns-2
 returns-2 c = rw c.before.enum-told2.given.1 c.head-rule2.ensures

@@ -3,17 +3,17 @@ use Prim.Native.Nat.{◌*◌, ◌≤◌}
 use native.Mathlib.Nat.{mul-le-mul_right}
 use native.Mathlib.Omega.{arith}
 use borrow.Author.Tests.{le-leb, lt-leb, eq-eqb, ne_eqb}
-use Rattle.rules.specs.Ranges.{pastRule}
-use Rattle.rules.proofs.Layouts.{few-to-a-record}
+use Rattle.rules.specs.Ranges.{past_rule}
+use Rattle.rules.proofs.Layouts.{few_to_a_record}
 use Rattle.wordrules.proofs.past_rule.Statement.{statement}
 use Rattle.wordrules.proofs.past_rule.Tie as tie
 
 few : (c : tie.Start) → c.args.layout.words * c.args.held ≤ 120 * c.args.held
-few c = mul-le-mul_right c.args.held (few-to-a-record c.requires)
+few c = mul-le-mul_right c.args.held (few_to_a_record c.requires)
 
 -- return Rule::Any, where b == 0
 returns : tie.Need-returns
-unfolding pastRule
+unfolding past_rule
 returns c = simp (eq-eqb _ _ c.if1.true)
 
 -- layout.words * (held as usize)
@@ -26,12 +26,12 @@ add-if2 c = omega (arith, few c.before.before)
 
 -- return ZERO
 returns-2 : tie.Need-returns-2
-unfolding pastRule
+unfolding past_rule
 returns-2 c = simp (ne_eqb _ _ c.before.before.if1.false, le-leb _ _ c.if2.true)
 
 -- Rule::Any, where w < 8 + layout.words * (held as usize)
 returns-3 : tie.Need-returns-3
-unfolding pastRule
+unfolding past_rule
 returns-3 c = simp (ne_eqb _ _ c.before.before.if1.false, lt-leb _ _ c.if2.false)
 
 pub past-rule-spec : {M : Type 1} → statement M

@@ -7,36 +7,36 @@ use native.Mathlib.Omega.{arith}
 use lib.ListN.{get_or}
 use Rattle.rules.specs.declared.Kind.TheVariants.{Generator}
 use Rattle.rules.specs.declared.Rule.{Rule}
-use Rattle.rules.specs.Ranges.{keeps, mustBeZero, rulesOf, recordRule}
-use Rattle.rules.proofs.RuleTables.{zero-kept, record-words, used-or-zero}
+use Rattle.rules.specs.Ranges.{keeps, must_be_zero, rules_of, record_rule}
+use Rattle.rules.proofs.RuleTables.{zero_kept, record_words_lem, used_or_zero}
 use Rattle.wordrules.proofs.record_keeps.Statement.{statement}
 use Rattle.wordrules.proofs.record_keeps.Tie as tie
 
 -- the rule by what `uses` has told
 module _ (c : tie.After-uses) where
   abbrev rule : Rule
-  rule = let at = c.before.before.before.before.args in recordRule at.members at.areas at.kind at.w
+  rule = let at = c.before.before.before.before.args in record_rule at.members at.areas at.kind at.w
 
-  as-used : rule ≡ cond c.uses.result (get_or (rulesOf Generator) (c.before.before.before.before.args.w - 3) mustBeZero) mustBeZero
-  as-used = record-words _ _ _ _ (omega arith) ∙ used-or-zero _ _ ∙ ap (λ (used : Bool). cond used
-      (get_or (rulesOf Generator) (c.before.before.before.before.args.w - 3) mustBeZero) mustBeZero) (sym c.uses.ensures)
+  as_used : rule ≡ cond c.uses.result (get_or (rules_of Generator) (c.before.before.before.before.args.w - 3) must_be_zero) must_be_zero
+  as_used = record_words_lem _ _ _ _ (omega arith) ∙ used_or_zero _ _ ∙ ap (λ (used : Bool). cond used
+      (get_or (rules_of Generator) (c.before.before.before.before.args.w - 3) must_be_zero) must_be_zero) (sym c.uses.ensures)
 
 within-requires : tie.Need-within-requires
 within-requires c κs = tt
 
 -- return within(1, 5, v)
 returns : tie.Need-returns
-unfolding recordRule
+unfolding record_rule
 returns c = c.within.ensures ∙ rw c.before.if1.true
 
 -- return v < members
 returns-2 : tie.Need-returns-2
-unfolding recordRule keeps
+unfolding record_rule keeps
 returns-2 c = rw c.if2.true
 
 -- return v < areas
 returns-3 : tie.Need-returns-3
-unfolding recordRule keeps
+unfolding record_rule keeps
 returns-3 c = rw c.if3.true
 
 uses-requires : tie.Need-uses-requires
@@ -54,13 +54,13 @@ returns-4 c =
     let at = c.before.before.before in
     c.keeps.ensures
     ∙ ap (λ (r : Rule). keeps r at.before.before.before.before.args.v)
-    (c.before.generator-rule.ensures ∙ sym (as-used at ∙ rw c.before.before.if4.true))
+    (c.before.generator_rule.ensures ∙ sym (as_used at ∙ rw c.before.before.if4.true))
 
 -- v == 0
 returns-5 : tie.Need-returns-5
 returns-5 c =
     let at = c.before in
-    sym (ap (λ (r : Rule). keeps r at.before.before.before.before.args.v) (as-used at ∙ rw c.if4.false) ∙ zero-kept _)
+    sym (ap (λ (r : Rule). keeps r at.before.before.before.before.args.v) (as_used at ∙ rw c.if4.false) ∙ zero_kept _)
 
 pub record-keeps-spec : {M : Type 1} → statement M
 record-keeps-spec =

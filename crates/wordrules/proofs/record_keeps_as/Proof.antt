@@ -18,7 +18,7 @@ record-keeps-requires-2 : tie.Need-record-keeps-requires-2
 record-keeps-requires-2 c κs = tt
 
 returns : tie.Need-returns
-returns c = rw c.before.enum_told.given.1 c.record-keeps.ensures
+returns c = rw c.before.enum_told.given.1 c.record_keeps.ensures
 
 returns-2 : tie.Need-returns-2
 returns-2 c = rw c.before.enum-told2.given.1 c.record-keeps2.ensures

@@ -2,7 +2,7 @@
 use mathlib.Core.Path.{sym}
 use borrow.Author.Rules.{rules}
 use lib.Seq.{length-take-le}
-use Rattle.printing.proofs.Showing.{count-within}
+use Rattle.printing.proofs.Showing.{count_within}
 use Rattle.write_hour.proofs.print_written.Statement.{statement}
 use Rattle.write_hour.proofs.print_written.Tie as tie
 
@@ -15,7 +15,7 @@ put-written-hour-requires c κs = search rules
 
 -- &file[..length]
 array-share-prefix-file : tie.Need-array-share-prefix-file
-array-share-prefix-file c = count-within (record { count-is = c.before.put-written-hour.ensures.0; out-is = c.before.put-written-hour.ensures.1 })
+array-share-prefix-file c = count_within (record { count_is = c.before.put_written_hour.ensures.0; out_is = c.before.put_written_hour.ensures.1 })
 
 -- &file[..length]
 slice-aggregate-print : tie.Need-slice-aggregate-print

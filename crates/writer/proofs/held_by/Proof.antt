@@ -1,7 +1,7 @@
 -- `writer::held_by` meets its contract: ten records where so many are left, else all that are.
 use Rattle.std.proofs.Common.{◌-◌, ◌*◌, length, drop, sym, ◌∙◌, arith, length-drop, take_all}
-use Rattle.writer.specs.Stored.{heldWords}
-use Rattle.examine.proofs.Listed.{part-is}
+use Rattle.writer.specs.Stored.{held_words}
+use Rattle.examine.proofs.Listed.{part_is}
 use Rattle.writer.proofs.held_by.Statement.{statement}
 use Rattle.writer.proofs.held_by.Tie as tie
 
@@ -35,10 +35,10 @@ part-result-end c = omega arith
 
 -- return &records[from..to]
 returns : tie.Need-returns
-unfolding heldWords
+unfolding held_words
 returns c =
     let given = c.before.before.args in
-    part-is given.records.now (120 * (given.b - 1)) 120
+    part_is given.records.now (120 * (given.b - 1)) 120
 
 -- &records[from..]: the offset of from
 mul-result-2 : tie.Need-overflow-mul-result-2
@@ -58,7 +58,7 @@ part-result-end-2 c = omega arith
 
 -- &records[from..]
 returns-2 : tie.Need-returns-2
-unfolding heldWords
+unfolding held_words
 returns-2 c =
     let given = c.before.before.args in
     let rest = drop (120 * (given.b - 1)) given.records.now in

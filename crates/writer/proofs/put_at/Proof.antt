@@ -1,7 +1,7 @@
 -- `writer::put_at` meets its contract: the part that is lent comes back as the block's bytes.
 use Rattle.std.proofs.Common.{ℕ, ◌+◌, ◌*◌, List, ◌++◌, take, ap₂, arith}
 use borrow.Rule.Slice.PartMut.{Post-is}
-use Rattle.writer.specs.Stored.{blockPlaced}
+use Rattle.writer.specs.Stored.{block_placed}
 use Rattle.writer.proofs.put_at.Statement.{statement}
 use Rattle.writer.proofs.put_at.Tie as tie
 
@@ -37,14 +37,14 @@ same_length : tie.Need-same-length
 same_length c = omega arith
 
 returns : tie.Need-returns
-unfolding blockPlaced
+unfolding block_placed
 returns c =
     let put = c.before.before in
     let given = put.before.before.before.before.args in
     let file = given.file.now in
     let from = 512 * given.b in
     let rest = Post-is from (from + 512) file (omega arith) in
-    ap₂ (λ (bytes after : List ℕ). take from file ++ (bytes ++ after)) put.put-block.ensures rest
+    ap₂ (λ (bytes after : List ℕ). take from file ++ (bytes ++ after)) put.put_block.ensures rest
 
 pub put-at-spec : {M : Type 1} → statement M
 put-at-spec =

@@ -1,10 +1,10 @@
 -- `writer::write_hour` meets its contract: refused, nothing is touched; accepted, the buffer begins with the file.
 use Rattle.std.proofs.Common.{◌≡◌, ℕ, List, length, sym, ap, ◌∙◌, arith}
-use Rattle.rules.specs.Refusals.{verdictOf, verdict, accepted, writeHourRows}
+use Rattle.rules.specs.Refusals.{verdict_of, verdict, accepted, write_hour_rows}
 use Rattle.rules.specs.Settling.{HourWritten}
 use Rattle.rules.specs.Promised.Writing.{AreWords}
 use Rattle.answer.proofs.Refusing.{no_other}
-use Rattle.writer.proofs.Written.{refused-leaves, accepted-fills, accepted-whole}
+use Rattle.writer.proofs.Written.{refused_leaves, accepted_fills, accepted_whole}
 use Rattle.writer.proofs.write_hour.Statement.{statement}
 use Rattle.writer.proofs.write_hour.Tie as tie
 
@@ -31,8 +31,8 @@ module _ (c : tie.After-enum-told) where
   abbrev examined : tie.After-first-refusal
   examined = c.before.before
 
-  passed : verdict (writeHourRows (head examined) (records examined) (length (file examined))) ≡ accepted
-  passed = sym examined.first-refusal.ensures ∙ ap verdictOf c.enum_told.given.1
+  passed : verdict (write_hour_rows (head examined) (records examined) (length (file examined))) ≡ accepted
+  passed = sym examined.first_refusal.ensures ∙ ap verdict_of c.enum_told.given.1
 
 first-refusal-requires : tie.Need-first-refusal-requires
 first-refusal-requires c κs = tt
@@ -45,7 +45,7 @@ enum_told c = c.match.keys1
 returns : tie.Need-returns
 returns c =
     let e = c.before in
-    let leaves = sym (refused-leaves (head e) (records e) (file e) e.first-refusal.result e.first-refusal.ensures
+    let leaves = sym (refused_leaves (head e) (records e) (file e) e.first_refusal.result e.first_refusal.ensures
     (λ a. no_other (rw a at c.match.keys2))) in (
       ap (λ (r : HourWritten). r.verdict) leaves,
       (ap (λ (r : HourWritten). r.length) leaves, (ap (λ (r : HourWritten). r.file) leaves, words e)),
@@ -53,7 +53,7 @@ returns c =
 
 put-file-requires : tie.Need-put-file-requires
 put-file-requires c κs = let e = c.before in
-    accepted-whole (head (examined e)) (records (examined e)) (file (examined e)) (passed e)
+    accepted_whole (head (examined e)) (records (examined e)) (file (examined e)) (passed e)
 
 -- file: &mut [u8]
 same_length : tie.Need-same-length
@@ -65,11 +65,11 @@ returns-2 c =
     let put = c.before.before in
     let told = put.before.before in
     let e = examined told in
-    let fills = sym (accepted-fills (head e) (records e) (file e) (passed told)) in (
-      ap verdictOf told.enum_told.given.1 ∙ ap (λ (r : HourWritten). r.verdict) fills,
+    let fills = sym (accepted_fills (head e) (records e) (file e) (passed told)) in (
+      ap verdict_of told.enum_told.given.1 ∙ ap (λ (r : HourWritten). r.verdict) fills,
       (
-        put.put-file.ensures.0 ∙ ap (λ (r : HourWritten). r.length) fills,
-        (put.put-file.ensures.1 ∙ ap (λ (r : HourWritten). r.file) fills, words e),
+        put.put_file.ensures.0 ∙ ap (λ (r : HourWritten). r.length) fills,
+        (put.put_file.ensures.1 ∙ ap (λ (r : HourWritten). r.file) fills, words e),
       ),
     )
 

@@ -6,7 +6,7 @@ use native.Mathlib.Omega.{arith}
 use borrow.Author.Rules.{rules}
 use lib.ListN.{length, drop, replicate, length-append, length-replicate, length-drop}
 use lib.Seq.{sets, take_at}
-use Rattle.whole.proofs.Stores.{stored-to-the-end}
+use Rattle.whole.proofs.Stores.{stored_to_the_end}
 use Rattle.amount.proofs.writing.put.Statement.{statement}
 use Rattle.amount.proofs.writing.put.Tie as tie
 
@@ -23,12 +23,12 @@ module _ (f t : List ℕ) (whole : length t ≡ 20) where
       let start : length f - length f ≡ 0 = omega arith in
       let from : 20 - length f ≡ first = omega arith in
       let no-blank : wider ≡ 0 = omega arith in
-      e ∙ rw (start, from, no-blank) (stored-to-the-end (drop first t) f 0 (simp length-drop (omega arith)))
+      e ∙ rw (start, from, no-blank) (stored_to_the_end (drop first t) f 0 (simp length-drop (omega arith)))
 
   in-wider : 14 ≤ length f → sets (replicate wider 32 ++ drop wider f) wider (drop 6 t) ≡ replicate wider 32 ++ drop first t
   in-wider h =
       let from : first ≡ 6 = omega arith in
-      rw from (stored-to-the-end (drop 6 t) (replicate wider 32 ++ drop wider f) wider to_the_end
+      rw from (stored_to_the_end (drop 6 t) (replicate wider 32 ++ drop wider f) wider to_the_end
       ∙ rw (take_at (replicate wider 32) (drop wider f) wider (length-replicate wider 32)))
     where
       to_the_end : wider + length (drop 6 t) ≡ length (replicate wider 32 ++ drop wider f)
@@ -46,7 +46,7 @@ same_length c = search rules
 returns : tie.Need-returns
 returns c =
     let s = c.before.before.before.before.before.before in
-    in-narrower s.args.field.now s.args.text.now s.requires (omega arith) c.before.before.put-text.ensures
+    in-narrower s.args.field.now s.args.text.now s.requires (omega arith) c.before.before.put_text.ensures
 
 put-blanks-requires : tie.Need-put-blanks-requires
 put-blanks-requires c κs = omega arith
@@ -64,7 +64,7 @@ returns-2 : tie.Need-returns-2
 returns-2 c =
     let s = c.before.before.before.before.before.before.before.before.before.before in
     c.before.before.put-text2.ensures
-    ∙ rw c.before.before.before.before.before.before.put-blanks.ensures
+    ∙ rw c.before.before.before.before.before.before.put_blanks.ensures
     (in-wider s.args.field.now s.args.text.now s.requires (omega arith))
 
 pub put_spec : {M : Type 1} → statement M

@@ -7,15 +7,15 @@ use native.Mathlib.Omega.{arith}
 use borrow.Author.Tests.{ltb-true}
 use Rattle.whole.proofs.Tests.{never}
 use Rattle.whole.proofs.Machine.{read_back}
-use Rattle.rules.specs.Text.{signByte}
+use Rattle.rules.specs.Text.{sign_byte}
 use Rattle.amount.proofs.writing.sign_byte.Statement.{statement}
 use Rattle.amount.proofs.writing.sign_byte.Tie as tie
 
-minus : (z : ℤ) → lt_z z (pos 0) ≡ true → 45 ≡ signByte z
+minus : (z : ℤ) → lt_z z (pos 0) ≡ true → 45 ≡ sign_byte z
 minus (pos n) t = absurd (omega (arith, ltb-true n 0 t))
 minus (negsuc n) t = refl
 
-plus : (z : ℤ) → lt_z z (pos 0) ≡ false → 43 ≡ signByte z
+plus : (z : ℤ) → lt_z z (pos 0) ≡ false → 43 ≡ sign_byte z
 plus (pos n) t = refl
 plus (negsuc n) t = never refl t
 

@@ -9,9 +9,9 @@ use lib.IntN.{ℤ, nat_abs}
 use lib.ListN.{length, take, set, replicate}
 use lib.Seq.{sets, set_comm}
 use Rattle.whole.proofs.Machine.{read_back}
-use Rattle.whole.proofs.Stores.{stored-to-the-end}
-use Rattle.rules.specs.Text.{amountField, amountText, decimal, digitByte, signByte}
-use Rattle.rules.proofs.Text.{text-length, text-fits-14}
+use Rattle.whole.proofs.Stores.{stored_to_the_end}
+use Rattle.rules.specs.Text.{amount_field, amount_text, decimal, digit_byte, sign_byte}
+use Rattle.rules.proofs.Text.{text_length, text_fits_14}
 use Rattle.amount.proofs.writing.write_amount.Statement.{statement}
 use Rattle.amount.proofs.writing.write_amount.Tie as tie
 
@@ -34,41 +34,41 @@ first-blanks zero m h = refl
 first-blanks (suc k) zero h = absurd (omega arith)
 first-blanks (suc k) (suc m) h = ap (λ (l : List ℕ). 32 ∷ l) (first-blanks k m (omega arith))
 
-module _ (z : ℤ) (short : length (amountText z) ≤ 14) where
+module _ (z : ℤ) (short : length (amount_text z) ≤ 14) where
   abbrev dollars : List ℕ
   dollars = decimal (nat_abs z / 100)
 
   abbrev cents : List ℕ
-  cents = 46 ∷ digitByte (nat_abs z / 10 % 10) ∷ digitByte (nat_abs z % 10) ∷ []
+  cents = 46 ∷ digit_byte (nat_abs z / 10 % 10) ∷ digit_byte (nat_abs z % 10) ∷ []
 
   abbrev sign_at : ℕ
-  sign_at = 20 - length (amountText z)
+  sign_at = 20 - length (amount_text z)
 
   at_sign : 17 - length dollars - 1 ≡ sign_at
-  at_sign = omega (arith, text-length z)
+  at_sign = omega (arith, text_length z)
 
   at-dollars : 17 - length dollars ≡ suc sign_at
-  at-dollars = omega (arith, text-length z)
+  at-dollars = omega (arith, text_length z)
 
-  at-cents : 17 ≡ sign_at + length (signByte z ∷ dollars)
-  at-cents = omega (arith, text-length z)
+  at-cents : 17 ≡ sign_at + length (sign_byte z ∷ dollars)
+  at-cents = omega (arith, text_length z)
 
-  at-end : sign_at + length (amountText z) ≡ 20
-  at-end = omega arith
+  at_end : sign_at + length (amount_text z) ≡ 20
+  at_end = omega arith
 
   one-run : (l : List ℕ) → length l ≡ 20 →
-      set (sets (sets l 17 cents) (17 - length dollars) dollars) (17 - length dollars - 1) (signByte z) ≡ take sign_at l ++ amountText z
-  unfolding amountText
+      set (sets (sets l 17 cents) (17 - length dollars) dollars) (17 - length dollars - 1) (sign_byte z) ≡ take sign_at l ++ amount_text z
+  unfolding amount_text
   one-run l e =
-      ap (λ (k : ℕ). set (sets (sets l k cents) (17 - length dollars) dollars) (17 - length dollars - 1) (signByte z)) at-cents
-      ∙ rw (at_sign, at-dollars) (stored-before dollars _ (suc sign_at) sign_at (signByte z) (omega arith)
-      ∙ runs-joined (signByte z ∷ dollars) cents l sign_at
-      ∙ stored-to-the-end (amountText z) l sign_at (at-end ∙ sym e))
+      ap (λ (k : ℕ). set (sets (sets l k cents) (17 - length dollars) dollars) (17 - length dollars - 1) (sign_byte z)) at-cents
+      ∙ rw (at_sign, at-dollars) (stored-before dollars _ (suc sign_at) sign_at (sign_byte z) (omega arith)
+      ∙ runs-joined (sign_byte z ∷ dollars) cents l sign_at
+      ∙ stored_to_the_end (amount_text z) l sign_at (at_end ∙ sym e))
 
-  whole-text : set (sets (sets (replicate 20 32) 17 cents) (17 - length dollars) dollars) (17 - length dollars - 1) (signByte z)
-      ≡ amountField 20 z
-  unfolding amountField
-  whole-text = one-run (replicate 20 32) refl ∙ ap (λ (l : List ℕ). l ++ amountText z) (first-blanks sign_at 20 (omega arith))
+  whole_text : set (sets (sets (replicate 20 32) 17 cents) (17 - length dollars) dollars) (17 - length dollars - 1) (sign_byte z)
+      ≡ amount_field 20 z
+  unfolding amount_field
+  whole_text = one-run (replicate 20 32) refl ∙ ap (λ (l : List ℕ). l ++ amount_text z) (first-blanks sign_at 20 (omega arith))
 
 -- ---- the needs
 
@@ -77,7 +77,7 @@ sized : (c : tie.After-size-of) → c.type_size.result ≡ nat_abs c.before.args
 sized c = c.type_size.ensures ∙ ap nat_abs (read_back c.before.ranges.cents)
 
 few : (c : tie.After-size-of) → length (decimal (c.type_size.result / 100)) ≤ 10
-few c = let z = c.before.args.cents in rw (sized c) (omega (arith, text-fits-14 z c.before.requires.0, text-length z))
+few c = let z = c.before.args.cents in rw (sized c) (omega (arith, text_fits_14 z c.before.requires.0, text_length z))
 
 size-of-requires : tie.Need-size-of-requires
 size-of-requires c κs = tt
@@ -107,7 +107,7 @@ write-digits-requires c κs = omega (arith, few c.before.before.before)
 
 -- text::write_digits(text, 17, dollars) - 1
 sub_at : tie.Need-overflow-sub-at
-sub_at c = omega (arith, c.write-digits.ensures.0, few c.before.before.before.before)
+sub_at c = omega (arith, c.write_digits.ensures.0, few c.before.before.before.before)
 
 sign-byte-requires : tie.Need-sign-byte-requires
 sign-byte-requires c κs = tt
@@ -122,21 +122,21 @@ sub-result c = search rules
 
 returns : tie.Need-returns
 returns c =
-    let w = c.before.write-digits in
+    let w = c.before.write_digits in
     let s = c.before.before.before.before.before.before in
     let z = s.args.cents in
-    let short = text-fits-14 z s.requires.0 in
+    let short = text_fits_14 z s.requires.0 in
     rw (
       w.ensures.1,
       w.ensures.0,
-      c.sign-byte.ensures,
+      c.sign_byte.ensures,
       read_back s.ranges.cents,
       c.before.before.before.last-digit2.ensures,
-      c.before.before.before.before.last-digit.ensures,
+      c.before.before.before.before.last_digit.ensures,
       sized c.before.before.before.before.before,
       s.requires.1,
     )
-    (omega (arith, text-length z), whole-text z short)
+    (omega (arith, text_length z), whole_text z short)
 
 pub write-amount-spec : {M : Type 1} → statement M
 write-amount-spec =

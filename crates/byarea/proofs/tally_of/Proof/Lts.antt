@@ -871,7 +871,7 @@ module _ (claims· : Claims) where
         pub empty-tally : After-empty-tally·own before
 
       abbrev pub After-empty-tally·gave : (c : After-empty-tally) → s3.gives (m3 c.before.before c.before.shared-slice-known.given)
-      After-empty-tally·gave = λ c. Called.given ps·0 r·0 claims·.1 T4 tt (m3 c.before.before c.before.shared-slice-known.given) c.empty-tally
+      After-empty-tally·gave = λ c. Called.given ps·0 r·0 claims·.1 T4 tt (m3 c.before.before c.before.shared-slice-known.given) c.empty_tally
 
       abbrev pub m5 : (before : After-shared-slice-known) → (given : s3.gives (m3 before.before before.shared-slice-known.given)) → Typed.Mo T6
       m5 = λ before given. s4 (m4 before given)
@@ -967,7 +967,7 @@ module _ (claims· : Claims) where
         pub demand-of : After-demand-of·own before
 
       abbrev pub After-demand-of·gave : (c : After-demand-of) → s11.gives (m12 c.before.before (After-area-of·gave c.before))
-      After-demand-of·gave = λ c. Called.given ps·2 r·2 claims·.5 T14 (record { pos = 1; ty = Syntax.ty_ref (Syntax.named 0) Syntax.imm (Syntax.ty_int Syntax.w8); ref = λ x. x }, (Num.v_at 5 λ x. x, tt)) (m12 c.before.before (After-area-of·gave c.before)) c.demand-of
+      After-demand-of·gave = λ c. Called.given ps·2 r·2 claims·.5 T14 (record { pos = 1; ty = Syntax.ty_ref (Syntax.named 0) Syntax.imm (Syntax.ty_int Syntax.w8); ref = λ x. x }, (Num.v_at 5 λ x. x, tt)) (m12 c.before.before (After-area-of·gave c.before)) c.demand_of
 
       abbrev pub Need-entry-of-requires : Type 0
       Need-entry-of-requires = (c : After-demand-of) → s12.asks (m13 c.before (After-demand-of·gave c))
@@ -984,7 +984,7 @@ module _ (claims· : Claims) where
         pub entry-of : After-entry-of·own before
 
       abbrev pub After-entry-of·gave : (c : After-entry-of) → s12.gives (m13 c.before.before (After-demand-of·gave c.before))
-      After-entry-of·gave = λ c. Called.given ps·3 r·3 claims·.7 T15 (record { pos = 1; ty = Syntax.ty_ref (Syntax.named 0) Syntax.imm (Syntax.ty_int Syntax.w8); ref = λ x. x }, (Num.v_at 5 λ x. x, tt)) (m13 c.before.before (After-demand-of·gave c.before)) c.entry-of
+      After-entry-of·gave = λ c. Called.given ps·3 r·3 claims·.7 T15 (record { pos = 1; ty = Syntax.ty_ref (Syntax.named 0) Syntax.imm (Syntax.ty_int Syntax.w8); ref = λ x. x }, (Num.v_at 5 λ x. x, tt)) (m13 c.before.before (After-demand-of·gave c.before)) c.entry_of
 
       abbrev pub Need-accounted-requires : Type 0
       Need-accounted-requires = (c : After-entry-of) → s13.asks (m14 c.before (After-entry-of·gave c))
@@ -1087,10 +1087,10 @@ module _ (claims· : Claims) where
         lay8 = λ c. λ g. (post-requires record { before = record { before = c.before; accounted = c.accounted }; tally = record { given = g } }, λ g'. lay9 record { before = record { before = record { before = c.before; accounted = c.accounted }; tally = record { given = g } }; post = Called.called ps·5 r·5 claims·.11 T20 (record { pos = 13; ty = Syntax.ty_ref Syntax.erased Syntax.mut TallyKit.behind; ref = λ x. x }, (Num.v_at 6 λ x. x, (Num.v_at 7 λ x. x, (Num.v_at 8 λ x. x, tt)))) (m17 record { before = c.before; accounted = c.accounted } g) g' })
 
         lay7 : (c : After-entry-of) → at14 (W3 c.before.before.before.before.before c.before.before.before.before.loop.tally c.before.before.before.before.loop.i) (m14 c.before (After-entry-of·gave c))
-        lay7 = λ c. (accounted-requires record { before = c.before; entry-of = c.entry-of }, λ g. lay8 record { before = record { before = c.before; entry-of = c.entry-of }; accounted = Called.called ps·4 r·4 claims·.9 T16 (record { pos = 11; st = List.[]; d = 0; at = λ x. x }, tt) (m14 c.before (After-entry-of·gave c)) g })
+        lay7 = λ c. (accounted-requires record { before = c.before; entry-of = c.entry_of }, λ g. lay8 record { before = record { before = c.before; entry-of = c.entry_of }; accounted = Called.called ps·4 r·4 claims·.9 T16 (record { pos = 11; st = List.[]; d = 0; at = λ x. x }, tt) (m14 c.before (After-entry-of·gave c)) g })
 
         lay6 : (c : After-demand-of) → at15 (W3 c.before.before.before.before c.before.before.before.loop.tally c.before.before.before.loop.i) (m13 c.before (After-demand-of·gave c))
-        lay6 = λ c. (entry-of-requires record { before = c.before; demand-of = c.demand-of }, λ g. lay7 record { before = record { before = c.before; demand-of = c.demand-of }; entry-of = Called.called ps·3 r·3 claims·.7 T15 (record { pos = 1; ty = Syntax.ty_ref (Syntax.named 0) Syntax.imm (Syntax.ty_int Syntax.w8); ref = λ x. x }, (Num.v_at 5 λ x. x, tt)) (m13 c.before (After-demand-of·gave c)) g })
+        lay6 = λ c. (entry-of-requires record { before = c.before; demand-of = c.demand_of }, λ g. lay7 record { before = record { before = c.before; demand-of = c.demand_of }; entry-of = Called.called ps·3 r·3 claims·.7 T15 (record { pos = 1; ty = Syntax.ty_ref (Syntax.named 0) Syntax.imm (Syntax.ty_int Syntax.w8); ref = λ x. x }, (Num.v_at 5 λ x. x, tt)) (m13 c.before (After-demand-of·gave c)) g })
 
         lay5 : (c : After-area-of) → at16 (W3 c.before.before.before c.before.before.loop.tally c.before.before.loop.i) (m12 c.before (After-area-of·gave c))
         lay5 = λ c. (demand-of-requires record { before = c.before; area_of = c.area_of }, λ g. lay6 record { before = record { before = c.before; area_of = c.area_of }; demand-of = Called.called ps·2 r·2 claims·.5 T14 (record { pos = 1; ty = Syntax.ty_ref (Syntax.named 0) Syntax.imm (Syntax.ty_int Syntax.w8); ref = λ x. x }, (Num.v_at 5 λ x. x, tt)) (m12 c.before (After-area-of·gave c)) g })
@@ -1105,7 +1105,7 @@ module _ (claims· : Claims) where
         lay2 = λ c. lay4 record { before = c.before; loop-test = c.loop-test }
 
         lay1 : (c : After-empty-tally) → at30 (W0 c.before.before.κs c.before.before.args) (m4 c.before (After-empty-tally·gave c))
-        lay1 = λ c. (((Row.get 4 T8.locals (m7 c.before (After-empty-tally·gave c)), Row.get 5 T8.locals (m7 c.before (After-empty-tally·gave c))), Path'.refl {a = m7 c.before (After-empty-tally·gave c)}, loop-holds record { before = c.before; empty-tally = c.empty-tally }), λ vs inv. (tt, (λ taken. lay2 record { before = record { before = record { before = c.before; empty-tally = c.empty-tally }; loop = record { tally = vs.0; i = vs.1; inv = inv } }; loop-test = record { taken = Tests.ltb-true (Row.get 5 T8.locals (m8 record { before = c.before; empty-tally = c.empty-tally } vs.0 vs.1)) (Row.get 3 T8.locals (m8 record { before = c.before; empty-tally = c.empty-tally } vs.0 vs.1)) taken } }, λ left. lay3 record { before = record { before = record { before = c.before; empty-tally = c.empty-tally }; loop = record { tally = vs.0; i = vs.1; inv = inv } }; loop-test = record { left = Tests.ltb-false (Row.get 5 T8.locals (m8 record { before = c.before; empty-tally = c.empty-tally } vs.0 vs.1)) (Row.get 3 T8.locals (m8 record { before = c.before; empty-tally = c.empty-tally } vs.0 vs.1)) left } })))
+        lay1 = λ c. (((Row.get 4 T8.locals (m7 c.before (After-empty-tally·gave c)), Row.get 5 T8.locals (m7 c.before (After-empty-tally·gave c))), Path'.refl {a = m7 c.before (After-empty-tally·gave c)}, loop-holds record { before = c.before; empty-tally = c.empty_tally }), λ vs inv. (tt, (λ taken. lay2 record { before = record { before = record { before = c.before; empty-tally = c.empty_tally }; loop = record { tally = vs.0; i = vs.1; inv = inv } }; loop-test = record { taken = Tests.ltb-true (Row.get 5 T8.locals (m8 record { before = c.before; empty-tally = c.empty_tally } vs.0 vs.1)) (Row.get 3 T8.locals (m8 record { before = c.before; empty-tally = c.empty_tally } vs.0 vs.1)) taken } }, λ left. lay3 record { before = record { before = record { before = c.before; empty-tally = c.empty_tally }; loop = record { tally = vs.0; i = vs.1; inv = inv } }; loop-test = record { left = Tests.ltb-false (Row.get 5 T8.locals (m8 record { before = c.before; empty-tally = c.empty_tally } vs.0 vs.1)) (Row.get 3 T8.locals (m8 record { before = c.before; empty-tally = c.empty_tally } vs.0 vs.1)) left } })))
 
         pub laid : (c : Start) → at34 (W0 c.κs c.args) (m0 c.κs c.args)
         laid = λ c. λ g. (empty-tally-requires record { before = c; shared-slice-known = record { given = g } }, λ g'. lay1 record { before = record { before = c; shared-slice-known = record { given = g } }; empty-tally = Called.called ps·0 r·0 claims·.1 T4 tt (m3 c g) g' })

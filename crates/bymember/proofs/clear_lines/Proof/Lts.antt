@@ -622,7 +622,7 @@ module _ (claims· : Claims) where
         pub empty-line : After-empty-line·own before
 
       abbrev pub After-empty-line·gave : (c : After-empty-line) → s4.gives (m4 c.before.before)
-      After-empty-line·gave = λ c. Called.given ps·0 r·0 claims·.1 T5 tt (m4 c.before.before) c.empty-line
+      After-empty-line·gave = λ c. Called.given ps·0 r·0 claims·.1 T5 tt (m4 c.before.before) c.empty_line
 
       abbrev pub Need-mul-t6 : Type 0
       Need-mul-t6 = (c : After-empty-line) → s5.asks (m6 c.before (After-empty-line·gave c))
@@ -680,7 +680,7 @@ module _ (claims· : Claims) where
         lay5 = λ c. ((MutSlice.fix_len (Row.get 1 T18.locals (m16 c.before)).ptr (Row.get 1 T18.locals (m16 c.before)).name (Row.get 1 T18.locals (m16 c.before)).now (dens c.before.before.κs c.before.before.args).0.now (same_length record { before = c.before; loop-test = c.loop-test }), (tt, tt)), returns record { before = c.before; loop-test = c.loop-test })
 
         lay4 : (c : After-empty-line) → at11 (W3 c.before.before.before c.before.before.loop.lines c.before.before.loop.m) (m6 c.before (After-empty-line·gave c))
-        lay4 = λ c. (mul-t6 record { before = c.before; empty-line = c.empty-line }, (tt, ((Path'.refl, Path'.refl, slice-set-from-lines record { before = c.before; empty-line = c.empty-line }), (add-m record { before = c.before; empty-line = c.empty-line }, (μ·0 (Row.get 1 T2.locals (m1 c.before.before.before.κs c.before.before.before.args)).now (Row.get 2 T2.locals (m1 c.before.before.before.κs c.before.before.before.args)) (Row.get 3 T2.locals (m1 c.before.before.before.κs c.before.before.before.args)) (Row.get 1 T2.locals (m13 c.before (After-empty-line·gave c))).now (Row.get 3 T2.locals (m13 c.before (After-empty-line·gave c))), loop-less record { before = c.before; empty-line = c.empty-line }, (((Row.get 1 T2.locals (m13 c.before (After-empty-line·gave c))).now, Row.get 3 T2.locals (m13 c.before (After-empty-line·gave c))), Path'.refl {a = m13 c.before (After-empty-line·gave c)}, loop-again record { before = c.before; empty-line = c.empty-line }, Path'.refl {a = μ·0 (Row.get 1 T2.locals (m1 c.before.before.before.κs c.before.before.before.args)).now (Row.get 2 T2.locals (m1 c.before.before.before.κs c.before.before.before.args)) (Row.get 3 T2.locals (m1 c.before.before.before.κs c.before.before.before.args)) (Row.get 1 T2.locals (m13 c.before (After-empty-line·gave c))).now (Row.get 3 T2.locals (m13 c.before (After-empty-line·gave c)))}))))))
+        lay4 = λ c. (mul-t6 record { before = c.before; empty-line = c.empty_line }, (tt, ((Path'.refl, Path'.refl, slice-set-from-lines record { before = c.before; empty-line = c.empty_line }), (add-m record { before = c.before; empty-line = c.empty_line }, (μ·0 (Row.get 1 T2.locals (m1 c.before.before.before.κs c.before.before.before.args)).now (Row.get 2 T2.locals (m1 c.before.before.before.κs c.before.before.before.args)) (Row.get 3 T2.locals (m1 c.before.before.before.κs c.before.before.before.args)) (Row.get 1 T2.locals (m13 c.before (After-empty-line·gave c))).now (Row.get 3 T2.locals (m13 c.before (After-empty-line·gave c))), loop-less record { before = c.before; empty-line = c.empty_line }, (((Row.get 1 T2.locals (m13 c.before (After-empty-line·gave c))).now, Row.get 3 T2.locals (m13 c.before (After-empty-line·gave c))), Path'.refl {a = m13 c.before (After-empty-line·gave c)}, loop-again record { before = c.before; empty-line = c.empty_line }, Path'.refl {a = μ·0 (Row.get 1 T2.locals (m1 c.before.before.before.κs c.before.before.before.args)).now (Row.get 2 T2.locals (m1 c.before.before.before.κs c.before.before.before.args)) (Row.get 3 T2.locals (m1 c.before.before.before.κs c.before.before.before.args)) (Row.get 1 T2.locals (m13 c.before (After-empty-line·gave c))).now (Row.get 3 T2.locals (m13 c.before (After-empty-line·gave c)))}))))))
 
         lay3 : (c : In-loop) → at12 (W3 c.before.before c.before.loop.lines c.before.loop.m) (m4 c.before)
         lay3 = λ c. (empty-line-requires record { before = c.before; loop-test = c.loop-test }, λ g. lay4 record { before = record { before = c.before; loop-test = c.loop-test }; empty-line = Called.called ps·0 r·0 claims·.1 T5 tt (m4 c.before) g })

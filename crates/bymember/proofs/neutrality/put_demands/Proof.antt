@@ -4,24 +4,24 @@ use Prim.Native.Nat.{ℕ, ◌-◌, ◌<◌}
 use native.Mathlib.Nat.{le_of_lt}
 use native.Mathlib.Omega.{arith}
 use lib.ListN.{length, get_or}
-use Rattle.whole.proofs.Adding.{Added, sumsBy, no-sum-added, next-sum, added-length, added-at}
-use Rattle.rules.specs.Record.{Hour, members, memberOf}
-use Rattle.rules.specs.Inner.Posting.{demandOf}
+use Rattle.whole.proofs.Adding.{Added, sums_by, no_sum_added, next_sum, added_length, added_at}
+use Rattle.rules.specs.Record.{Hour, members, member_of}
+use Rattle.rules.specs.Inner.Posting.{demand_of}
 use Rattle.rules.specs.Inner.Kept.{HourKept}
-use Rattle.rules.specs.HourFile.{hourIn}
-use Rattle.bymember.proofs.Finals.{demand-running, demands-are}
+use Rattle.rules.specs.HourFile.{hour_in}
+use Rattle.bymember.proofs.Finals.{demand_running, demands_are}
 use Rattle.bymember.proofs.neutrality.put_demands.Statement.{statement}
 use Rattle.bymember.proofs.neutrality.put_demands.Tie as tie
 
 abbrev invariant-loop : tie.invariant-loop
 invariant-loop file records demands₀ i₀ demands i =
-    Added (sumsBy (memberOf (hourIn file)) (demandOf (hourIn file))) (members (hourIn file)) (hourIn file).count i demands₀ demands
+    Added (sums_by (member_of (hour_in file)) (demand_of (hour_in file))) (members (hour_in file)) (hour_in file).count i demands₀ demands
 
 abbrev decreases-loop : tie.decreases-loop
 decreases-loop file records demands₀ i₀ demands i = records - i
 
 loop-holds : tie.Need-loop-init invariant-loop decreases-loop
-loop-holds c = let pre = c.before.before.requires in no-sum-added _ _ (omega (arith, pre.2.as_many)) pre.2.zeros
+loop-holds c = let pre = c.before.before.requires in no_sum_added _ _ (omega (arith, pre.2.as_many)) pre.2.zeros
 
 -- a turn's record is there, and its member has a place
 module _ (c : tie.In-loop invariant-loop decreases-loop) where
@@ -32,16 +32,16 @@ module _ (c : tie.In-loop invariant-loop decreases-loop) where
   start = at.before.before.before
 
   abbrev h : Hour
-  h = hourIn start.args.file.now
+  h = hour_in start.args.file.now
 
   kept : HourKept h
-  kept = start.pre.0.hour-kept
+  kept = start.pre.0.hour_kept
 
   there : at.loop.i < h.count
   there = omega (arith, start.pre.1)
 
-  member-there : memberOf h at.loop.i < members h
-  member-there = (kept.record-kept at.loop.i there).member-there
+  member_there : member_of h at.loop.i < members h
+  member_there = (kept.record_kept at.loop.i there).member_there
 
 member-of-requires : tie.Need-member-of-requires invariant-loop decreases-loop
 member-of-requires c κs = ((start c).requires.0, there c)
@@ -52,14 +52,14 @@ module _ (c : tie.After-member-of invariant-loop decreases-loop) where
   turn = c.before
 
   few : c.member_of.result < 32
-  few = omega (arith, c.member_of.ensures, member-there turn, (kept turn).members-most)
+  few = omega (arith, c.member_of.ensures, member_there turn, (kept turn).members_most)
 
   place : c.member_of.result < length (at turn).loop.demands
   place = omega (
     arith,
     c.member_of.ensures,
-    member-there turn,
-    added-length (at turn).loop.inv,
+    member_there turn,
+    added_length (at turn).loop.inv,
     (start turn).pre.2.as_many,
   )
 
@@ -67,8 +67,8 @@ module _ (c : tie.After-member-of invariant-loop decreases-loop) where
   so_far = omega (
     arith,
     ap (λ (m : ℕ). get_or (at turn).loop.demands m 0) c.member_of.ensures,
-    added-at (at turn).loop.inv (memberOf (h turn) (at turn).loop.i) 0 (member-there turn),
-    demand-running (kept turn) (at turn).loop.i (memberOf (h turn) (at turn).loop.i) (le_of_lt (there turn)) (member-there turn),
+    added_at (at turn).loop.inv (member_of (h turn) (at turn).loop.i) 0 (member_there turn),
+    demand_running (kept turn) (at turn).loop.i (member_of (h turn) (at turn).loop.i) (le_of_lt (there turn)) (member_there turn),
   )
 
 demand-of-requires : tie.Need-demand-of-requires invariant-loop decreases-loop
@@ -104,17 +104,17 @@ loop-again : tie.Need-loop-preserved invariant-loop decreases-loop
 loop-again c =
     let read = c.before.before in
     let t = turn read in
-    next-sum (memberOf (h t)) (demandOf (h t)) (at t).loop.inv (there t) (member-there t) read.member_of.ensures
-    c.before.demand-of.ensures
+    next_sum (member_of (h t)) (demand_of (h t)) (at t).loop.inv (there t) (member_there t) read.member_of.ensures
+    c.before.demand_of.ensures
 
 -- demands: &mut [u64]
 same_length : tie.Need-same-length invariant-loop decreases-loop
-same_length c = added-length c.before.loop.invariant
+same_length c = added_length c.before.loop.invariant
 
 returns : tie.Need-returns invariant-loop decreases-loop
 returns c =
     let begun = c.before.before.before.before in
-    demands-are begun.requires.0.hour-kept c.before.loop.invariant (omega (arith, begun.requires.1))
+    demands_are begun.requires.0.hour_kept c.before.loop.invariant (omega (arith, begun.requires.1))
 
 pub put-demands-spec : {M : Type 1} → statement M
 put-demands-spec =

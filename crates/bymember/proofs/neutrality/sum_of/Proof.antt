@@ -6,21 +6,21 @@ use lib.IntN.{ℤ, pos}
 use lib.ListN.{length, get_or}
 use mir.Syntax.{w64}
 use mir.Val.{to_z}
-use Rattle.whole.specs.Below.{totalBelow}
+use Rattle.whole.specs.Below.{total_below}
 use Rattle.whole.specs.Signed.{Under}
-use Rattle.whole.proofs.Totals.{total-none}
-use Rattle.bymember.proofs.Finals.{number_fits, number-added}
+use Rattle.whole.proofs.Totals.{total_none}
+use Rattle.bymember.proofs.Finals.{number_fits, number_added}
 use Rattle.bymember.proofs.neutrality.sum_of.Statement.{statement}
 use Rattle.bymember.proofs.neutrality.sum_of.Tie as tie
 
 abbrev invariant-loop : tie.invariant-loop
-invariant-loop charges n sum₀ m₀ sum m = (m ≤ n) × (to_z w64 sum ≡ totalBelow (λ k. get_or charges k (pos 0)) m)
+invariant-loop charges n sum₀ m₀ sum m = (m ≤ n) × (to_z w64 sum ≡ total_below (λ k. get_or charges k (pos 0)) m)
 
 abbrev decreases-loop : tie.decreases-loop
 decreases-loop charges n sum₀ m₀ sum m = n - m
 
 loop-holds : tie.Need-loop-init invariant-loop decreases-loop
-loop-holds c = (omega arith, sym (total-none _))
+loop-holds c = (omega arith, sym (total_none _))
 
 -- a turn's place is there, and no number so far is too large
 module _ (c : tie.In-loop invariant-loop decreases-loop) where
@@ -64,13 +64,13 @@ loop-less c = omega arith
 loop-again : tie.Need-loop-preserved invariant-loop decreases-loop
 loop-again c =
     let t = c.before in
-    (omega arith, number-added (charge t) (at t).loop.m (few t) (small t) (at t).loop.sum (at t).loop.invariant.1 refl)
+    (omega arith, number_added (charge t) (at t).loop.m (few t) (small t) (at t).loop.sum (at t).loop.invariant.1 refl)
 
 returns : tie.Need-returns invariant-loop decreases-loop
 returns c =
     let ended = c.before in
     let all : ended.loop.m ≡ ended.before.args.n = omega arith in
-    ended.loop.invariant.1 ∙ ap (totalBelow (λ k. get_or ended.before.args.charges.now k (pos 0))) all
+    ended.loop.invariant.1 ∙ ap (total_below (λ k. get_or ended.before.args.charges.now k (pos 0))) all
 
 pub sum-of-spec : {M : Type 1} → statement M
 sum-of-spec =

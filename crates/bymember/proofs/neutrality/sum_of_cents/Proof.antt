@@ -7,34 +7,34 @@ use lib.IntN.{ℤ, pos}
 use lib.ListN.{length, get_or}
 use mir.Syntax.{w64}
 use mir.Val.{to_z}
-use Rattle.whole.specs.Below.{totalBelow}
+use Rattle.whole.specs.Below.{total_below}
 use Rattle.whole.specs.Signed.{Under}
-use Rattle.whole.proofs.Totals.{total-none}
+use Rattle.whole.proofs.Totals.{total_none}
 use Rattle.whole.proofs.Machine as Machine
 use Rattle.whole.proofs.Machine.{Num, stored}
 use Rattle.rules.specs.Charge.{cents}
-use Rattle.rules.specs.Refusals.{mostGrains}
-use Rattle.rules.proofs.Rounding.{cents-under}
-use Rattle.bymember.proofs.Finals.{number_fits, number-added}
+use Rattle.rules.specs.Refusals.{most_grains}
+use Rattle.rules.proofs.Rounding.{cents_under}
+use Rattle.bymember.proofs.Finals.{number_fits, number_added}
 use Rattle.bymember.proofs.neutrality.sum_of_cents.Statement.{statement}
 use Rattle.bymember.proofs.neutrality.sum_of_cents.Tie as tie
 
-abbrev centsOf : List ℤ → ℕ → ℤ
-centsOf amounts k = cents (get_or amounts k (pos 0))
+abbrev cents_of : List ℤ → ℕ → ℤ
+cents_of amounts k = cents (get_or amounts k (pos 0))
 
 abbrev invariant-loop : tie.invariant-loop
-invariant-loop amounts sum₀ m₀ sum m = (m ≤ length amounts) × (to_z w64 sum ≡ totalBelow (centsOf amounts) m)
+invariant-loop amounts sum₀ m₀ sum m = (m ≤ length amounts) × (to_z w64 sum ≡ total_below (cents_of amounts) m)
 
 abbrev decreases-loop : tie.decreases-loop
 decreases-loop amounts sum₀ m₀ sum m = length amounts - m
 
 loop-holds : tie.Need-loop-init invariant-loop decreases-loop
-loop-holds c = (omega arith, sym (total-none _))
+loop-holds c = (omega arith, sym (total_none _))
 
 -- an amount that row 7 lets pass is at most so many cents
-cents-small : {z : ℤ} → Under z mostGrains → Under (cents z) 400000000000
+cents-small : {z : ℤ} → Under z most_grains → Under (cents z) 400000000000
 unfolding cents
-cents-small {z} u = cents-under 10000000 400000000000 (omega arith) z u
+cents-small {z} u = cents_under 10000000 400000000000 (omega arith) z u
 
 -- a turn's place is there, and no amount so far is too large
 module _ (c : tie.In-loop invariant-loop decreases-loop) where
@@ -50,7 +50,7 @@ module _ (c : tie.In-loop invariant-loop decreases-loop) where
   few : at.loop.m < 32
   few = omega (arith, start.pre.few)
 
-  small : (k : ℕ) → k ≤ at.loop.m → Under (centsOf amounts k) 400000000000
+  small : (k : ℕ) → k ≤ at.loop.m → Under (cents_of amounts k) 400000000000
   small k l = cents-small (start.pre.small k (omega arith))
 
   abbrev exact : Num
@@ -72,14 +72,14 @@ module _ (c : tie.After-cents invariant-loop decreases-loop) where
   abbrev turn : tie.In-loop invariant-loop decreases-loop
   turn = c.before.before
 
-  rounded : c.cents.result ≡ centsOf (amounts turn) (at turn).loop.m
+  rounded : c.cents.result ≡ cents_of (amounts turn) (at turn).loop.m
   rounded = c.cents.ensures ∙ ap cents (stored (exact turn) tt)
 
 -- sum += formula::posting::cents(amounts[m])
 add-sum : tie.Need-overflow-add-sum invariant-loop decreases-loop
 add-sum c =
     let t = turn c in
-    number_fits (centsOf (amounts t)) (at t).loop.m (few t) (small t) (at t).loop.sum (at t).loop.inv.1 (rounded c)
+    number_fits (cents_of (amounts t)) (at t).loop.m (few t) (small t) (at t).loop.sum (at t).loop.inv.1 (rounded c)
 
 -- m += 1
 add-m : tie.Need-overflow-add-m invariant-loop decreases-loop
@@ -91,14 +91,14 @@ loop-less c = omega arith
 loop-again : tie.Need-loop-preserved invariant-loop decreases-loop
 loop-again c =
     let t = turn c in
-    (omega arith, number-added (centsOf (amounts t)) (at t).loop.m (few t) (small t) (at t).loop.sum (at t).loop.inv.1 (rounded c))
+    (omega arith, number_added (cents_of (amounts t)) (at t).loop.m (few t) (small t) (at t).loop.sum (at t).loop.inv.1 (rounded c))
 
 returns : tie.Need-returns invariant-loop decreases-loop
 returns c =
     let ended = c.before in
     let lent = ended.before.args.amounts.now in
     let all : ended.loop.m ≡ length lent = omega arith in
-    ended.loop.invariant.1 ∙ ap (totalBelow (centsOf lent)) all
+    ended.loop.invariant.1 ∙ ap (total_below (cents_of lent)) all
 
 pub sum-of-cents-spec : {M : Type 1} → statement M
 sum-of-cents-spec =

@@ -7,17 +7,17 @@ use lib.ListN.{length, get_or}
 use mir.Syntax.{w64}
 use mir.Val.{to_z}
 use Rattle.whole.specs.Below.{replacingFirst}
-use Rattle.whole.proofs.Ranges.{u-le, u-with-sign}
+use Rattle.whole.proofs.Ranges.{u_le, u_with_sign}
 use Rattle.whole.proofs.Machine as Machine
 use Rattle.whole.proofs.Machine.{Num, result, ◌:-◌, fits, stored, back, read_back}
-use Rattle.whole.proofs.Filling.{Filled, none_filled, filled-length, place-there, next-filled, first-filled}
-use Rattle.bymember.specs.Charged.{lessShare}
+use Rattle.whole.proofs.Filling.{Filled, none_filled, filled_length, place_there, next_filled, first_filled}
+use Rattle.bymember.specs.Charged.{less_share}
 use Rattle.bymember.proofs.neutrality.take_off.Statement.{statement}
 use Rattle.bymember.proofs.neutrality.take_off.Tie as tie
 
 -- `all` is a number's bits here
 abbrev invariant-loop : tie.invariant-loop
-invariant-loop charges all sizes finals₀ m₀ finals m = Filled (lessShare charges (to_z w64 all) sizes) (length sizes) m finals₀ finals
+invariant-loop charges all sizes finals₀ m₀ finals m = Filled (less_share charges (to_z w64 all) sizes) (length sizes) m finals₀ finals
 
 abbrev decreases-loop : tie.decreases-loop
 decreases-loop charges all sizes finals₀ m₀ finals m = length sizes - m
@@ -65,8 +65,8 @@ module _ (c : tie.After-with-sign-of invariant-loop decreases-loop) where
 
   abbrev less : Num
   less = Machine.at ((start turn).pre.0.small (at turn).loop.m (there turn))
-      :- result c.with-sign-of.ensures
-      (u-le {n = 400000000000} (u-with-sign (back (start turn).args.all) (size turn)) ((start turn).pre.2 (at turn).loop.m (there turn)))
+      :- result c.with_sign_of.ensures
+      (u_le {n = 400000000000} (u_with_sign (back (start turn).args.all) (size turn)) ((start turn).pre.2 (at turn).loop.m (there turn)))
 
 -- charges[m] - whole::with_sign_of(all, sizes[m])
 sub-finals : tie.Need-overflow-sub-finals invariant-loop decreases-loop
@@ -74,11 +74,11 @@ sub-finals c = fits (less c) tt
 
 -- the offset of finals[m]
 mul-t15 : tie.Need-overflow-mul-t15 invariant-loop decreases-loop
-mul-t15 c = let t = turn c in omega (arith, place-there (at t).loop.inv (there t))
+mul-t15 c = let t = turn c in omega (arith, place_there (at t).loop.inv (there t))
 
 -- finals[m] = charges[m] - whole::with_sign_of(all, sizes[m])
 slice-set-from-finals : tie.Need-slice-set-from-finals invariant-loop decreases-loop
-slice-set-from-finals c = let t = turn c in place-there (at t).loop.inv (there t)
+slice-set-from-finals c = let t = turn c in place_there (at t).loop.inv (there t)
 
 -- m += 1
 add-m : tie.Need-overflow-add-m invariant-loop decreases-loop
@@ -88,19 +88,19 @@ loop-less : tie.Need-loop-smaller invariant-loop decreases-loop
 loop-less c = omega arith
 
 loop-again : tie.Need-loop-preserved invariant-loop decreases-loop
-loop-again c = let t = turn c in next-filled (at t).loop.inv (there t) (stored (less c) tt)
+loop-again c = let t = turn c in next_filled (at t).loop.inv (there t) (stored (less c) tt)
 
 -- finals: &mut [i64]
 same_length : tie.Need-same-length invariant-loop decreases-loop
-same_length c = filled-length c.before.loop.invariant
+same_length c = filled_length c.before.loop.invariant
 
 returns : tie.Need-returns invariant-loop decreases-loop
 returns c =
     let s = c.before.before.before in
     let charges = s.args.charges.now in
     let sizes = s.args.sizes.now in
-    first-filled c.before.loop.invariant (omega arith)
-    ∙ ap (λ (z : ℤ). replacingFirst (lessShare charges z sizes) (length sizes) s.args.finals.now) (read_back s.ranges.all)
+    first_filled c.before.loop.invariant (omega arith)
+    ∙ ap (λ (z : ℤ). replacingFirst (less_share charges z sizes) (length sizes) s.args.finals.now) (read_back s.ranges.all)
 
 pub take-off-spec : {M : Type 1} → statement M
 take-off-spec =

@@ -783,7 +783,7 @@ module _ (claims· : Claims) where
         pub charge-of : After-charge-of·own before
 
       abbrev pub After-charge-of·gave : (c : After-charge-of) → s9.gives (m10 c.before.before c.before.charge-of-arg.given)
-      After-charge-of·gave = λ c. Called.given ps·0 r·0 claims·.1 T12 (record { pos = 9; st = List.[]; d = 0; at = λ x. x }, tt) (m10 c.before.before c.before.charge-of-arg.given) c.charge-of
+      After-charge-of·gave = λ c. Called.given ps·0 r·0 claims·.1 T12 (record { pos = 9; st = List.[]; d = 0; at = λ x. x }, tt) (m10 c.before.before c.before.charge-of-arg.given) c.charge_of
 
       abbrev pub m12 : (before : After-charge-of-arg) → (given : s9.gives (m10 before.before before.charge-of-arg.given)) → Typed.Mo T14
       m12 = λ before given. s10 (m11 before given)
@@ -844,7 +844,7 @@ module _ (claims· : Claims) where
         lay5 = λ c. ((Path'.refl, (tt, (MutSlice.fix_len (Row.get 3 T24.locals (m22 c.before)).ptr (Row.get 3 T24.locals (m22 c.before)).name (Row.get 3 T24.locals (m22 c.before)).now (dens c.before.before.κs c.before.before.args).1.1.0.now (same_length record { before = c.before; loop-test = c.loop-test }), tt))), returns record { before = c.before; loop-test = c.loop-test })
 
         lay4 : (c : After-charge-of) → at12 (W3 c.before.before.before.before c.before.before.before.loop.charges c.before.before.before.loop.m) (m11 c.before (After-charge-of·gave c))
-        lay4 = λ c. (mul-t10 record { before = c.before; charge-of = c.charge-of }, (tt, ((Path'.refl, Path'.refl, slice-set-from-charges record { before = c.before; charge-of = c.charge-of }), (add-m record { before = c.before; charge-of = c.charge-of }, (μ·0 (Row.get 1 T2.locals (m1 c.before.before.before.before.κs c.before.before.before.before.args)).now (Row.get 2 T2.locals (m1 c.before.before.before.before.κs c.before.before.before.before.args)) (Row.get 3 T2.locals (m1 c.before.before.before.before.κs c.before.before.before.before.args)).now (Row.get 4 T2.locals (m1 c.before.before.before.before.κs c.before.before.before.before.args)) (Row.get 3 T2.locals (m19 c.before (After-charge-of·gave c))).now (Row.get 4 T2.locals (m19 c.before (After-charge-of·gave c))), loop-less record { before = c.before; charge-of = c.charge-of }, (((Row.get 3 T2.locals (m19 c.before (After-charge-of·gave c))).now, Row.get 4 T2.locals (m19 c.before (After-charge-of·gave c))), Path'.refl {a = m19 c.before (After-charge-of·gave c)}, loop-again record { before = c.before; charge-of = c.charge-of }, Path'.refl {a = μ·0 (Row.get 1 T2.locals (m1 c.before.before.before.before.κs c.before.before.before.before.args)).now (Row.get 2 T2.locals (m1 c.before.before.before.before.κs c.before.before.before.before.args)) (Row.get 3 T2.locals (m1 c.before.before.before.before.κs c.before.before.before.before.args)).now (Row.get 4 T2.locals (m1 c.before.before.before.before.κs c.before.before.before.before.args)) (Row.get 3 T2.locals (m19 c.before (After-charge-of·gave c))).now (Row.get 4 T2.locals (m19 c.before (After-charge-of·gave c)))}))))))
+        lay4 = λ c. (mul-t10 record { before = c.before; charge-of = c.charge_of }, (tt, ((Path'.refl, Path'.refl, slice-set-from-charges record { before = c.before; charge-of = c.charge_of }), (add-m record { before = c.before; charge-of = c.charge_of }, (μ·0 (Row.get 1 T2.locals (m1 c.before.before.before.before.κs c.before.before.before.before.args)).now (Row.get 2 T2.locals (m1 c.before.before.before.before.κs c.before.before.before.before.args)) (Row.get 3 T2.locals (m1 c.before.before.before.before.κs c.before.before.before.before.args)).now (Row.get 4 T2.locals (m1 c.before.before.before.before.κs c.before.before.before.before.args)) (Row.get 3 T2.locals (m19 c.before (After-charge-of·gave c))).now (Row.get 4 T2.locals (m19 c.before (After-charge-of·gave c))), loop-less record { before = c.before; charge-of = c.charge_of }, (((Row.get 3 T2.locals (m19 c.before (After-charge-of·gave c))).now, Row.get 4 T2.locals (m19 c.before (After-charge-of·gave c))), Path'.refl {a = m19 c.before (After-charge-of·gave c)}, loop-again record { before = c.before; charge-of = c.charge_of }, Path'.refl {a = μ·0 (Row.get 1 T2.locals (m1 c.before.before.before.before.κs c.before.before.before.before.args)).now (Row.get 2 T2.locals (m1 c.before.before.before.before.κs c.before.before.before.before.args)) (Row.get 3 T2.locals (m1 c.before.before.before.before.κs c.before.before.before.before.args)).now (Row.get 4 T2.locals (m1 c.before.before.before.before.κs c.before.before.before.before.args)) (Row.get 3 T2.locals (m19 c.before (After-charge-of·gave c))).now (Row.get 4 T2.locals (m19 c.before (After-charge-of·gave c)))}))))))
 
         lay3 : (c : In-loop) → at18 (W3 c.before.before c.before.loop.charges c.before.loop.m) (m4 c.before)
         lay3 = λ c. (mul-charge-of record { before = c.before; loop-test = c.loop-test }, (tt, ((Path'.refl, Path'.refl, shared-slice-copy-out-charge-of record { before = c.before; loop-test = c.loop-test }), λ g. (charge-of-requires record { before = record { before = c.before; loop-test = c.loop-test }; charge-of-arg = record { given = g } }, λ g'. lay4 record { before = record { before = record { before = c.before; loop-test = c.loop-test }; charge-of-arg = record { given = g } }; charge-of = Called.called ps·0 r·0 claims·.1 T12 (record { pos = 9; st = List.[]; d = 0; at = λ x. x }, tt) (m10 record { before = c.before; loop-test = c.loop-test } g) g' }))))

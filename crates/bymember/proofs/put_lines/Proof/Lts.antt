@@ -1725,7 +1725,7 @@ module _ (claims· : Claims) where
         pub post-line : After-post-line·own before
 
       abbrev pub After-post-line·gave : (c : After-post-line) → (s45 c.before.before.before.before.before.before.before.before.before.before.before.before.before.before.blocks).gives (m42 c.before.before c.before.post-line-arg.given)
-      After-post-line·gave = λ c. Called.given ps·4 r·4 claims·.9 T48 (record { pos = 29; ty = Syntax.ty_ref Syntax.erased Syntax.mut LineKit.behind; ref = λ x. x }, (Num.v_at 9 λ x. x, (Num.v_at 11 λ x. x, tt))) (m42 c.before.before c.before.post-line-arg.given) c.post-line
+      After-post-line·gave = λ c. Called.given ps·4 r·4 claims·.9 T48 (record { pos = 29; ty = Syntax.ty_ref Syntax.erased Syntax.mut LineKit.behind; ref = λ x. x }, (Num.v_at 9 λ x. x, (Num.v_at 11 λ x. x, tt))) (m42 c.before.before c.before.post-line-arg.given) c.post_line
 
       abbrev pub m44 : (before : After-post-line-arg) → (given : (s45 before.before.before.before.before.before.before.before.before.before.before.before.before.before.blocks).gives (m42 before.before before.post-line-arg.given)) → Typed.Mo T50
       m44 = λ before given. s46 before.before.before.before.before.before.before.before.before.before.before.before.before.before.blocks (m43 before given)
@@ -1782,7 +1782,7 @@ module _ (claims· : Claims) where
         lay9 = λ c. ((Path'.refl, (tt, (Path'.refl, (Path'.refl, (MutSlice.fix_len (Row.get 5 T60.locals (m52 c.before)).ptr (Row.get 5 T60.locals (m52 c.before)).name (Row.get 5 T60.locals (m52 c.before)).now (dens c.before.before.before.before.before.before.κs c.before.before.before.before.before.before.args).1.1.1.1.0.now (same_length record { before = c.before; loop-test = c.loop-test }), tt))))), returns record { before = c.before; loop-test = c.loop-test })
 
         lay8 : (c : After-post-line) → at10 c.before.before.before.before.before.before.before.before.before.before.before.before.before.before.blocks (W3 c.before.before.before.before.before.before.before.before.before.before c.before.before.before.before.before.before.before.before.before.loop.lines c.before.before.before.before.before.before.before.before.before.loop.i) (m43 c.before (After-post-line·gave c))
-        lay8 = λ c. (Path'.refl, λ g. (add-i record { before = record { before = c.before; post-line = c.post-line }; lines2 = record { given = g } }, (μ·0 (Row.get 1 T16.locals (m12 c.before.before.before.before.before.before.before.before.before.before.before c.before.before.before.before.before.before.before.before.before.before.lines.given)).now (Row.get 3 T16.locals (m12 c.before.before.before.before.before.before.before.before.before.before.before c.before.before.before.before.before.before.before.before.before.before.lines.given)).now (Row.get 4 T16.locals (m12 c.before.before.before.before.before.before.before.before.before.before.before c.before.before.before.before.before.before.before.before.before.before.lines.given)).now (Row.get 5 T16.locals (m12 c.before.before.before.before.before.before.before.before.before.before.before c.before.before.before.before.before.before.before.before.before.before.lines.given)).now (Row.get 6 T16.locals (m12 c.before.before.before.before.before.before.before.before.before.before.before c.before.before.before.before.before.before.before.before.before.before.lines.given)) (Row.get 7 T16.locals (m12 c.before.before.before.before.before.before.before.before.before.before.before c.before.before.before.before.before.before.before.before.before.before.lines.given)) (Row.get 8 T16.locals (m12 c.before.before.before.before.before.before.before.before.before.before.before c.before.before.before.before.before.before.before.before.before.before.lines.given)) (Row.get 5 T16.locals (m49 record { before = c.before; post-line = c.post-line } g)).now (Row.get 8 T16.locals (m49 record { before = c.before; post-line = c.post-line } g)), loop-less record { before = record { before = c.before; post-line = c.post-line }; lines2 = record { given = g } }, (((Row.get 5 T16.locals (m49 record { before = c.before; post-line = c.post-line } g)).now, Row.get 8 T16.locals (m49 record { before = c.before; post-line = c.post-line } g)), Path'.refl {a = m49 record { before = c.before; post-line = c.post-line } g}, loop-again record { before = record { before = c.before; post-line = c.post-line }; lines2 = record { given = g } }, Path'.refl {a = μ·0 (Row.get 1 T16.locals (m12 c.before.before.before.before.before.before.before.before.before.before.before c.before.before.before.before.before.before.before.before.before.before.lines.given)).now (Row.get 3 T16.locals (m12 c.before.before.before.before.before.before.before.before.before.before.before c.before.before.before.before.before.before.before.before.before.before.lines.given)).now (Row.get 4 T16.locals (m12 c.before.before.before.before.before.before.before.before.before.before.before c.before.before.before.before.before.before.before.before.before.before.lines.given)).now (Row.get 5 T16.locals (m12 c.before.before.before.before.before.before.before.before.before.before.before c.before.before.before.before.before.before.before.before.before.before.lines.given)).now (Row.get 6 T16.locals (m12 c.before.before.before.before.before.before.before.before.before.before.before c.before.before.before.before.before.before.before.before.before.before.lines.given)) (Row.get 7 T16.locals (m12 c.before.before.before.before.before.before.before.before.before.before.before c.before.before.before.before.before.before.before.before.before.before.lines.given)) (Row.get 8 T16.locals (m12 c.before.before.before.before.before.before.before.before.before.before.before c.before.before.before.before.before.before.before.before.before.before.lines.given)) (Row.get 5 T16.locals (m49 record { before = c.before; post-line = c.post-line } g)).now (Row.get 8 T16.locals (m49 record { before = c.before; post-line = c.post-line } g))}))))
+        lay8 = λ c. (Path'.refl, λ g. (add-i record { before = record { before = c.before; post-line = c.post_line }; lines2 = record { given = g } }, (μ·0 (Row.get 1 T16.locals (m12 c.before.before.before.before.before.before.before.before.before.before.before c.before.before.before.before.before.before.before.before.before.before.lines.given)).now (Row.get 3 T16.locals (m12 c.before.before.before.before.before.before.before.before.before.before.before c.before.before.before.before.before.before.before.before.before.before.lines.given)).now (Row.get 4 T16.locals (m12 c.before.before.before.before.before.before.before.before.before.before.before c.before.before.before.before.before.before.before.before.before.before.lines.given)).now (Row.get 5 T16.locals (m12 c.before.before.before.before.before.before.before.before.before.before.before c.before.before.before.before.before.before.before.before.before.before.lines.given)).now (Row.get 6 T16.locals (m12 c.before.before.before.before.before.before.before.before.before.before.before c.before.before.before.before.before.before.before.before.before.before.lines.given)) (Row.get 7 T16.locals (m12 c.before.before.before.before.before.before.before.before.before.before.before c.before.before.before.before.before.before.before.before.before.before.lines.given)) (Row.get 8 T16.locals (m12 c.before.before.before.before.before.before.before.before.before.before.before c.before.before.before.before.before.before.before.before.before.before.lines.given)) (Row.get 5 T16.locals (m49 record { before = c.before; post-line = c.post_line } g)).now (Row.get 8 T16.locals (m49 record { before = c.before; post-line = c.post_line } g)), loop-less record { before = record { before = c.before; post-line = c.post_line }; lines2 = record { given = g } }, (((Row.get 5 T16.locals (m49 record { before = c.before; post-line = c.post_line } g)).now, Row.get 8 T16.locals (m49 record { before = c.before; post-line = c.post_line } g)), Path'.refl {a = m49 record { before = c.before; post-line = c.post_line } g}, loop-again record { before = record { before = c.before; post-line = c.post_line }; lines2 = record { given = g } }, Path'.refl {a = μ·0 (Row.get 1 T16.locals (m12 c.before.before.before.before.before.before.before.before.before.before.before c.before.before.before.before.before.before.before.before.before.before.lines.given)).now (Row.get 3 T16.locals (m12 c.before.before.before.before.before.before.before.before.before.before.before c.before.before.before.before.before.before.before.before.before.before.lines.given)).now (Row.get 4 T16.locals (m12 c.before.before.before.before.before.before.before.before.before.before.before c.before.before.before.before.before.before.before.before.before.before.lines.given)).now (Row.get 5 T16.locals (m12 c.before.before.before.before.before.before.before.before.before.before.before c.before.before.before.before.before.before.before.before.before.before.lines.given)).now (Row.get 6 T16.locals (m12 c.before.before.before.before.before.before.before.before.before.before.before c.before.before.before.before.before.before.before.before.before.before.lines.given)) (Row.get 7 T16.locals (m12 c.before.before.before.before.before.before.before.before.before.before.before c.before.before.before.before.before.before.before.before.before.before.lines.given)) (Row.get 8 T16.locals (m12 c.before.before.before.before.before.before.before.before.before.before.before c.before.before.before.before.before.before.before.before.before.before.lines.given)) (Row.get 5 T16.locals (m49 record { before = c.before; post-line = c.post_line } g)).now (Row.get 8 T16.locals (m49 record { before = c.before; post-line = c.post_line } g))}))))
 
         lay7 : (c : After-grains) → at17 c.before.before.before.before.before.before.before.before.before.before.before.before.blocks (W3 c.before.before.before.before.before.before.before.before c.before.before.before.before.before.before.before.loop.lines c.before.before.before.before.before.before.before.loop.i) (m37 c.before (After-grains·gave c))
         lay7 = λ c. λ g. (Path'.refl, (post-line-requires record { before = record { before = c.before; grains = c.grains }; post-line-arg = record { given = g } }, λ g'. lay8 record { before = record { before = record { before = c.before; grains = c.grains }; post-line-arg = record { given = g } }; post-line = Called.called ps·4 r·4 claims·.9 T48 (record { pos = 29; ty = Syntax.ty_ref Syntax.erased Syntax.mut LineKit.behind; ref = λ x. x }, (Num.v_at 9 λ x. x, (Num.v_at 11 λ x. x, tt))) (m42 record { before = c.before; grains = c.grains } g) g' }))

@@ -3,14 +3,14 @@ use mathlib.Core.Path.{◌∙◌, ap}
 use borrow.Author.Rules.{sfits_of}
 use Rattle.whole.proofs.Machine.{read_back}
 use Rattle.rules.specs.Deviation.{deviation}
-use Rattle.rules.proofs.Bounds.{entry-room}
-use Rattle.hour.proofs.Inside.{record-inside}
-use Rattle.hour.proofs.Rows.{PartOf, part_length, part-entry, part-entry-kept}
+use Rattle.rules.proofs.Bounds.{entry_room}
+use Rattle.hour.proofs.Inside.{record_inside}
+use Rattle.hour.proofs.Rows.{PartOf, part_length, part_entry, part_entry_kept}
 use Rattle.byrecord.proofs.deviations.deviation_of.Statement.{statement}
 use Rattle.byrecord.proofs.deviations.deviation_of.Tie as tie
 
 record-requires : tie.Need-record-requires
-record-requires c κs = record-inside c.before.requires.0 c.before.requires.1
+record-requires c κs = record_inside c.before.requires.0 c.before.requires.1
 
 module _ (c : tie.After-record) where
   abbrev start : tie.Start
@@ -23,13 +23,13 @@ entry-in-requires : tie.Need-entry-in-requires
 entry-in-requires c κs = part_length (own c)
 
 deviation-requires : tie.Need-deviation-requires
-deviation-requires c κs = rw c.entry_in.ensures (entry-room (part-entry-kept (own c.before)))
+deviation-requires c κs = rw c.entry_in.ensures (entry_room (part_entry_kept (own c.before)))
 
 returns : tie.Need-returns
 returns c =
     read_back (sfits_of c.deviation.type-inv)
     ∙ c.deviation.ensures
-    ∙ ap deviation (c.before.entry_in.ensures ∙ part-entry (own c.before.before))
+    ∙ ap deviation (c.before.entry_in.ensures ∙ part_entry (own c.before.before))
 
 pub deviation-of-spec : {M : Type 1} → statement M
 deviation-of-spec =

@@ -4,16 +4,16 @@ use Prim.Native.Nat.{◌-◌}
 use native.Mathlib.Omega.{arith}
 use borrow.Author.Rules.{sfits_of}
 use Rattle.whole.proofs.Machine.{read_back}
-use Rattle.whole.proofs.Filling.{Filled, none_filled, filled-length, place-there, next-filled, first-filled}
+use Rattle.whole.proofs.Filling.{Filled, none_filled, filled_length, place_there, next_filled, first_filled}
 use Rattle.rules.specs.Record.{entry_of}
 use Rattle.rules.specs.Deviation.{deviation}
-use Rattle.rules.specs.HourFile.{hourIn}
-use Rattle.hour.proofs.Figures.{head-records}
+use Rattle.rules.specs.HourFile.{hour_in}
+use Rattle.hour.proofs.Figures.{head_records}
 use Rattle.byrecord.proofs.deviations.put_deviations.Statement.{statement}
 use Rattle.byrecord.proofs.deviations.put_deviations.Tie as tie
 
 abbrev invariant-loop : tie.invariant-loop
-invariant-loop file out₀ n i₀ out i = Filled (λ k. deviation (entry_of (hourIn file) k)) (hourIn file).count i out₀ out
+invariant-loop file out₀ n i₀ out i = Filled (λ k. deviation (entry_of (hour_in file) k)) (hour_in file).count i out₀ out
 
 abbrev decreases-loop : tie.decreases-loop
 decreases-loop file out₀ n i₀ out i = n - i
@@ -22,8 +22,8 @@ abbrev start : tie.At-loop invariant-loop decreases-loop → tie.Start invariant
 start c = c.before.before
 
 -- the loop runs over the hour's records
-counted : (c : tie.At-loop invariant-loop decreases-loop) → (start c).args.head.records ≡ (hourIn (start c).args.file.now).count
-counted c = head-records (start c).requires.0
+counted : (c : tie.At-loop invariant-loop decreases-loop) → (start c).args.head.records ≡ (hour_in (start c).args.file.now).count
+counted c = head_records (start c).requires.0
 
 -- the head of a turn, as it is seen once the turn has its deviation
 abbrev turn : tie.After-deviation-of invariant-loop decreases-loop → tie.At-loop invariant-loop decreases-loop
@@ -37,11 +37,11 @@ deviation-of-requires c κs = ((start c.before).pre.0.kept, omega (arith, counte
 
 -- the offset of out[i]
 mul-t8 : tie.Need-overflow-mul-t8 invariant-loop decreases-loop
-mul-t8 c = omega (arith, filled-length (turn c).loop.invariant, counted (turn c))
+mul-t8 c = omega (arith, filled_length (turn c).loop.invariant, counted (turn c))
 
 -- out[i] = deviation_of(file, i)
 slice-set-from-out : tie.Need-slice-set-from-out invariant-loop decreases-loop
-slice-set-from-out c = place-there (turn c).loop.invariant (omega (arith, counted (turn c)))
+slice-set-from-out c = place_there (turn c).loop.invariant (omega (arith, counted (turn c)))
 
 -- i += 1
 add-i : tie.Need-overflow-add-i invariant-loop decreases-loop
@@ -51,15 +51,15 @@ loop-less : tie.Need-loop-smaller invariant-loop decreases-loop
 loop-less c = omega arith
 
 loop-again : tie.Need-loop-preserved invariant-loop decreases-loop
-loop-again c = next-filled (turn c).loop.invariant (omega (arith, counted (turn c)))
-    (read_back (sfits_of c.deviation-of.type-inv) ∙ c.deviation-of.ensures)
+loop-again c = next_filled (turn c).loop.invariant (omega (arith, counted (turn c)))
+    (read_back (sfits_of c.deviation_of.type-inv) ∙ c.deviation_of.ensures)
 
 -- out: &mut [i64]
 same_length : tie.Need-same-length invariant-loop decreases-loop
-same_length c = filled-length c.before.loop.invariant
+same_length c = filled_length c.before.loop.invariant
 
 returns : tie.Need-returns invariant-loop decreases-loop
-returns c = first-filled c.before.loop.invariant (omega (arith, counted c.before))
+returns c = first_filled c.before.loop.invariant (omega (arith, counted c.before))
 
 pub put-deviations-spec : {M : Type 1} → statement M
 put-deviations-spec =

@@ -1,15 +1,15 @@
 -- `byrecord::shares::load_there` meets its contract: the kind is asked where the area is the one asked for.
 use mathlib.Core.Path.{◌∙◌, ap}
-use Rattle.rules.specs.Record.{isLoad}
+use Rattle.rules.specs.Record.{is_load}
 use Rattle.rules.specs.Ufe.{in_area}
-use Rattle.hour.proofs.Inside.{record-inside}
-use Rattle.hour.proofs.Rows.{PartOf, part_length, part-kind}
-use Rattle.byrecord.proofs.Loads.{in-area, elsewhere}
+use Rattle.hour.proofs.Inside.{record_inside}
+use Rattle.hour.proofs.Rows.{PartOf, part_length, part_kind}
+use Rattle.byrecord.proofs.Loads.{in_area_lem, elsewhere}
 use Rattle.byrecord.proofs.shares.load_there.Statement.{statement}
 use Rattle.byrecord.proofs.shares.load_there.Tie as tie
 
 record-requires : tie.Need-record-requires
-record-requires c κs = record-inside c.before.requires.0 c.before.requires.1
+record-requires c κs = record_inside c.before.requires.0 c.before.requires.1
 
 module _ (c : tie.After-record) where
   abbrev start : tie.Start
@@ -33,8 +33,8 @@ unfolding in_area
 returns c =
     let tested = c.before.before.before in
     let part = own tested.before in
-    rw (in-area part tested.area_in.ensures c.before.before.if1.true) (
-    c.is-load.ensures ∙ ap isLoad (c.before.kind-in.ensures ∙ part-kind part))
+    rw (in_area_lem part tested.area_in.ensures c.before.before.if1.true) (
+    c.is_load.ensures ∙ ap is_load (c.before.kind_in.ensures ∙ part_kind part))
 
 -- false
 returns-2 : tie.Need-returns-2

@@ -8,15 +8,15 @@ use mir.Syntax.{w64}
 use mir.Val.{to_z}
 use Rattle.whole.specs.Below.{replacingFirst}
 use Rattle.whole.proofs.Machine.{read_back}
-use Rattle.whole.proofs.Filling.{filled-length, place-there, first-filled}
-use Rattle.rules.specs.HourFile.{hourIn}
-use Rattle.byrecord.specs.Shared.{withSizes}
-use Rattle.byrecord.proofs.Loads.{SharesPut, no-share-put, loads-few, next-share}
+use Rattle.whole.proofs.Filling.{filled_length, place_there, first_filled}
+use Rattle.rules.specs.HourFile.{hour_in}
+use Rattle.byrecord.specs.Shared.{with_sizes}
+use Rattle.byrecord.proofs.Loads.{SharesPut, no_share_put, loads_few, next_share}
 use Rattle.byrecord.proofs.shares.put_area.Statement.{statement}
 use Rattle.byrecord.proofs.shares.put_area.Tie as tie
 
 abbrev invariant-loop : tie.invariant-loop
-invariant-loop file a figure sizes out₀ loads₀ i₀ out loads i = SharesPut (hourIn file) a (to_z w64 figure) sizes i loads out₀ out
+invariant-loop file a figure sizes out₀ loads₀ i₀ out loads i = SharesPut (hour_in file) a (to_z w64 figure) sizes i loads out₀ out
 
 abbrev decreases-loop : tie.decreases-loop
 decreases-loop file a figure sizes out₀ loads₀ i₀ out loads i = length sizes - i
@@ -32,21 +32,21 @@ abbrev asked : tie.After-out invariant-loop decreases-loop → tie.After-put-sha
 asked c = c.before.before
 
 loop-holds : tie.Need-loop-init invariant-loop decreases-loop
-loop-holds c = let pre = c.before.before.requires in no-share-put (omega (arith, pre.room, pre.as_many))
+loop-holds c = let pre = c.before.before.requires in no_share_put (omega (arith, pre.room, pre.as_many))
 
 -- a turn's record is there
-record-there : (c : tie.After-put-share-arg invariant-loop decreases-loop) → (turn c).loop.i < (hourIn (start (turn c)).args.file.now).count
-record-there c = omega (arith, (start (turn c)).pre.as_many)
+record_there : (c : tie.After-put-share-arg invariant-loop decreases-loop) → (turn c).loop.i < (hour_in (start (turn c)).args.file.now).count
+record_there c = omega (arith, (start (turn c)).pre.as_many)
 
 put-share-requires : tie.Need-put-share-requires invariant-loop decreases-loop
 put-share-requires c κs =
     let pre = (start (turn c)).pre in
     let inv = (turn c).loop.invariant in
-    let there = record-there c in (
+    let there = record_there c in (
       pre.kept,
       there,
-      place-there inv.filled there,
-      omega (arith, loads-few inv),
+      place_there inv.filled there,
+      omega (arith, loads_few inv),
       λ t. rw inv.counted (pre.small (turn c).loop.i there t),
     )
 
@@ -59,20 +59,20 @@ loop-less c = omega arith
 
 loop-again : tie.Need-loop-preserved invariant-loop decreases-loop
 loop-again c =
-    let put = c.before.put-share.ensures in
-    next-share (turn (asked c)).loop.inv (record-there (asked c)) put.0 put.1
+    let put = c.before.put_share.ensures in
+    next_share (turn (asked c)).loop.inv (record_there (asked c)) put.0 put.1
 
 -- out: &mut [i64]
 same_length : tie.Need-same-length invariant-loop decreases-loop
-same_length c = filled-length c.before.loop.invariant.filled
+same_length c = filled_length c.before.loop.invariant.filled
 
 returns : tie.Need-returns invariant-loop decreases-loop
 returns c =
     let begun = start c.before in
-    let h = hourIn begun.args.file.now in
+    let h = hour_in begun.args.file.now in
     let out = begun.args.out.now in
-    let signed : ℤ → ℕ → ℤ = λ u. withSizes h begun.args.a u begun.args.sizes.now out in
-    first-filled c.before.loop.invariant.filled (omega (arith, begun.pre.as_many))
+    let signed : ℤ → ℕ → ℤ = λ u. with_sizes h begun.args.a u begun.args.sizes.now out in
+    first_filled c.before.loop.invariant.filled (omega (arith, begun.pre.as_many))
     ∙ ap (λ u. replacingFirst (signed u) h.count out) (read_back begun.fits.figure)
 
 pub put-area-spec : {M : Type 1} → statement M

@@ -2,19 +2,19 @@
 use Prim.Native.Nat.{◌-◌, ◌<◌}
 use native.Mathlib.Omega.{arith}
 use lib.ListN.{length}
-use Rattle.rules.specs.HourFile.{hourIn}
-use Rattle.byrecord.proofs.Loads.{DemandsPut, no-demand-put, room-kept, place-next, next-demand, all-demands-put}
+use Rattle.rules.specs.HourFile.{hour_in}
+use Rattle.byrecord.proofs.Loads.{DemandsPut, no_demand_put, room_kept, place_next, next_demand, all_demands_put}
 use Rattle.byrecord.proofs.shares.put_demands.Statement.{statement}
 use Rattle.byrecord.proofs.shares.put_demands.Tie as tie
 
 abbrev invariant-loop : tie.invariant-loop
-invariant-loop file a demands₀ loads₀ i₀ demands loads i = DemandsPut (hourIn file) a i loads demands₀ demands
+invariant-loop file a demands₀ loads₀ i₀ demands loads i = DemandsPut (hour_in file) a i loads demands₀ demands
 
 abbrev decreases-loop : tie.decreases-loop
 decreases-loop file a demands₀ loads₀ i₀ demands loads i = length demands₀ - i
 
 loop-holds : tie.Need-loop-init invariant-loop decreases-loop
-loop-holds c = no-demand-put
+loop-holds c = no_demand_put
 
 -- the start, as it is seen at the head of a turn; the head of a turn, as it is seen where its demand is to be put, and at its end
 abbrev start : tie.At-loop invariant-loop decreases-loop → tie.Start invariant-loop decreases-loop
@@ -29,13 +29,13 @@ asked c = c.before.before.before
 -- a turn's record is there, and has a place
 module _ (c : tie.After-put-demand-arg invariant-loop decreases-loop) where
   below : (turn c).loop.i < length (start (turn c)).args.demands.now
-  below = omega (arith, room-kept (turn c).loop.invariant)
+  below = omega (arith, room_kept (turn c).loop.invariant)
 
-  record-there : (turn c).loop.i < (hourIn (start (turn c)).args.file.now).count
-  record-there = omega (arith, below, (start (turn c)).pre.1)
+  record_there : (turn c).loop.i < (hour_in (start (turn c)).args.file.now).count
+  record_there = omega (arith, below, (start (turn c)).pre.1)
 
 put-demand-requires : tie.Need-put-demand-requires invariant-loop decreases-loop
-put-demand-requires c κs = ((start (turn c)).pre.0, record-there c, place-next (turn c).loop.invariant (below c))
+put-demand-requires c κs = ((start (turn c)).pre.0, record_there c, place_next (turn c).loop.invariant (below c))
 
 -- i += 1
 add-i : tie.Need-overflow-add-i invariant-loop decreases-loop
@@ -46,17 +46,17 @@ loop-less c = omega (arith, below (asked c))
 
 loop-again : tie.Need-loop-preserved invariant-loop decreases-loop
 loop-again c =
-    let put = c.before.before.put-demand.ensures in
-    next-demand (turn (asked c)).loop.inv (record-there (asked c)) put.0 put.1
+    let put = c.before.before.put_demand.ensures in
+    next_demand (turn (asked c)).loop.inv (record_there (asked c)) put.0 put.1
 
 -- demands: &mut [u64]
 same_length : tie.Need-same-length invariant-loop decreases-loop
-same_length c = room-kept c.before.loop.invariant
+same_length c = room_kept c.before.loop.invariant
 
 returns : tie.Need-returns invariant-loop decreases-loop
 returns c =
     let inv = c.before.loop.invariant in
-    all-demands-put inv (omega (arith, room-kept inv, (start c.before).pre.1))
+    all_demands_put inv (omega (arith, room_kept inv, (start c.before).pre.1))
 
 pub put-demands-spec : {M : Type 1} → statement M
 put-demands-spec =

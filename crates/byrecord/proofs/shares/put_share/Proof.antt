@@ -5,11 +5,11 @@ use native.Mathlib.Nat.{add-zero}
 use native.Mathlib.Omega.{arith}
 use lib.ListN.{set, get_or, length-set}
 use borrow.Author.Rules.{sfits_of}
-use Rattle.whole.specs.Signed.{withSignOf}
+use Rattle.whole.specs.Signed.{with_sign_of}
 use Rattle.whole.proofs.Machine.{read_back}
-use Rattle.rules.specs.Record.{isLoad}
+use Rattle.rules.specs.Record.{is_load}
 use Rattle.rules.specs.Ufe.{in_area}
-use Rattle.rules.specs.HourFile.{hourIn}
+use Rattle.rules.specs.HourFile.{hour_in}
 use Rattle.byrecord.proofs.shares.put_share.Statement.{statement}
 use Rattle.byrecord.proofs.shares.put_share.Tie as tie
 
@@ -22,10 +22,10 @@ module _ (c : tie.After-load-there) where
   start = c.before.before.before
 
   abbrev load : Bool
-  load = in_area (hourIn start.args.file.now) start.args.a isLoad start.args.i
+  load = in_area (hour_in start.args.file.now) start.args.a is_load start.args.i
 
-  loads-there : c.load-there.result ≡ true → load ≡ true
-  loads-there t = sym c.load-there.ensures ∙ t
+  loads-there : c.load_there.result ≡ true → load ≡ true
+  loads-there t = sym c.load_there.ensures ∙ t
 
 -- the offset of sizes[loads]
 mul-with-sign-of : tie.Need-overflow-mul-with-sign-of
@@ -63,15 +63,15 @@ returns c =
     let t = loads-there tested c.before.before.if1.true in (
       rw t refl,
       rw t (ap (set begun.args.out.now begun.args.i)
-          (read_back (sfits_of c.with-sign-of.type-inv)
-          ∙ c.with-sign-of.ensures
-          ∙ ap (λ u. withSignOf u (get_or begun.args.sizes.now begun.args.loads 0)) (read_back begun.fits.figure))),
+          (read_back (sfits_of c.with_sign_of.type-inv)
+          ∙ c.with_sign_of.ensures
+          ∙ ap (λ u. with_sign_of u (get_or begun.args.sizes.now begun.args.loads 0)) (read_back begun.fits.figure))),
     )
 
 -- loads
 returns-2 : tie.Need-returns-2
 returns-2 c =
-    let f : load c.before ≡ false = sym c.before.load-there.ensures ∙ c.if1.false in
+    let f : load c.before ≡ false = sym c.before.load_there.ensures ∙ c.if1.false in
     (rw f (sym (add-zero _)), rw f refl)
 
 pub put-share-spec : {M : Type 1} → statement M

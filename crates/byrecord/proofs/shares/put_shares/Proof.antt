@@ -1,13 +1,13 @@
 -- `byrecord::shares::put_shares` meets its contract: the records' places are cleared, the areas shared, and the room cleared.
 use mathlib.Core.Path.{◌∙◌}
 use native.Mathlib.Omega.{arith}
-use Rattle.hour.proofs.Figures.{head-areas, head-records}
-use Rattle.byrecord.proofs.Hour.{ready, shared-over, room-cleared}
+use Rattle.hour.proofs.Figures.{head_areas, head_records}
+use Rattle.byrecord.proofs.Hour.{ready, shared_over, room_cleared}
 use Rattle.byrecord.proofs.shares.put_shares.Statement.{statement}
 use Rattle.byrecord.proofs.shares.put_shares.Tie as tie
 
 clear-requires : tie.Need-clear-requires
-clear-requires c κs = let start = c.before.before.before in omega (arith, start.requires.1.room_out, head-records start.requires.0)
+clear-requires c κs = let start = c.before.before.before in omega (arith, start.requires.1.room_out, head_records start.requires.0)
 
 -- the start, as it is seen where the shares are cleared
 abbrev start : tie.After-clear → tie.Start
@@ -17,7 +17,7 @@ share-areas-requires : tie.Need-share-areas-requires
 share-areas-requires c κs =
     let cleared = c.before.before.before in
     let begun = start cleared in
-    (ready begun.pre.1 (head-records begun.pre.0) cleared.clear.ensures, head-areas begun.pre.0)
+    (ready begun.pre.1 (head_records begun.pre.0) cleared.clear.ensures, head_areas begun.pre.0)
 
 clear-room-requires : tie.Need-clear-room-requires
 clear-room-requires c κs = tt
@@ -31,13 +31,13 @@ cleared c = c.before.before.before.before
 
 -- room: &mut [u64]
 same_length : tie.Need-same-length
-same_length c = let emptied = c.before.before in emptied.clear-Room.auto.0 ∙ (shared emptied).share-areas.auto.1.1.1.0
+same_length c = let emptied = c.before.before in emptied.clear-Room.auto.0 ∙ (shared emptied).share_areas.auto.1.1.1.0
 
 -- out: &mut [i64]
 same-length-2 : tie.Need-same-length-2
 same-length-2 c =
     let done = shared c.before.before in
-    done.share-areas.kept.1.1.1.1.0 ∙ (cleared done).clear.kept.0
+    done.share_areas.kept.1.1.1.1.0 ∙ (cleared done).clear.kept.0
 
 returns : tie.Need-returns
 returns c =
@@ -45,9 +45,9 @@ returns c =
     let done = shared emptied in
     let begun = start (cleared done) in
     let over = (cleared done).clear.ensures in (
-      shared-over begun.pre.1 (head-records begun.pre.0) over done.share-areas.ensures,
-      room-cleared begun.pre.1 (head-records begun.pre.0) over done.share-areas.last.1.1.1.0
-          done.share-areas.kept.1.1.1.0 emptied.clear-Room.ensures,
+      shared_over begun.pre.1 (head_records begun.pre.0) over done.share_areas.ensures,
+      room_cleared begun.pre.1 (head_records begun.pre.0) over done.share_areas.last.1.1.1.0
+          done.share_areas.kept.1.1.1.0 emptied.clear-Room.ensures,
     )
 
 pub put-shares-spec : {M : Type 1} → statement M

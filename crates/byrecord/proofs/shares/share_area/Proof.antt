@@ -10,17 +10,17 @@ use Rattle.whole.specs.Below.{replacingFirst}
 use Rattle.whole.proofs.Machine.{read_back}
 use Rattle.rules.specs.Record.{Hour}
 use Rattle.rules.specs.Ufe.{ufe}
-use Rattle.share.specs.Shareable.{sharesIn}
-use Rattle.share.proofs.Shared.{shared-first}
-use Rattle.rules.specs.HourFile.{hourIn}
-use Rattle.byrecord.specs.Shared.{withSizes}
-use Rattle.byrecord.proofs.Areas.{nothing-to-write, Asked, loads-fit, shareable, sized, area-shared}
+use Rattle.share.specs.Shareable.{shares_in}
+use Rattle.share.proofs.Shared.{shared_first}
+use Rattle.rules.specs.HourFile.{hour_in}
+use Rattle.byrecord.specs.Shared.{with_sizes}
+use Rattle.byrecord.proofs.Areas.{nothing_to_write, Asked, loads_fit, shareable, sized, area_shared}
 use Rattle.byrecord.proofs.shares.share_area.Statement.{statement}
 use Rattle.byrecord.proofs.shares.share_area.Tie as tie
 
 -- the first return: an area without UFE
 returns : tie.Need-returns
-returns c = nothing-to-write c.before.before.before.requires c.if1.true
+returns c = nothing_to_write c.before.before.before.requires c.if1.true
 
 put-demands-requires : tie.Need-put-demands-requires
 put-demands-requires c κs = let pre = c.before.before.before.before.requires in (pre.kept, pre.places)
@@ -31,25 +31,25 @@ module _ (c : tie.After-put-demands) where
   start = c.before.before.before.before.before
 
   abbrev h : Hour
-  h = hourIn start.args.file.now
+  h = hour_in start.args.file.now
 
   abbrev loads : ℕ
-  loads = c.put-demands.result
+  loads = c.put_demands.result
 
   abbrev put : List ℕ
-  put = c.put-demands.new.1.1.0
+  put = c.put_demands.new.1.1.0
 
   asked : Asked start.args.file.now start.args.a start.args.figure start.args.room.now start.args.out.now loads put
-  asked = record { up_to = start.pre; counted = c.put-demands.ensures.0; holds = c.put-demands.ensures.1 }
+  asked = record { up_to = start.pre; counted = c.put_demands.ensures.0; holds = c.put_demands.ensures.1 }
 
 -- &mut room[..loads]
 slice-relend-prefix-share-in-place : tie.Need-slice-relend-prefix-share-in-place
-slice-relend-prefix-share-in-place c = loads-fit (asked c.before.before)
+slice-relend-prefix-share-in-place c = loads_fit (asked c.before.before)
 
 -- its length
 slice-aggregate-share-in-place : tie.Need-slice-aggregate-share-in-place
 slice-aggregate-share-in-place c =
-    let asking = c.before.before.before in sym (length-take-le (loads asking) (put asking) (loads-fit (asked asking)))
+    let asking = c.before.before.before in sym (length-take-le (loads asking) (put asking) (loads_fit (asked asking)))
 
 size-of-requires : tie.Need-size-of-requires
 size-of-requires c κs = tt
@@ -63,7 +63,7 @@ module _ (c : tie.After-size-of) where
   size = nat_abs (ufe (h asking) (start asking).args.a)
 
   size_is : c.type_size.result ≡ size
-  size_is = let begun = start asking in c.type_size.ensures ∙ ap nat_abs (read_back begun.fits.figure ∙ begun.pre.figure-of)
+  size_is = let begun = start asking in c.type_size.ensures ∙ ap nat_abs (read_back begun.fits.figure ∙ begun.pre.figure_of)
 
 share-in-place-requires : tie.Need-share-in-place-requires
 share-in-place-requires c κs = rw (size_is c) (shareable (asked (asking c)))
@@ -77,11 +77,11 @@ module _ (c : tie.After-share-in-place) where
   demands = take (loads asked-at) (put asked-at)
 
   abbrev got : List ℕ
-  got = c.share-in-place.new.0 ++ drop (loads asked-at) (put asked-at)
+  got = c.share_in_place.new.0 ++ drop (loads asked-at) (put asked-at)
 
-  shared : got ≡ sharesIn demands (size c.before) (put asked-at)
-  shared = shared-first (put asked-at) (loads asked-at) (size c.before) (loads-fit (asked asked-at)) (
-      c.share-in-place.ensures ∙ ap (λ u. sharesIn demands u demands) (size_is c.before))
+  shared : got ≡ shares_in demands (size c.before) (put asked-at)
+  shared = shared_first (put asked-at) (loads asked-at) (size c.before) (loads_fit (asked asked-at)) (
+      c.share_in_place.ensures ∙ ap (λ u. shares_in demands u demands) (size_is c.before))
 
 -- that moment, as it is seen where the area is to be put
 abbrev answered : tie.After-put-area-arg2 → tie.After-share-in-place
@@ -102,17 +102,17 @@ same_length c =
 
 -- out: &mut [i64]
 same-length-2 : tie.Need-same-length-2
-same-length-2 c = c.before.put-area.auto.1.1.1.1.0
+same-length-2 c = c.before.put_area.auto.1.1.1.1.0
 
 -- the end: an area with UFE
 returns-2 : tie.Need-returns-2
 returns-2 c =
     let begun = start (asked-at (engine c)) in
-    let hour = hourIn begun.args.file.now in
+    let hour = hour_in begun.args.file.now in
     let out = begun.args.out.now in
-    area-shared (asked (asked-at (engine c))) (shared (engine c)) (
-    c.before.put-area.ensures
-    ∙ ap (λ u. replacingFirst (withSizes hour begun.args.a u (got (engine c)) out) hour.count out) (read_back begun.fits.figure))
+    area_shared (asked (asked-at (engine c))) (shared (engine c)) (
+    c.before.put_area.ensures
+    ∙ ap (λ u. replacingFirst (with_sizes hour begun.args.a u (got (engine c)) out) hour.count out) (read_back begun.fits.figure))
 
 pub share-area-spec : {M : Type 1} → statement M
 share-area-spec =

@@ -4,7 +4,7 @@ use Prim.Native.Nat.{◌-◌}
 use native.Mathlib.Omega.{arith}
 use borrow.Author.Rules.{sfits_of}
 use Rattle.whole.proofs.Machine.{read_back}
-use Rattle.byrecord.proofs.Hour.{AreasShared, none-shared, area-place, same-room, shared-so-far, next-area, all-shared}
+use Rattle.byrecord.proofs.Hour.{AreasShared, none_shared, area_place, same_room, shared_so_far, next_area, all_shared}
 use Rattle.byrecord.proofs.shares.share_areas.Statement.{statement}
 use Rattle.byrecord.proofs.shares.share_areas.Tie as tie
 
@@ -15,7 +15,7 @@ abbrev decreases-loop : tie.decreases-loop
 decreases-loop file areas room₀ out₀ figures a₀ room out a = areas - a
 
 loop-holds : tie.Need-loop-init invariant-loop decreases-loop
-loop-holds c = none-shared c.before.before.requires.0
+loop-holds c = none_shared c.before.before.requires.0
 
 -- the start, as it is seen at the head of a turn; the head of a turn, as it is seen where its area is to be shared
 abbrev start : tie.At-loop invariant-loop decreases-loop → tie.Start invariant-loop decreases-loop
@@ -26,16 +26,16 @@ turn c = c.before.before.before.before
 
 -- the offset of figures[a]
 mul-share-area : tie.Need-overflow-mul-share-area invariant-loop decreases-loop
-mul-share-area c = omega (arith, area-place (start c.before).pre.0 c.before.loop.a (omega arith))
+mul-share-area c = omega (arith, area_place (start c.before).pre.0 c.before.loop.a (omega arith))
 
 -- figures[a]
 array-copy-out-share-area : tie.Need-array-copy-out-share-area invariant-loop decreases-loop
-array-copy-out-share-area c = area-place (start c.before).pre.0 c.before.loop.a (omega arith)
+array-copy-out-share-area c = area_place (start c.before).pre.0 c.before.loop.a (omega arith)
 
 share-area-requires : tie.Need-share-area-requires invariant-loop decreases-loop
 share-area-requires c κs =
     rw (read_back (sfits_of c.before.before.share-area-arg.given))
-    (shared-so-far (start (turn c)).pre.0 (turn c).loop.invariant (omega arith))
+    (shared_so_far (start (turn c)).pre.0 (turn c).loop.invariant (omega arith))
 
 -- a += 1
 add_a : tie.Need-overflow-add-a invariant-loop decreases-loop
@@ -48,7 +48,7 @@ loop-again : tie.Need-loop-preserved invariant-loop decreases-loop
 loop-again c =
     let shared = c.before.before.before in
     let at = turn shared.before in
-    next-area (start at).pre.0 at.loop.inv (omega arith) shared.share-area.ensures shared.share-area.auto.1.1.1.0
+    next_area (start at).pre.0 at.loop.inv (omega arith) shared.share_area.ensures shared.share_area.auto.1.1.1.0
 
 -- room: &mut [u64]
 same_length : tie.Need-same-length invariant-loop decreases-loop
@@ -56,10 +56,10 @@ same_length c = c.before.loop.invariant.places ∙ sym (start c.before).pre.0.sh
 
 -- out: &mut [i64]
 same-length-2 : tie.Need-same-length-2 invariant-loop decreases-loop
-same-length-2 c = same-room (start c.before).pre.0 c.before.loop.invariant
+same-length-2 c = same_room (start c.before).pre.0 c.before.loop.invariant
 
 returns : tie.Need-returns invariant-loop decreases-loop
-returns c = all-shared (start c.before).pre.0 c.before.loop.invariant (omega arith)
+returns c = all_shared (start c.before).pre.0 c.before.loop.invariant (omega arith)
 
 pub share-areas-spec : {M : Type 1} → statement M
 share-areas-spec =

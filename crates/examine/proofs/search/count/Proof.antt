@@ -4,11 +4,11 @@ use Prim.Native.Nat.{ℕ, ◌/◌, ◌≤◌}
 use native.Mathlib.Omega.{arith}
 use lib.ListN.{length}
 use Rattle.rules.specs.declared.Layout.{Layout}
-use Rattle.rules.specs.HourFile.{recordCount}
+use Rattle.rules.specs.HourFile.{record_count}
 use Rattle.rules.specs.Ranges.{form_of}
-use Rattle.rules.proofs.Layouts.{mode-fits}
-use Rattle.rules.proofs.Words.{record-count}
-use Rattle.examine.proofs.Listed.{said-count}
+use Rattle.rules.proofs.Layouts.{mode_fits}
+use Rattle.rules.proofs.Words.{record_count_lem}
+use Rattle.examine.proofs.Listed.{said_count}
 use Rattle.examine.proofs.search.count.Statement.{statement}
 use Rattle.examine.proofs.search.count.Tie as tie
 
@@ -21,7 +21,7 @@ enum_told c = c.match.keys1
 
 records-requires : tie.Need-records-requires
 records-requires c κs = let laid_out = c.before.before in
-    rw laid_out.layout_of.ensures (mode-fits laid_out.before.before.before.args.mode)
+    rw laid_out.layout_of.ensures (mode_fits laid_out.before.before.before.args.mode)
 
 -- Source::Lists
 enum-told-2 : tie.Need-enum-told-2
@@ -30,21 +30,21 @@ enum-told-2 c = c.match.keys2
 -- records.len() / layout.words
 div-result : tie.Need-nonzero-div-result
 div-result c = let laid_out = c.before.before.before in
-    rw laid_out.layout_of.ensures (omega (arith, (mode-fits laid_out.before.before.before.args.mode).some_words))
+    rw laid_out.layout_of.ensures (omega (arith, (mode_fits laid_out.before.before.before.args.mode).some_words))
 
 returns : tie.Need-returns
 returns c head =
     let laid_out = c.before.before.before in
     let given = laid_out.before.before.before.args in
-    rw c.before.enum_told.given.1 (c.records.ensures ∙ ap (λ (l : Layout). recordCount l given.file.now) laid_out.layout_of.ensures
-    ∙ sym (record-count (form_of given.mode).layout given.file.now))
+    rw c.before.enum_told.given.1 (c.records.ensures ∙ ap (λ (l : Layout). record_count l given.file.now) laid_out.layout_of.ensures
+    ∙ sym (record_count_lem (form_of given.mode).layout given.file.now))
 
 returns-2 : tie.Need-returns-2
 returns-2 c head =
     let laid_out = c.before.before.before in
     let given = laid_out.before.before.before.args in
     rw c.before.enum-told2.given.1 (ap (λ (l : Layout). length given.records.now / l.words) laid_out.layout_of.ensures
-    ∙ sym (said-count (form_of given.mode).layout head given.records.now))
+    ∙ sym (said_count (form_of given.mode).layout head given.records.now))
 
 pub count_spec : {M : Type 1} → statement M
 count_spec =

@@ -1,8 +1,8 @@
 -- `examine::search::file_record` meets its contract: the record's part of the file that the source names, or an empty part.
 use mathlib.Core.Path.{refl, ◌∙◌, ap}
 use Rattle.rules.specs.declared.Layout.{Layout}
-use Rattle.rules.proofs.Layouts.{mode-fits}
-use Rattle.blocks.specs.Part.{recordPart}
+use Rattle.rules.proofs.Layouts.{mode_fits}
+use Rattle.blocks.specs.Part.{record_part}
 use Rattle.examine.proofs.search.file_record.Statement.{statement}
 use Rattle.examine.proofs.search.file_record.Tie as tie
 
@@ -15,7 +15,7 @@ layout-of-requires c κs = tt
 
 record-requires : tie.Need-record-requires
 record-requires c κs = let given = c.before.before.before.before in
-    rw c.layout_of.ensures (mode-fits given.args.mode, rw c.before.enum_told.given.1 at given.requires)
+    rw c.layout_of.ensures (mode_fits given.args.mode, rw c.before.enum_told.given.1 at given.requires)
 
 -- Source::Lists
 enum-told-2 : tie.Need-enum-told-2
@@ -30,7 +30,7 @@ returns c =
     let laid_out = c.before in
     let given = laid_out.before.before.before.before.args in
     rw laid_out.before.enum_told.given.1
-    (c.record.ensures ∙ ap (λ (l : Layout). recordPart l given.file.now given.i) laid_out.layout_of.ensures)
+    (c.record.ensures ∙ ap (λ (l : Layout). record_part l given.file.now given.i) laid_out.layout_of.ensures)
 
 returns-2 : tie.Need-returns-2
 returns-2 c = rw c.before.enum-told2.given.1

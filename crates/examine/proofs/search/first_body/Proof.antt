@@ -33,7 +33,7 @@ returns c =
 returns-2 : tie.Need-returns-2
 returns-2 c =
     let file = c.before.before.before.before.before.args.file.now in
-    rw c.before.before.enum-told2.given.1 (c.body2.ensures ∙ ap (λ (l : Layout). body l file 0) c.before.ten-minutes.ensures)
+    rw c.before.before.enum-told2.given.1 (c.body2.ensures ∙ ap (λ (l : Layout). body l file 0) c.before.ten_minutes.ensures)
 
 pub first-body-spec : {M : Type 1} → statement M
 first-body-spec =

@@ -7,19 +7,19 @@ use Prim.Native.Nat.{ℕ, ◌-◌, ◌≤◌}
 use native.Mathlib.Omega.{arith}
 use lib.Dec.{leb, eqb}
 use borrow.Author.Tests.{le-leb, lt-leb, eq-eqb, ne_eqb}
-use Rattle.whole.specs.Below.{firstBelow}
-use Rattle.whole.proofs.Search.{first_next, first-hit, first-less, none_below}
+use Rattle.whole.specs.Below.{first_below}
+use Rattle.whole.proofs.Search.{first_next, first_hit, first_less, none_below}
 use Rattle.examine.specs.declared.search.Source.{Source}
-use Rattle.examine.specs.Sources.{wordBy}
-use Rattle.examine.proofs.Sources.{word-there}
+use Rattle.examine.specs.Sources.{word_by}
+use Rattle.examine.proofs.Sources.{word_there}
 use Rattle.examine.proofs.search.head_not_zero.Statement.{statement}
 use Rattle.examine.proofs.search.head_not_zero.Tie as tie
 
 abbrev not-zero : (source : Source) (body head : List ℕ) (from w : ℕ) → Bool
-not-zero source body head from w = leb from w && not (eqb (wordBy source body head (w - 8)) 0)
+not-zero source body head from w = leb from w && not (eqb (word_by source body head (w - 8)) 0)
 
 abbrev invariant-loop : tie.invariant-loop
-invariant-loop source body head from w₀ w = (from ≤ w) × (firstBelow (not-zero source body head from) w ≡ none)
+invariant-loop source body head from w₀ w = (from ≤ w) × (first_below (not-zero source body head from) w ≡ none)
 
 abbrev decreases-loop : tie.decreases-loop
 decreases-loop source body head from w₀ w = 128 - w
@@ -32,7 +32,7 @@ module _ (turn : tie.At-loop invariant-loop decreases-loop) where
   from = start.args.from
 
   abbrev word : ℕ → ℕ
-  word w = wordBy start.args.source start.args.body.now start.args.head.now (w - 8)
+  word w = word_by start.args.source start.args.body.now start.args.head.now (w - 8)
 
   abbrev sought : ℕ → Bool
   sought = not-zero start.args.source start.args.body.now start.args.head.now from
@@ -46,7 +46,7 @@ sub-word-of c = let turn = c.before in omega (arith, turn.loop.invariant.0, (sta
 
 word-of-requires : tie.Need-word-of-requires invariant-loop decreases-loop
 word-of-requires c κs = let begun = start c.before in
-    word-there 120 _ begun.args.source begun.args.body.now begun.args.head.now begun.pre.0 (omega arith)
+    word_there 120 _ begun.args.source begun.args.body.now begun.args.head.now begun.pre.0 (omega arith)
 
 -- return Found::At(w)
 returns : tie.Need-returns invariant-loop decreases-loop
@@ -54,7 +54,7 @@ returns c =
     let turn = c.before.before.before in
     let w = turn.loop.w in
     let is-not = ne_eqb (word turn w) 0 (λ e. c.if1.true (c.before.word_of.ensures ∙ e)) in
-    sym (first-hit (sought turn) w 128 turn.loop.invariant.1 (rw (le-leb _ _ turn.loop.invariant.0, is-not)) (omega arith))
+    sym (first_hit (sought turn) w 128 turn.loop.invariant.1 (rw (le-leb _ _ turn.loop.invariant.0, is-not)) (omega arith))
 
 -- w += 1
 add-w : tie.Need-overflow-add-w invariant-loop decreases-loop
@@ -72,7 +72,7 @@ loop-again c =
 
 -- Found::Nothing
 returns-2 : tie.Need-returns-2 invariant-loop decreases-loop
-returns-2 c = sym (first-less _ _ 128 c.before.loop.invariant.1 c.loop-test.false)
+returns-2 c = sym (first_less _ _ 128 c.before.loop.invariant.1 c.loop-test.false)
 
 pub head-not-zero-spec : {M : Type 1} → statement M
 head-not-zero-spec =

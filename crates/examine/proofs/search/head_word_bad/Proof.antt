@@ -3,7 +3,7 @@ use mathlib.Core.Path.{◌∙◌, ap, ap₂}
 use mathlib.Core.Bool.{not}
 use native.Mathlib.Omega.{arith}
 use Rattle.rules.specs.Ranges.{keeps}
-use Rattle.examine.proofs.Sources.{word-there}
+use Rattle.examine.proofs.Sources.{word_there}
 use Rattle.examine.proofs.search.head_word_bad.Statement.{statement}
 use Rattle.examine.proofs.search.head_word_bad.Tie as tie
 
@@ -16,13 +16,13 @@ sub-word-of c = omega arith
 
 word-of-requires : tie.Need-word-of-requires
 word-of-requires c κs = let start = c.before.before.before in
-    word-there 120 _ start.args.source start.args.body.now start.args.head.now start.requires.0 (omega arith)
+    word_there 120 _ start.args.source start.args.body.now start.args.head.now start.requires.0 (omega arith)
 
 keeps-requires : tie.Need-keeps-requires
 keeps-requires c κs = tt
 
 returns : tie.Need-returns
-returns c = ap not (c.keeps.ensures ∙ ap₂ keeps c.before.before.head-rule-of.ensures c.before.word_of.ensures)
+returns c = ap not (c.keeps.ensures ∙ ap₂ keeps c.before.before.head_rule_of.ensures c.before.word_of.ensures)
 
 pub head-word-bad-spec : {M : Type 1} → statement M
 head-word-bad-spec =

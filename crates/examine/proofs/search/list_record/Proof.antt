@@ -5,7 +5,7 @@ use Prim.Native.Nat.{ℕ, ◌+◌, ◌*◌, ◌≤◌}
 use native.Mathlib.Omega.{arith}
 use lib.ListN.{length, take, drop}
 use Rattle.rules.specs.declared.Layout.{Layout}
-use Rattle.examine.proofs.Listed.{part-is}
+use Rattle.examine.proofs.Listed.{part_is}
 use Rattle.examine.proofs.search.list_record.Statement.{statement}
 use Rattle.examine.proofs.search.list_record.Tie as tie
 
@@ -60,7 +60,7 @@ returns-2 : tie.Need-returns-2
 returns-2 c =
     let laid_out = c.before in
     let given = laid_out.before.before.before.before.args in
-    rw laid_out.before.enum-told2.given.1 (part-is given.records.now (laid_out.layout_of.result.words * given.i) _
+    rw laid_out.before.enum-told2.given.1 (part_is given.records.now (laid_out.layout_of.result.words * given.i) _
     ∙ ap (λ (l : Layout). take l.words (drop (l.words * given.i) given.records.now)) laid_out.layout_of.ensures)
 
 pub list-record-spec : {M : Type 1} → statement M

@@ -2,8 +2,8 @@
 use mathlib.Core.Path.{◌∙◌}
 use native.Mathlib.Omega.{arith}
 use Rattle.rules.specs.Record.{kind_of}
-use Rattle.rules.proofs.RuleTables.{kind-unknown}
-use Rattle.examine.specs.Span.{kindKeeps}
+use Rattle.rules.proofs.RuleTables.{kind_unknown}
+use Rattle.examine.specs.Span.{kind_keeps}
 use Rattle.examine.proofs.spans.kind_keeps.Statement.{statement}
 use Rattle.examine.proofs.spans.kind_keeps.Tie as tie
 
@@ -12,41 +12,41 @@ generator-keeps-requires c κs = omega arith
 
 returns : tie.Need-returns
 unfolding kind_of
-returns c = c.generator-keeps.ensures ∙ rw c.before.if1.true
+returns c = c.generator_keeps.ensures ∙ rw c.before.if1.true
 
 real-time-keeps-requires : tie.Need-real-time-keeps-requires
 real-time-keeps-requires c κs = omega arith
 
 returns-2 : tie.Need-returns-2
 unfolding kind_of
-returns-2 c = c.real-time-keeps.ensures ∙ rw c.before.if2.true
+returns-2 c = c.real_time_keeps.ensures ∙ rw c.before.if2.true
 
 profile-keeps-requires : tie.Need-profile-keeps-requires
 profile-keeps-requires c κs = omega arith
 
 returns-3 : tie.Need-returns-3
 unfolding kind_of
-returns-3 c = c.profile-keeps.ensures ∙ rw c.before.if3.true
+returns-3 c = c.profile_keeps.ensures ∙ rw c.before.if3.true
 
 import-keeps-requires : tie.Need-import-keeps-requires
 import-keeps-requires c κs = omega arith
 
 returns-4 : tie.Need-returns-4
 unfolding kind_of
-returns-4 c = c.import-keeps.ensures ∙ rw c.before.if4.true
+returns-4 c = c.import_keeps.ensures ∙ rw c.before.if4.true
 
 export-keeps-requires : tie.Need-export-keeps-requires
 export-keeps-requires c κs = omega arith
 
 returns-5 : tie.Need-returns-5
 unfolding kind_of
-returns-5 c = c.export-keeps.ensures ∙ rw c.before.if5.true
+returns-5 c = c.export_keeps.ensures ∙ rw c.before.if5.true
 
 -- false
 returns-6 : tie.Need-returns-6
-unfolding kindKeeps
+unfolding kind_keeps
 returns-6 c =
-    rw (kind-unknown
+    rw (kind_unknown
     _
     c.before.before.before.before.if1.false
     c.before.before.before.if2.false

@@ -37,12 +37,12 @@ record-keeps-requires c κs =
 returns-3 : tie.Need-returns-3
 returns-3 c =
     let kept = c.before in
-    rw (kept.before.before.before.enum_told.given.1, kept.before.enum-told3.given.1, sym kept.record-keeps.ensures ∙ c.if1.true)
+    rw (kept.before.before.before.enum_told.given.1, kept.before.enum-told3.given.1, sym kept.record_keeps.ensures ∙ c.if1.true)
 
 returns-4 : tie.Need-returns-4
 returns-4 c =
     let kept = c.before in
-    rw (kept.before.before.before.enum_told.given.1, kept.before.enum-told3.given.1, sym kept.record-keeps.ensures ∙ c.if1.false)
+    rw (kept.before.before.before.enum_told.given.1, kept.before.enum-told3.given.1, sym kept.record_keeps.ensures ∙ c.if1.false)
 
 pub passed-spec : {M : Type 1} → statement M
 passed-spec =

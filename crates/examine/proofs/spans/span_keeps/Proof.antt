@@ -6,18 +6,18 @@ use mathlib.Core.List.{List}
 use Prim.Native.Nat.{ℕ, ◌-◌, ◌≤◌}
 use native.Mathlib.Omega.{arith}
 use borrow.Author.Tests.{not-true, not-false, le-leb, lt-leb}
-use Rattle.whole.specs.Below.{firstBelow}
-use Rattle.whole.proofs.Search.{first_next, first-hit, first-less, none_below}
+use Rattle.whole.specs.Below.{first_below}
+use Rattle.whole.proofs.Search.{first_next, first_hit, first_less, none_below}
 use Rattle.rules.specs.declared.Rule.{Rule}
 use Rattle.rules.specs.HourFile.{word}
 use Rattle.rules.specs.Ranges.{keeps}
-use Rattle.rules.specs.Refusals.{isBroken}
-use Rattle.examine.specs.Span.{brokenAt, spanKeeps}
+use Rattle.rules.specs.Refusals.{is_broken}
+use Rattle.examine.specs.Span.{broken_at, span_keeps}
 use Rattle.examine.proofs.spans.span_keeps.Statement.{statement}
 use Rattle.examine.proofs.spans.span_keeps.Tie as tie
 
 abbrev invariant-loop : tie.invariant-loop
-invariant-loop rule words from to w₀ w = (from ≤ w) × (firstBelow (brokenAt rule words from) w ≡ none)
+invariant-loop rule words from to w₀ w = (from ≤ w) × (first_below (broken_at rule words from) w ≡ none)
 
 abbrev decreases-loop : tie.decreases-loop
 decreases-loop rule words from to w₀ w = to - w
@@ -44,11 +44,11 @@ keeps-requires c κs = tt
 
 -- return false
 returns : tie.Need-returns invariant-loop decreases-loop
-unfolding spanKeeps
+unfolding span_keeps
 returns c =
     let turn = c.before.before.before.before in
     let broken = sym (c.before.keeps.ensures ∙ ap (keeps (rule turn)) c.before.before.whole_word.ensures) ∙ not-true _ c.if1.true in
-    sym (ap (λ (o : Option ℕ). not (isBroken o)) (first-hit (brokenAt (rule turn) (words turn) (from turn)) turn.loop.w _ turn.loop.invariant.1
+    sym (ap (λ (o : Option ℕ). not (is_broken o)) (first_hit (broken_at (rule turn) (words turn) (from turn)) turn.loop.w _ turn.loop.invariant.1
     (rw (le-leb _ _ turn.loop.invariant.0, broken))
     c.before.before.before.loop-test.true))
 
@@ -64,14 +64,14 @@ loop-again c =
     let turn = c.before.before.before.before in
     let kept = sym (c.before.keeps.ensures ∙ ap (keeps (rule turn)) c.before.before.whole_word.ensures) ∙ not-false _ c.if1.false in (
       omega arith,
-      first_next (brokenAt (rule turn) (words turn) (from turn)) turn.loop.w turn.loop.invariant.1
+      first_next (broken_at (rule turn) (words turn) (from turn)) turn.loop.w turn.loop.invariant.1
           (rw (le-leb _ _ turn.loop.invariant.0, kept)),
     )
 
 -- true
 returns-2 : tie.Need-returns-2 invariant-loop decreases-loop
-unfolding spanKeeps
-returns-2 c = sym (ap (λ (o : Option ℕ). not (isBroken o)) (first-less _ _ _ c.before.loop.invariant.1 c.loop-test.false))
+unfolding span_keeps
+returns-2 c = sym (ap (λ (o : Option ℕ). not (is_broken o)) (first_less _ _ _ c.before.loop.invariant.1 c.loop-test.false))
 
 pub span-keeps-spec : {M : Type 1} → statement M
 span-keeps-spec =

@@ -7,10 +7,10 @@ use native.Mathlib.Omega.{arith}
 use borrow.Author.Rules.{rules}
 use mir.Syntax.{w64}
 use mir.Val.{to_z}
-use Rattle.whole.proofs.Machine.{element-fits, read_back, back}
-use Rattle.rules.specs.Explanation.{headAt}
-use Rattle.explain.specs.Leading.{weightOf, Leading}
-use Rattle.explain.proofs.Search.{none-leads, takes-lead, keeps-lead, none-led, one-led}
+use Rattle.whole.proofs.Machine.{element_fits, read_back, back}
+use Rattle.rules.specs.Explanation.{head_at}
+use Rattle.explain.specs.Leading.{weight_of, Leading}
+use Rattle.explain.proofs.Search.{none_leads, takes_lead, keeps_lead, none_led, one_led}
 use Rattle.explain.proofs.heads.decided.Statement.{statement}
 use Rattle.explain.proofs.heads.decided.Tie as tie
 
@@ -21,7 +21,7 @@ abbrev decreases-loop : tie.decreases-loop
 decreases-loop charge heads best₀ most₀ place₀ best most place = 5 - place
 
 loop-holds : tie.Need-loop-init invariant-loop decreases-loop
-loop-holds c = (omega arith, none-leads c.args.t2 (back c.args.charge))
+loop-holds c = (omega arith, none_leads c.args.t2 (back c.args.charge))
 
 -- the offset of heads[place]
 mul-weight : tie.Need-overflow-mul-weight invariant-loop decreases-loop
@@ -42,9 +42,9 @@ module _ (c : tie.After-weight invariant-loop decreases-loop) where
   abbrev start : tie.Start invariant-loop decreases-loop
   start = turn.before
 
-  weighed : c.weight.result ≡ weightOf (back start.args.charge) (headAt start.args.t2 turn.loop.place)
-  weighed = c.weight.ensures ∙ ap (weightOf (back start.args.charge))
-      (read_back (element-fits start.args.t2 _ turn.loop.place start.good.1.0.1.1))
+  weighed : c.weight.result ≡ weight_of (back start.args.charge) (head_at start.args.t2 turn.loop.place)
+  weighed = c.weight.ensures ∙ ap (weight_of (back start.args.charge))
+      (read_back (element_fits start.args.t2 _ turn.loop.place start.good.1.0.1.1))
 
 -- place += 1
 add-place : tie.Need-overflow-add-place invariant-loop decreases-loop
@@ -61,8 +61,8 @@ loop-again c =
     let led = t.loop.inv.1 in (
       omega (arith, w.before.before.loop-test.true),
       ⊎_elim
-          (λ x. rw (x.1, x.2) (takes-lead s.args.t2 (back s.args.charge) led w.before.before.loop-test.true (weighed w) x.0.taken))
-          (λ x. rw (x.1, x.2) (keeps-lead s.args.t2 (back s.args.charge) led (weighed w) x.0.left))
+          (λ x. rw (x.1, x.2) (takes_lead s.args.t2 (back s.args.charge) led w.before.before.loop-test.true (weighed w) x.0.taken))
+          (λ x. rw (x.1, x.2) (keeps_lead s.args.t2 (back s.args.charge) led (weighed w) x.0.left))
           c.if1.branch,
     )
 
@@ -79,11 +79,11 @@ module _ (c : tie.After-loop invariant-loop decreases-loop) where
 
 -- return Found::Nothing
 returns : tie.Need-returns invariant-loop decreases-loop
-returns c = let s = (begun c.before).args in none-led s.t2 s.charge (led c.before) c.if2.true
+returns c = let s = (begun c.before).args in none_led s.t2 s.charge (led c.before) c.if2.true
 
 -- Found::At(best)
 returns-2 : tie.Need-returns-2 invariant-loop decreases-loop
-returns-2 c = let s = (begun c.before).args in one-led s.t2 s.charge (led c.before) c.if2.false
+returns-2 c = let s = (begun c.before).args in one_led s.t2 s.charge (led c.before) c.if2.false
 
 pub decided-spec : {M : Type 1} → statement M
 decided-spec =

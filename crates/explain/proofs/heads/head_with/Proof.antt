@@ -2,8 +2,8 @@
 use mathlib.Core.Path.{ap}
 use borrow.Author.Rules.{rules}
 use lib.ListN.{set}
-use Rattle.whole.proofs.Machine.{element-fits, sum-stored}
-use Rattle.rules.specs.Inner.Posting.{headWith}
+use Rattle.whole.proofs.Machine.{element_fits, sum_stored}
+use Rattle.rules.specs.Inner.Posting.{head_with}
 use Rattle.explain.proofs.heads.head_with.Statement.{statement}
 use Rattle.explain.proofs.heads.head_with.Tie as tie
 
@@ -24,11 +24,11 @@ array-set-from-next : tie.Need-array-set-from-next
 array-set-from-next c = search rules
 
 returns : tie.Need-returns
-unfolding headWith
+unfolding head_with
 returns c =
     let s = c.before in
     ap (set s.args.heads s.args.place)
-    (sum-stored (element-fits s.args.heads _ s.args.place s.well-formed.0.1.1) s.ranges.grains s.requires.grains-fit)
+    (sum_stored (element_fits s.args.heads _ s.args.place s.well-formed.0.1.1) s.ranges.grains s.requires.grains_fit)
 
 pub head-with-spec : {M : Type 1} → statement M
 head-with-spec =

@@ -5,17 +5,17 @@ use Prim.Native.Nat.{ℕ}
 use native.Mathlib.Omega.{arith}
 use borrow.Author.Rules.{rules}
 use Rattle.whole.proofs.Machine.{Num, result, ◌:*◌, fits, stored, gives, back, read_back}
-use Rattle.rules.specs.Record.{Hour, areaOf, entry_of}
+use Rattle.rules.specs.Record.{Hour, area_of, entry_of}
 use Rattle.rules.specs.Deviation.{deviation}
-use Rattle.rules.specs.Charge.{enteringAs, entering}
+use Rattle.rules.specs.Charge.{entering_as, entering}
 use Rattle.rules.specs.Inner.Kept.{RecordKept}
-use Rattle.whole.proofs.Ranges.{u-more}
-use Rattle.rules.proofs.Bounds.{deviation-under, entering-under, share-under, price-under}
-use Rattle.rules.proofs.Heads.{heads-running}
-use Rattle.hour.proofs.Inside.{record-inside}
-use Rattle.rules.specs.HourFile.{hourIn}
-use Rattle.hour.proofs.Rows.{PartOf, part_length, part-kind}
-use Rattle.explain.proofs.Posting.{not-posted, is-posted}
+use Rattle.whole.proofs.Ranges.{u_more}
+use Rattle.rules.proofs.Bounds.{deviation_under, entering_under, share_under, price_under}
+use Rattle.rules.proofs.Heads.{heads_running}
+use Rattle.hour.proofs.Inside.{record_inside}
+use Rattle.rules.specs.HourFile.{hour_in}
+use Rattle.hour.proofs.Rows.{PartOf, part_length, part_kind}
+use Rattle.explain.proofs.Posting.{not_posted, is_posted}
 use Rattle.explain.proofs.heads.posted.Statement.{statement}
 use Rattle.explain.proofs.heads.posted.Tie as tie
 
@@ -26,10 +26,10 @@ member-of-requires c κs = search rules
 returns : tie.Need-returns
 returns c =
     let s = c.before.before.before in
-    s.requires.1 ∙ not-posted (hourIn s.args.file.now) s.args.member s.args.i (λ e. c.if1.true (c.before.member_of.ensures ∙ e))
+    s.requires.1 ∙ not_posted (hour_in s.args.file.now) s.args.member s.args.i (λ e. c.if1.true (c.before.member_of.ensures ∙ e))
 
 record-requires : tie.Need-record-requires
-record-requires c κs = let s = c.before.before.before in record-inside s.requires.0.kept s.requires.0.there
+record-requires c κs = let s = c.before.before.before in record_inside s.requires.0.kept s.requires.0.there
 
 -- the record's part is read
 module _ (c : tie.After-record) where
@@ -37,7 +37,7 @@ module _ (c : tie.After-record) where
   start = c.before.before.before.before
 
   abbrev h : Hour
-  h = hourIn start.args.file.now
+  h = hour_in start.args.file.now
 
   abbrev i : ℕ
   i = start.args.i
@@ -46,38 +46,38 @@ module _ (c : tie.After-record) where
   own = record { kept = start.pre.0.kept; there = start.pre.0.there; part = c.record.ensures }
 
   kept : RecordKept h i
-  kept = start.pre.0.kept.hour-kept.record-kept i start.pre.0.there
+  kept = start.pre.0.kept.hour_kept.record_kept i start.pre.0.there
 
-  deviation-is : back start.args.deviation ≡ deviation (entry_of h i)
-  deviation-is = read_back start.fits.deviation ∙ start.pre.0.deviation-is
+  deviation_is : back start.args.deviation ≡ deviation (entry_of h i)
+  deviation_is = read_back start.fits.deviation ∙ start.pre.0.deviation_is
 
 kind-in-requires : tie.Need-kind-in-requires
 kind-in-requires c κs = part_length (own c)
 
 entering-requires : tie.Need-entering-requires
-entering-requires c κs = let read = c.before in rw (deviation-is read) (u-more 144000000000 (deviation-under (kept read).entry_kept) tt)
+entering-requires c κs = let read = c.before in rw (deviation_is read) (u_more 144000000000 (deviation_under (kept read).entry_kept) tt)
 
 -- price, deviation and share, each as a number with its range
 module _ (c : tie.After-entering) where
   abbrev read : tie.After-record
   read = c.before.before
 
-  kind-is : c.before.kind-in.result ≡ (entry_of (h read) (i read)).kind
-  kind-is = c.before.kind-in.ensures ∙ part-kind (own read)
+  kind-is : c.before.kind_in.result ≡ (entry_of (h read) (i read)).kind
+  kind-is = c.before.kind_in.ensures ∙ part_kind (own read)
 
   entering-is : c.entering.result ≡ entering (entry_of (h read) (i read))
   unfolding entering
-  entering-is = c.entering.ensures ∙ ap₂ enteringAs kind-is (deviation-is read)
+  entering-is = c.entering.ensures ∙ ap₂ entering_as kind-is (deviation_is read)
 
   abbrev priced : Num
-  priced = result (start read).pre.0.price-is
-      (price-under (start read).pre.0.kept.hour-kept (areaOf (h read) (i read)) (kept read).area-there)
+  priced = result (start read).pre.0.price_is
+      (price_under (start read).pre.0.kept.hour_kept (area_of (h read) (i read)) (kept read).area_there)
 
   abbrev entered : Num
-  entered = result entering-is (entering-under (kept read).entry_kept)
+  entered = result entering-is (entering_under (kept read).entry_kept)
 
   abbrev shared : Num
-  shared = result (start read).pre.0.share-is (share-under (start read).pre.0.kept.hour-kept (i read) (start read).pre.0.there)
+  shared = result (start read).pre.0.share_is (share_under (start read).pre.0.kept.hour_kept (i read) (start read).pre.0.there)
 
 -- price * entering
 mul-heads-with : tie.Need-overflow-mul-heads-with
@@ -91,9 +91,9 @@ heads-with-requires : tie.Need-heads-with-requires
 heads-with-requires c κs =
     let s = start (read c) in
     record {
-      heads-under = λ k. rw s.pre.1 (heads-running s.pre.0.kept.hour-kept s.args.member s.args.i k (omega (arith, s.pre.0.there)));
-      deviation-under = gives 6000000000000000 (priced c :* entered c) tt tt;
-      share-under = gives 1000000000000000000 (priced c :* shared c) tt tt;
+      heads_under = λ k. rw s.pre.1 (heads_running s.pre.0.kept.hour_kept s.args.member s.args.i k (omega (arith, s.pre.0.there)));
+      deviation_under = gives 6000000000000000 (priced c :* entered c) tt tt;
+      share_under = gives 1000000000000000000 (priced c :* shared c) tt tt;
     }
 
 returns-2 : tie.Need-returns-2
@@ -101,7 +101,7 @@ returns-2 c =
     let e = c.before in
     let r = read e in
     let s = start r in
-    c.heads-with.ensures ∙ is-posted (h r) s.args.member (i r) (sym r.before.before.member_of.ensures ∙ r.before.if1.left)
+    c.heads_with.ensures ∙ is_posted (h r) s.args.member (i r) (sym r.before.before.member_of.ensures ∙ r.before.if1.left)
     s.pre.1 (kind-is e) (stored (priced e :* entered e) tt) (stored (priced e :* shared e) tt)
 
 pub posted-spec : {M : Type 1} → statement M

@@ -1,6 +1,6 @@
 -- `explain::heads::same_sign` meets its contract: by the charge's sign.
 use Rattle.whole.proofs.Machine.{read_back}
-use Rattle.explain.proofs.Signs.{above-sign, below-sign, no_sign}
+use Rattle.explain.proofs.Signs.{above_sign, below_sign, no_sign}
 use Rattle.explain.proofs.heads.same_sign.Statement.{statement}
 use Rattle.explain.proofs.heads.same_sign.Tie as tie
 
@@ -8,13 +8,13 @@ use Rattle.explain.proofs.heads.same_sign.Tie as tie
 returns : tie.Need-returns
 returns c =
     let s = c.before in
-    rw (read_back s.ranges.head) (above-sign s.args.charge s.args.head (rw (read_back s.ranges.charge) at c.if1.true))
+    rw (read_back s.ranges.head) (above_sign s.args.charge s.args.head (rw (read_back s.ranges.charge) at c.if1.true))
 
 -- return head < 0
 returns-2 : tie.Need-returns-2
 returns-2 c =
     let s = c.before.before in
-    rw (read_back s.ranges.head) (below-sign s.args.charge s.args.head (rw (read_back s.ranges.charge) at c.if2.true))
+    rw (read_back s.ranges.head) (below_sign s.args.charge s.args.head (rw (read_back s.ranges.charge) at c.if2.true))
 
 returns-3 : tie.Need-returns-3
 returns-3 c =

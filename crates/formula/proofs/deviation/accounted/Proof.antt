@@ -5,8 +5,8 @@ use Rattle.whole.proofs.Machine.{Num, #, ◌:-◌, ◌:*◌, fits, stored}
 use Rattle.rules.specs.declared.Kind.{Kind}
 use Rattle.rules.specs.declared.Kind.TheVariants.{Generator, RealTimeLoad, ProfileLoad, Import, Export, Unknown}
 use Rattle.rules.specs.Record.{Entry}
-use Rattle.rules.specs.Inner.Posting.{accountedAs, accounted}
-use Rattle.rules.proofs.Bounds.{entry-room}
+use Rattle.rules.specs.Inner.Posting.{accounted_as, accounted}
+use Rattle.rules.proofs.Bounds.{entry_room}
 use Rattle.formula.proofs.Terms.{A, H}
 use Rattle.formula.proofs.deviation.accounted.Statement.{statement}
 use Rattle.formula.proofs.deviation.accounted.Tie as tie
@@ -24,50 +24,50 @@ at-lost c = at-rate c.before.before
 module _ (c : tie.Start) where
   -- 10,000×A
   abbrev metered : Num
-  metered = # (pos 10000) :* A (entry-room c.requires)
+  metered = # (pos 10000) :* A (entry_room c.requires)
 
   -- 10,000 - H
   abbrev rate : Num
-  rate = # (pos 10000) :- H (entry-room c.requires)
+  rate = # (pos 10000) :- H (entry_room c.requires)
 
   -- A×(10,000 - H)
   abbrev lost : Num
-  lost = A (entry-room c.requires) :* rate
+  lost = A (entry_room c.requires) :* rate
 
 -- an entry of kind k adds what its kind adds
-told : (r : Entry) (k : Kind) → r.kind ≡ k → {z : ℤ} → z ≡ accountedAs k r.A r.H → z ≡ accounted r
+told : (r : Entry) (k : Kind) → r.kind ≡ k → {z : ℤ} → z ≡ accounted_as k r.A r.H → z ≡ accounted r
 unfolding accounted
-told r k e f = f ∙ sym (ap (λ (x : Kind). accountedAs x r.A r.H) e)
+told r k e f = f ∙ sym (ap (λ (x : Kind). accounted_as x r.A r.H) e)
 
 -- Kind::Generator => metered - lost
 returns : tie.Need-returns
-unfolding accountedAs
+unfolding accounted_as
 returns c =
     told _ Generator c.enum_told.given.1 (stored (metered (at-lost c.before.before) :- lost (at-lost c.before.before)) tt)
 
 -- Kind::RealTimeLoad => -metered
 returns-2 : tie.Need-returns-2
-unfolding accountedAs
+unfolding accounted_as
 returns-2 c = told _ RealTimeLoad c.enum-told2.given.1 (stored (# (pos 0) :- metered (at-lost c.before.before)) tt ∙ +ℤ_idl _)
 
 -- Kind::ProfileLoad => -metered
 returns-3 : tie.Need-returns-3
-unfolding accountedAs
+unfolding accounted_as
 returns-3 c = told _ ProfileLoad c.enum-told3.given.1 (stored (# (pos 0) :- metered (at-lost c.before.before)) tt ∙ +ℤ_idl _)
 
 -- Kind::Import => -lost
 returns-4 : tie.Need-returns-4
-unfolding accountedAs
+unfolding accounted_as
 returns-4 c = told _ Import c.enum-told4.given.1 (stored (# (pos 0) :- lost (at-lost c.before.before)) tt ∙ +ℤ_idl _)
 
 -- Kind::Export => 0
 returns-5 : tie.Need-returns-5
-unfolding accountedAs
+unfolding accounted_as
 returns-5 c = told _ Export c.enum-told5.given.1 refl
 
 -- Kind::Unknown => 0
 returns-6 : tie.Need-returns-6
-unfolding accountedAs
+unfolding accounted_as
 returns-6 c = told _ Unknown c.enum-told6.given.1 refl
 
 -- 10000 * r.a

@@ -8,22 +8,22 @@ use borrow.Author.Rules.{sfits_of}
 use Rattle.whole.proofs.Machine.{back, read_back}
 use Rattle.rules.specs.declared.Kind.{Kind}
 use Rattle.rules.specs.Record.{Entry}
-use Rattle.rules.specs.Deviation.{deviationAs, deviation}
+use Rattle.rules.specs.Deviation.{deviation_as, deviation}
 use Rattle.formula.proofs.deviation.deviation.Statement.{statement}
 use Rattle.formula.proofs.deviation.deviation.Tie as tie
 
 -- what the call for the entry's kind gave is the entry's deviation, and it is read back whole
-told : (r : Entry) (k : Kind) → r.kind ≡ k → (d : ℤ) → SFits w64 d → d ≡ deviationAs r k → back d ≡ deviation r
+told : (r : Entry) (k : Kind) → r.kind ≡ k → (d : ℤ) → SFits w64 d → d ≡ deviation_as r k → back d ≡ deviation r
 unfolding deviation
-told r k e d ok f = read_back ok ∙ f ∙ sym (ap (deviationAs r) e)
+told r k e d ok f = read_back ok ∙ f ∙ sym (ap (deviation_as r) e)
 
 -- Kind::Generator => generator_deviation(r)
 returns : tie.Need-returns
-returns c = told _ _ c.before.enum_told.given.1 _ (sfits_of c.generator-deviation.type-inv) c.generator-deviation.ensures
+returns c = told _ _ c.before.enum_told.given.1 _ (sfits_of c.generator_deviation.type-inv) c.generator_deviation.ensures
 
 -- Kind::RealTimeLoad => load_deviation(r)
 returns-2 : tie.Need-returns-2
-returns-2 c = told _ _ c.before.enum-told2.given.1 _ (sfits_of c.load-deviation.type-inv) c.load-deviation.ensures
+returns-2 c = told _ _ c.before.enum-told2.given.1 _ (sfits_of c.load_deviation.type-inv) c.load_deviation.ensures
 
 -- Kind::ProfileLoad => load_deviation(r)
 returns-3 : tie.Need-returns-3
@@ -31,11 +31,11 @@ returns-3 c = told _ _ c.before.enum-told3.given.1 _ (sfits_of c.load-deviation2
 
 -- Kind::Import => import_deviation(r)
 returns-4 : tie.Need-returns-4
-returns-4 c = told _ _ c.before.enum-told4.given.1 _ (sfits_of c.import-deviation.type-inv) c.import-deviation.ensures
+returns-4 c = told _ _ c.before.enum-told4.given.1 _ (sfits_of c.import_deviation.type-inv) c.import_deviation.ensures
 
 -- Kind::Export => export_deviation(r)
 returns-5 : tie.Need-returns-5
-returns-5 c = told _ _ c.before.enum-told5.given.1 _ (sfits_of c.export-deviation.type-inv) c.export-deviation.ensures
+returns-5 c = told _ _ c.before.enum-told5.given.1 _ (sfits_of c.export_deviation.type-inv) c.export_deviation.ensures
 
 -- Kind::Unknown => 0
 returns-6 : tie.Need-returns-6

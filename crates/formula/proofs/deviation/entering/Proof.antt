@@ -9,8 +9,8 @@ module _ (c : tie.Start) where
   abbrev added : Num
   added = at c.requires
 
-  abbrev taken-off : Num
-  taken-off = # (pos 0) :- added
+  abbrev taken_off : Num
+  taken_off = # (pos 0) :- added
 
 -- Kind::Generator => deviation
 returns : tie.Need-returns
@@ -18,11 +18,11 @@ returns c = rw c.enum_told.given.1 (stored (added c.before.before) tt)
 
 -- Kind::RealTimeLoad => -deviation
 returns-2 : tie.Need-returns-2
-returns-2 c = rw c.enum-told2.given.1 (stored (taken-off c.before.before) tt ∙ +ℤ_idl _)
+returns-2 c = rw c.enum-told2.given.1 (stored (taken_off c.before.before) tt ∙ +ℤ_idl _)
 
 -- Kind::ProfileLoad => -deviation
 returns-3 : tie.Need-returns-3
-returns-3 c = rw c.enum-told3.given.1 (stored (taken-off c.before.before) tt ∙ +ℤ_idl _)
+returns-3 c = rw c.enum-told3.given.1 (stored (taken_off c.before.before) tt ∙ +ℤ_idl _)
 
 -- Kind::Import => deviation
 returns-4 : tie.Need-returns-4
@@ -30,7 +30,7 @@ returns-4 c = rw c.enum-told4.given.1 (stored (added c.before.before) tt)
 
 -- Kind::Export => -deviation
 returns-5 : tie.Need-returns-5
-returns-5 c = rw c.enum-told5.given.1 (stored (taken-off c.before.before) tt ∙ +ℤ_idl _)
+returns-5 c = rw c.enum-told5.given.1 (stored (taken_off c.before.before) tt ∙ +ℤ_idl _)
 
 -- Kind::Unknown => 0
 returns-6 : tie.Need-returns-6
@@ -46,7 +46,7 @@ enum-told-2 c = c.match.keys2
 
 -- Kind::RealTimeLoad => -deviation
 sub-result : tie.Need-overflow-sub-result
-sub-result c = fits (taken-off c.before.before) tt
+sub-result c = fits (taken_off c.before.before) tt
 
 -- Kind::ProfileLoad
 enum-told-3 : tie.Need-enum-told-3
@@ -54,7 +54,7 @@ enum-told-3 c = c.match.keys3
 
 -- Kind::ProfileLoad => -deviation
 sub-result-2 : tie.Need-overflow-sub-result-2
-sub-result-2 c = fits (taken-off c.before.before) tt
+sub-result-2 c = fits (taken_off c.before.before) tt
 
 -- Kind::Import
 enum-told-4 : tie.Need-enum-told-4
@@ -66,7 +66,7 @@ enum-told-5 c = c.match.keys5
 
 -- Kind::Export => -deviation
 sub-result-3 : tie.Need-overflow-sub-result-3
-sub-result-3 c = fits (taken-off c.before.before) tt
+sub-result-3 c = fits (taken_off c.before.before) tt
 
 -- Kind::Unknown
 enum-told-6 : tie.Need-enum-told-6

@@ -1,7 +1,7 @@
 -- `formula::deviation::export_deviation` meets its contract: every step fits, and so what is stored is what is meant.
 use lib.IntN.{pos}
 use Rattle.whole.proofs.Machine.{Num, #, ◌:-◌, ◌:*◌, fits, stored}
-use Rattle.rules.specs.Deviation.{exportDeviation}
+use Rattle.rules.specs.Deviation.{export_deviation}
 use Rattle.formula.proofs.Terms.{S, A, J}
 use Rattle.formula.proofs.deviation.export_deviation.Statement.{statement}
 use Rattle.formula.proofs.deviation.export_deviation.Tie as tie
@@ -21,7 +21,7 @@ module _ (c : tie.Start) where
   energy = short :- J c.requires
 
 returns : tie.Need-returns
-unfolding exportDeviation
+unfolding export_deviation
 returns c = stored (# (pos 10000) :* energy (at_j c)) tt
 
 -- r.s - r.a

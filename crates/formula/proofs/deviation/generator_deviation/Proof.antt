@@ -1,10 +1,10 @@
 -- `formula::deviation::generator_deviation` meets its contract: every step fits, and so what is stored is what is meant.
 use mathlib.Core.Path.{◌∙◌, ap}
 use lib.IntN.{pos}
-use Rattle.whole.specs.Signed.{minℤ}
-use Rattle.whole.proofs.Ranges.{u-zero, u-min}
+use Rattle.whole.specs.Signed.{min_ℤ}
+use Rattle.whole.proofs.Ranges.{u_zero, u_min}
 use Rattle.whole.proofs.Machine.{Num, #, result, ◌:-◌, ◌:*◌, fits, stored, bound}
-use Rattle.rules.specs.Deviation.{generatorUnavailable, generatorDeviation}
+use Rattle.rules.specs.Deviation.{generator_unavailable, generator_deviation}
 use Rattle.formula.proofs.Terms.{S, A, J, N, O, M, F, adjusted, ancillary}
 use Rattle.formula.proofs.deviation.generator_deviation.Statement.{statement}
 use Rattle.formula.proofs.deviation.generator_deviation.Tie as tie
@@ -28,8 +28,8 @@ at-ma c = at_n c.before.before
 abbrev at_on : tie.After-struct-told6 → tie.Start
 at_on c = at-ma c.before.before
 
-abbrev at-end : tie.After-least → tie.Start
-at-end c = at_on c.before
+abbrev at_end : tie.After-least → tie.Start
+at_end c = at_on c.before
 
 module _ (c : tie.Start) where
   abbrev produced : Num
@@ -40,12 +40,12 @@ module _ (c : tie.Start) where
 
 abbrev unavailable : tie.After-least → Num
 unavailable c =
-    let x = room (at-end c) in
-    # (pos 10000) :* result (c.least.ensures ∙ ap (minℤ (pos 0)) (stored x tt)) (u-min u-zero (bound x tt))
+    let x = room (at_end c) in
+    # (pos 10000) :* result (c.least.ensures ∙ ap (min_ℤ (pos 0)) (stored x tt)) (u_min u_zero (bound x tt))
 
 returns : tie.Need-returns
-unfolding generatorUnavailable generatorDeviation
-returns c = stored (produced (at-end c) :- unavailable c) tt
+unfolding generator_unavailable generator_deviation
+returns c = stored (produced (at_end c) :- unavailable c) tt
 
 -- r.s * r.f
 mul-result : tie.Need-overflow-mul-result
@@ -92,7 +92,7 @@ mul-result-4 c = fits (unavailable c) tt
 
 -- r.s * r.f - ((r.a - r.j) * r.h - 10000 * r.n) - 10000 * least(0, r.m - r.a - (r.o - r.n))
 sub-result-4 : tie.Need-overflow-sub-result-4
-sub-result-4 c = fits (produced (at-end c) :- unavailable c) tt
+sub-result-4 c = fits (produced (at_end c) :- unavailable c) tt
 
 pub generator-deviation-spec : {M : Type 1} → statement M
 generator-deviation-spec =

@@ -1,6 +1,6 @@
 -- `formula::deviation::import_deviation` meets its contract: every step fits, and so what is stored is what is meant.
 use Rattle.whole.proofs.Machine.{Num, ◌:+◌, ◌:-◌, ◌:*◌, fits, stored}
-use Rattle.rules.specs.Deviation.{importDeviation}
+use Rattle.rules.specs.Deviation.{import_deviation}
 use Rattle.formula.proofs.Terms.{S, A, J, F, adjusted, ancillary}
 use Rattle.formula.proofs.deviation.import_deviation.Statement.{statement}
 use Rattle.formula.proofs.deviation.import_deviation.Tie as tie
@@ -23,7 +23,7 @@ module _ (c : tie.Start) where
   brought = S c.requires :* F c.requires :- adjusted c.requires
 
 returns : tie.Need-returns
-unfolding importDeviation
+unfolding import_deviation
 returns c = stored (brought (at_n c) :+ ancillary (at_n c).requires) tt
 
 -- r.s * r.f

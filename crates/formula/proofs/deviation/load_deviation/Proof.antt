@@ -1,10 +1,10 @@
 -- `formula::deviation::load_deviation` meets its contract: every step fits, and so what is stored is what is meant.
 use mathlib.Core.Path.{◌∙◌, ap}
 use lib.IntN.{pos}
-use Rattle.whole.specs.Signed.{maxℤ}
-use Rattle.whole.proofs.Ranges.{u-zero, u-max}
+use Rattle.whole.specs.Signed.{max_ℤ}
+use Rattle.whole.proofs.Ranges.{u_zero, u_max}
 use Rattle.whole.proofs.Machine.{Num, #, result, ◌:+◌, ◌:-◌, ◌:*◌, fits, stored, bound}
-use Rattle.rules.specs.Deviation.{loadUnavailable, loadDeviation}
+use Rattle.rules.specs.Deviation.{load_unavailable, load_deviation}
 use Rattle.formula.proofs.Terms.{S, A, J, N, O}
 use Rattle.formula.proofs.deviation.load_deviation.Statement.{statement}
 use Rattle.formula.proofs.deviation.load_deviation.Tie as tie
@@ -25,8 +25,8 @@ at_on c = at-s c.before.before
 abbrev at_a : tie.After-struct-told5 → tie.Start
 at_a c = at_on c.before.before
 
-abbrev at-end : tie.After-most → tie.Start
-at-end c = at_a c.before
+abbrev at_end : tie.After-most → tie.Start
+at_end c = at_a c.before
 
 module _ (c : tie.Start) where
   abbrev taken : Num
@@ -37,14 +37,14 @@ module _ (c : tie.Start) where
 
 abbrev unavailable : tie.After-most → Num
 unavailable c =
-    let x = owed (at-end c) in
-    result (c.most.ensures ∙ ap (maxℤ (pos 0)) (stored x tt)) (u-max u-zero (bound x tt))
+    let x = owed (at_end c) in
+    result (c.most.ensures ∙ ap (max_ℤ (pos 0)) (stored x tt)) (u_max u_zero (bound x tt))
 
 abbrev energy : tie.After-most → Num
-energy c = S (at-end c).requires :- taken (at-end c) :- unavailable c
+energy c = S (at_end c).requires :- taken (at_end c) :- unavailable c
 
 returns : tie.Need-returns
-unfolding loadUnavailable loadDeviation
+unfolding load_unavailable load_deviation
 returns c = stored (# (pos 10000) :* energy c) tt
 
 -- r.a - r.j

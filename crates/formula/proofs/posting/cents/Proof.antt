@@ -3,7 +3,7 @@ use mathlib.Core.Path.{◌∙◌, ap}
 use native.Mathlib.Omega.{arith}
 use borrow.Author.Rules.{sfits_of}
 use Rattle.whole.proofs.Machine.{read_back}
-use Rattle.rules.specs.Charge.{centsOf, cents}
+use Rattle.rules.specs.Charge.{cents_of, cents}
 use Rattle.formula.proofs.posting.cents.Statement.{statement}
 use Rattle.formula.proofs.posting.cents.Tie as tie
 
@@ -12,7 +12,7 @@ cents-of-requires c κs = omega arith
 
 returns : tie.Need-returns
 unfolding cents
-returns c = read_back (sfits_of c.cents-of.type-inv) ∙ c.cents-of.ensures ∙ ap (centsOf 10000000) (read_back c.before.ranges.grains)
+returns c = read_back (sfits_of c.cents_of.type-inv) ∙ c.cents_of.ensures ∙ ap (cents_of 10000000) (read_back c.before.ranges.grains)
 
 pub cents-spec : {M : Type 1} → statement M
 cents-spec = tie.close (tie.spec cents-of-requires returns)

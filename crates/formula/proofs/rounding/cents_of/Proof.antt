@@ -7,10 +7,10 @@ use lib.IntN.{ℤ, pos}
 use mir.Syntax.{w64}
 use mir.Val.{to_z}
 use borrow.Author.Rules.{rules}
-use Rattle.whole.proofs.Ranges.{u-le}
-use Rattle.whole.proofs.Division.{div-by-more, quot-under, rem-under}
-use Rattle.whole.proofs.Machine.{Num, #, local, quotient, rest, any-under, ◌:+◌, ◌:*◌, ◌:/◌, ◌:%◌, fits, stored, bound, back, read_back, i64-is}
-use Rattle.rules.proofs.Rounding.{by-quotients}
+use Rattle.whole.proofs.Ranges.{u_le}
+use Rattle.whole.proofs.Division.{div_by_more, quot_under, rem_under}
+use Rattle.whole.proofs.Machine.{Num, #, local, quotient, rest, any_under, ◌:+◌, ◌:*◌, ◌:/◌, ◌:%◌, fits, stored, bound, back, read_back, i64_is}
+use Rattle.rules.proofs.Rounding.{by_quotients}
 use Rattle.formula.proofs.rounding.cents_of.Statement.{statement}
 use Rattle.formula.proofs.rounding.cents_of.Tie as tie
 
@@ -22,7 +22,7 @@ module _ (c : tie.Start) where
   few = omega arith
 
   half_is : to_z w64 half ≡ pos half
-  half_is = i64-is (omega (arith, few))
+  half_is = i64_is (omega (arith, few))
 
   abbrev h : Num
   h = local {k = 4294967295} half_is (record { under = omega (arith, few) })
@@ -36,22 +36,22 @@ module _ (c : tie.Start) where
   abbrev amount : ℤ
   amount = c.args.amount
 
-  amount-is : back amount ≡ amount
-  amount-is = read_back c.ranges.amount
+  amount_is : back amount ≡ amount
+  amount_is = read_back c.ranges.amount
 
   -- amount / cent and amount % cent
   abbrev whole : Num
-  whole = quotient {k = 4611686018427387904} amount-is (stored cent tt)
-      (u-le (quot-under amount 9223372036854775808 (omega arith) (any-under amount c.ranges.amount))
-      (div-by-more 9223372036854775808 {s = 2} (omega arith) (omega (arith, c.requires))))
+  whole = quotient {k = 4611686018427387904} amount_is (stored cent tt)
+      (u_le (quot_under amount 9223372036854775808 (omega arith) (any_under amount c.ranges.amount))
+      (div_by_more 9223372036854775808 {s = 2} (omega arith) (omega (arith, c.requires))))
 
   abbrev left : Num
-  left = rest {k = 8589934590} amount-is (stored cent tt) (u-le (rem-under amount (omega arith)) (omega (arith, few))) :+ whole :% 2
+  left = rest {k = 8589934590} amount_is (stored cent tt) (u_le (rem_under amount (omega arith)) (omega (arith, few))) :+ whole :% 2
 
   -- one cent more, or none
   abbrev more : Num
   more = quotient {k = 8589934592} (stored left tt) (stored next tt)
-      (u-le (quot-under left.z 8589934592 (omega arith) (bound left tt)) (div-by-more 8589934592 {s = 1} (omega arith) (omega arith)))
+      (u_le (quot_under left.z 8589934592 (omega arith) (bound left tt)) (div_by_more 8589934592 {s = 1} (omega arith) (omega arith)))
 
   abbrev rounded : Num
   rounded = whole :+ more
@@ -92,7 +92,7 @@ add-result-3 : tie.Need-overflow-add-result-3
 add-result-3 c = fits (rounded c) tt
 
 returns : tie.Need-returns
-returns c = stored (rounded c) tt ∙ by-quotients (half c) (amount c) c.requires
+returns c = stored (rounded c) tt ∙ by_quotients (half c) (amount c) c.requires
 
 pub cents-of-spec : {M : Type 1} → statement M
 cents-of-spec = tie.close (tie.spec cast-h mul-cent div-whole rem-result rem-result-2 add-result add-result-2 div-result add-result-3 returns)

@@ -2335,7 +2335,7 @@ module _ (claims· : Claims) where
         pub put-deviations : After-put-deviations·own before
 
       abbrev pub After-put-deviations·gave : (c : After-put-deviations) → (s28 c.before.before.before.before.before.before.before.before.before.before.blocks).gives (m27 c.before.before c.before.put-deviations-arg.given)
-      After-put-deviations·gave = λ c. Called.given ps·4 r·4 claims·.9 T31 (record { pos = 1; ty = Syntax.ty_ref (Syntax.named 0) Syntax.imm (Syntax.ty_int Syntax.w8); ref = λ x. x }, (record { pos = 8; st = List.[]; d = 0; at = λ x. x }, (record { pos = 19; ty = Syntax.ty_ref Syntax.erased Syntax.mut (Syntax.ty_int Syntax.w64); ref = λ x. x }, tt))) (m27 c.before.before c.before.put-deviations-arg.given) c.put-deviations
+      After-put-deviations·gave = λ c. Called.given ps·4 r·4 claims·.9 T31 (record { pos = 1; ty = Syntax.ty_ref (Syntax.named 0) Syntax.imm (Syntax.ty_int Syntax.w8); ref = λ x. x }, (record { pos = 8; st = List.[]; d = 0; at = λ x. x }, (record { pos = 19; ty = Syntax.ty_ref Syntax.erased Syntax.mut (Syntax.ty_int Syntax.w64); ref = λ x. x }, tt))) (m27 c.before.before c.before.put-deviations-arg.given) c.put_deviations
 
       abbrev pub m29 : (before : After-put-deviations-arg) → (given : (s28 before.before.before.before.before.before.before.before.before.before.blocks).gives (m27 before.before before.put-deviations-arg.given)) → Typed.Mo T33
       m29 = λ before given. s29 before.before.before.before.before.before.before.before.before.before.blocks (m28 before given)
@@ -2391,7 +2391,7 @@ module _ (claims· : Claims) where
         pub put-shares : After-put-shares·own before
 
       abbrev pub After-put-shares·gave : (c : After-put-shares) → (s37 c.before.before.before.before.before.before.before.before.before.before.before.before.before.before.blocks).gives (m33 c.before.before c.before.put-shares-arg.given)
-      After-put-shares·gave = λ c. Called.given ps·5 r·5 claims·.11 T40 (record { pos = 1; ty = Syntax.ty_ref (Syntax.named 0) Syntax.imm (Syntax.ty_int Syntax.w8); ref = λ x. x }, (record { pos = 8; st = List.[]; d = 0; at = λ x. x }, (record { pos = 11; st = List.[]; d = 0; at = λ x. x }, (record { pos = 21; ty = Syntax.ty_ref Syntax.erased Syntax.mut (Syntax.ty_int Syntax.w64); ref = λ x. x }, tt)))) (m33 c.before.before c.before.put-shares-arg.given) c.put-shares
+      After-put-shares·gave = λ c. Called.given ps·5 r·5 claims·.11 T40 (record { pos = 1; ty = Syntax.ty_ref (Syntax.named 0) Syntax.imm (Syntax.ty_int Syntax.w8); ref = λ x. x }, (record { pos = 8; st = List.[]; d = 0; at = λ x. x }, (record { pos = 11; st = List.[]; d = 0; at = λ x. x }, (record { pos = 21; ty = Syntax.ty_ref Syntax.erased Syntax.mut (Syntax.ty_int Syntax.w64); ref = λ x. x }, tt)))) (m33 c.before.before c.before.put-shares-arg.given) c.put_shares
 
       abbrev pub m35 : (before : After-put-shares-arg) → (given : (s37 before.before.before.before.before.before.before.before.before.before.before.before.before.before.blocks).gives (m33 before.before before.put-shares-arg.given)) → Typed.Mo T42
       m35 = λ before given. s38 before.before.before.before.before.before.before.before.before.before.before.before.before.before.blocks (m34 before given)
@@ -2467,7 +2467,7 @@ module _ (claims· : Claims) where
         pub put-lines : After-put-lines·own before
 
       abbrev pub After-put-lines·gave : (c : After-put-lines) → (s52 c.before.before.before.before.before.before.before.before.before.before.before.before.before.before.before.before.before.before.before.blocks).gives (m43 c.before.before c.before.put-lines-arg3.given)
-      After-put-lines·gave = λ c. Called.given ps·6 r·6 claims·.13 T55 (record { pos = 1; ty = Syntax.ty_ref (Syntax.named 0) Syntax.imm (Syntax.ty_int Syntax.w8); ref = λ x. x }, (record { pos = 8; st = List.[]; d = 0; at = λ x. x }, (record { pos = 23; ty = Syntax.ty_ref Syntax.erased Syntax.imm (Syntax.ty_int Syntax.w64); ref = λ x. x }, (record { pos = 25; ty = Syntax.ty_ref Syntax.erased Syntax.imm (Syntax.ty_int Syntax.w64); ref = λ x. x }, (record { pos = 27; ty = Syntax.ty_ref Syntax.erased Syntax.mut LineKit.behind; ref = λ x. x }, tt))))) (m43 c.before.before c.before.put-lines-arg3.given) c.put-lines
+      After-put-lines·gave = λ c. Called.given ps·6 r·6 claims·.13 T55 (record { pos = 1; ty = Syntax.ty_ref (Syntax.named 0) Syntax.imm (Syntax.ty_int Syntax.w8); ref = λ x. x }, (record { pos = 8; st = List.[]; d = 0; at = λ x. x }, (record { pos = 23; ty = Syntax.ty_ref Syntax.erased Syntax.imm (Syntax.ty_int Syntax.w64); ref = λ x. x }, (record { pos = 25; ty = Syntax.ty_ref Syntax.erased Syntax.imm (Syntax.ty_int Syntax.w64); ref = λ x. x }, (record { pos = 27; ty = Syntax.ty_ref Syntax.erased Syntax.mut LineKit.behind; ref = λ x. x }, tt))))) (m43 c.before.before c.before.put-lines-arg3.given) c.put_lines
 
       abbrev pub m45 : (before : After-put-lines-arg3) → (given : (s52 before.before.before.before.before.before.before.before.before.before.before.before.before.before.before.before.before.before.before.blocks).gives (m43 before.before before.put-lines-arg3.given)) → Typed.Mo T57
       m45 = λ before given. s53 before.before.before.before.before.before.before.before.before.before.before.before.before.before.before.before.before.before.before.blocks (m44 before given)
@@ -2538,7 +2538,7 @@ module _ (claims· : Claims) where
         pub put-charges : After-put-charges·own before
 
       abbrev pub After-put-charges·gave : (c : After-put-charges) → (s71 c.before.before.before.before.before.before.before.before.before.before.before.before.before.before.before.before.before.before.before.before.before.before.before.blocks).gives (m54 c.before.before c.before.put-charges-arg2.given)
-      After-put-charges·gave = λ c. Called.given ps·7 r·7 claims·.15 T74 (record { pos = 29; ty = Syntax.ty_ref Syntax.erased Syntax.imm LineKit.behind; ref = λ x. x }, (Num.v_fld 8 (List.◌∷◌ (Syntax.field 0) List.[]) 0 λ x. ((Head.struct).as_values x).0, (record { pos = 31; ty = Syntax.ty_ref Syntax.erased Syntax.mut (Syntax.ty_int Syntax.w64); ref = λ x. x }, tt))) (m54 c.before.before c.before.put-charges-arg2.given) c.put-charges
+      After-put-charges·gave = λ c. Called.given ps·7 r·7 claims·.15 T74 (record { pos = 29; ty = Syntax.ty_ref Syntax.erased Syntax.imm LineKit.behind; ref = λ x. x }, (Num.v_fld 8 (List.◌∷◌ (Syntax.field 0) List.[]) 0 λ x. ((Head.struct).as_values x).0, (record { pos = 31; ty = Syntax.ty_ref Syntax.erased Syntax.mut (Syntax.ty_int Syntax.w64); ref = λ x. x }, tt))) (m54 c.before.before c.before.put-charges-arg2.given) c.put_charges
 
       abbrev pub m56 : (before : After-put-charges-arg2) → (given : (s71 before.before.before.before.before.before.before.before.before.before.before.before.before.before.before.before.before.before.before.before.before.before.before.blocks).gives (m54 before.before before.put-charges-arg2.given)) → Typed.Mo T76
       m56 = λ before given. s72 before.before.before.before.before.before.before.before.before.before.before.before.before.before.before.before.before.before.before.before.before.before.before.blocks (m55 before given)
@@ -2603,7 +2603,7 @@ module _ (claims· : Claims) where
         pub put-finals : After-put-finals·own before
 
       abbrev pub After-put-finals·gave : (c : After-put-finals) → (s86 c.before.before.before.before.before.before.before.before.before.before.before.before.before.before.before.before.before.before.before.before.before.before.before.before.before.before.before.blocks).gives (m63 c.before.before c.before.put-finals-arg2.given)
-      After-put-finals·gave = λ c. Called.given ps·8 r·8 claims·.17 T89 (record { pos = 1; ty = Syntax.ty_ref (Syntax.named 0) Syntax.imm (Syntax.ty_int Syntax.w8); ref = λ x. x }, (record { pos = 8; st = List.[]; d = 0; at = λ x. x }, (record { pos = 33; ty = Syntax.ty_ref Syntax.erased Syntax.imm (Syntax.ty_int Syntax.w64); ref = λ x. x }, (record { pos = 35; ty = Syntax.ty_ref Syntax.erased Syntax.mut (Syntax.ty_int Syntax.w64); ref = λ x. x }, tt)))) (m63 c.before.before c.before.put-finals-arg2.given) c.put-finals
+      After-put-finals·gave = λ c. Called.given ps·8 r·8 claims·.17 T89 (record { pos = 1; ty = Syntax.ty_ref (Syntax.named 0) Syntax.imm (Syntax.ty_int Syntax.w8); ref = λ x. x }, (record { pos = 8; st = List.[]; d = 0; at = λ x. x }, (record { pos = 33; ty = Syntax.ty_ref Syntax.erased Syntax.imm (Syntax.ty_int Syntax.w64); ref = λ x. x }, (record { pos = 35; ty = Syntax.ty_ref Syntax.erased Syntax.mut (Syntax.ty_int Syntax.w64); ref = λ x. x }, tt)))) (m63 c.before.before c.before.put-finals-arg2.given) c.put_finals
 
       abbrev pub m65 : (before : After-put-finals-arg2) → (given : (s86 before.before.before.before.before.before.before.before.before.before.before.before.before.before.before.before.before.before.before.before.before.before.before.before.before.before.before.blocks).gives (m63 before.before before.put-finals-arg2.given)) → Typed.Mo T91
       m65 = λ before given. s87 before.before.before.before.before.before.before.before.before.before.before.before.before.before.before.before.before.before.before.before.before.before.before.before.before.before.before.blocks (m64 before given)
@@ -2654,19 +2654,19 @@ module _ (claims· : Claims) where
 
       module _ (examine-requires : Need-examine-requires) (enum_told : Need-enum-told) (refused-requires : Need-refused-requires) (returns : Need-returns) (head-of-requires : Need-head-of-requires) (answered-requires : Need-answered-requires) (enum-told-2 : Need-enum-told-2) (returns-2 : Need-returns-2) (put-deviations-requires : Need-put-deviations-requires) (put-shares-requires : Need-put-shares-requires) (put-lines-requires : Need-put-lines-requires) (put-charges-requires : Need-put-charges-requires) (put-finals-requires : Need-put-finals-requires) (same_length : Need-same-length) (same-length-2 : Need-same-length-2) (same-length-3 : Need-same-length-3) (same-length-4 : Need-same-length-4) (same-length-5 : Need-same-length-5) (returns-3 : Need-returns-3) where
         lay11 : (c : After-put-finals) → at27 c.before.before.before.before.before.before.before.before.before.before.before.before.before.before.before.before.before.before.before.before.before.before.before.before.before.before.before.blocks (W0 c.before.before.before.before.before.before.before.before.before.before.before.before.before.before.before.before.before.before.before.before.before.before.before.before.before.before.before.κs c.before.before.before.before.before.before.before.before.before.before.before.before.before.before.before.before.before.before.before.before.before.before.before.before.before.before.before.args c.before.before.before.before.before.before.before.before.before.before.before.before.before.before.before.before.before.before.before.before.before.before.before.before.before.before.before.blocks) (m64 c.before (After-put-finals·gave c))
-        lay11 = λ c. (Path'.refl, λ g. ((Path'.refl, (MutSlice.fix_len (Row.get 2 T101.locals (m71 record { before = c.before; put-finals = c.put-finals } g)).ptr (Row.get 2 T101.locals (m71 record { before = c.before; put-finals = c.put-finals } g)).name (Row.get 2 T101.locals (m71 record { before = c.before; put-finals = c.put-finals } g)).now (dens c.before.before.before.before.before.before.before.before.before.before.before.before.before.before.before.before.before.before.before.before.before.before.before.before.before.before.before.κs c.before.before.before.before.before.before.before.before.before.before.before.before.before.before.before.before.before.before.before.before.before.before.before.before.before.before.before.args).1.0.now (same_length record { before = record { before = c.before; put-finals = c.put-finals }; finals = record { given = g } }), (MutSlice.fix_len (Row.get 3 T101.locals (m71 record { before = c.before; put-finals = c.put-finals } g)).ptr (Row.get 3 T101.locals (m71 record { before = c.before; put-finals = c.put-finals } g)).name (Row.get 3 T101.locals (m71 record { before = c.before; put-finals = c.put-finals } g)).now (dens c.before.before.before.before.before.before.before.before.before.before.before.before.before.before.before.before.before.before.before.before.before.before.before.before.before.before.before.κs c.before.before.before.before.before.before.before.before.before.before.before.before.before.before.before.before.before.before.before.before.before.before.before.before.before.before.before.args).1.1.0.now (same-length-2 record { before = record { before = c.before; put-finals = c.put-finals }; finals = record { given = g } }), (MutSlice.fix_len (Row.get 4 T101.locals (m71 record { before = c.before; put-finals = c.put-finals } g)).ptr (Row.get 4 T101.locals (m71 record { before = c.before; put-finals = c.put-finals } g)).name (Row.get 4 T101.locals (m71 record { before = c.before; put-finals = c.put-finals } g)).now (dens c.before.before.before.before.before.before.before.before.before.before.before.before.before.before.before.before.before.before.before.before.before.before.before.before.before.before.before.κs c.before.before.before.before.before.before.before.before.before.before.before.before.before.before.before.before.before.before.before.before.before.before.before.before.before.before.before.args).1.1.1.0.now (same-length-3 record { before = record { before = c.before; put-finals = c.put-finals }; finals = record { given = g } }), (MutSlice.fix_len (Row.get 5 T101.locals (m71 record { before = c.before; put-finals = c.put-finals } g)).ptr (Row.get 5 T101.locals (m71 record { before = c.before; put-finals = c.put-finals } g)).name (Row.get 5 T101.locals (m71 record { before = c.before; put-finals = c.put-finals } g)).now (dens c.before.before.before.before.before.before.before.before.before.before.before.before.before.before.before.before.before.before.before.before.before.before.before.before.before.before.before.κs c.before.before.before.before.before.before.before.before.before.before.before.before.before.before.before.before.before.before.before.before.before.before.before.before.before.before.before.args).1.1.1.1.0.now (same-length-4 record { before = record { before = c.before; put-finals = c.put-finals }; finals = record { given = g } }), (MutSlice.fix_len (Row.get 6 T101.locals (m71 record { before = c.before; put-finals = c.put-finals } g)).ptr (Row.get 6 T101.locals (m71 record { before = c.before; put-finals = c.put-finals } g)).name (Row.get 6 T101.locals (m71 record { before = c.before; put-finals = c.put-finals } g)).now (dens c.before.before.before.before.before.before.before.before.before.before.before.before.before.before.before.before.before.before.before.before.before.before.before.before.before.before.before.κs c.before.before.before.before.before.before.before.before.before.before.before.before.before.before.before.before.before.before.before.before.before.before.before.before.before.before.before.args).1.1.1.1.1.0.now (same-length-5 record { before = record { before = c.before; put-finals = c.put-finals }; finals = record { given = g } }), tt)))))), returns-3 record { before = record { before = c.before; put-finals = c.put-finals }; finals = record { given = g } }))
+        lay11 = λ c. (Path'.refl, λ g. ((Path'.refl, (MutSlice.fix_len (Row.get 2 T101.locals (m71 record { before = c.before; put-finals = c.put_finals } g)).ptr (Row.get 2 T101.locals (m71 record { before = c.before; put-finals = c.put_finals } g)).name (Row.get 2 T101.locals (m71 record { before = c.before; put-finals = c.put_finals } g)).now (dens c.before.before.before.before.before.before.before.before.before.before.before.before.before.before.before.before.before.before.before.before.before.before.before.before.before.before.before.κs c.before.before.before.before.before.before.before.before.before.before.before.before.before.before.before.before.before.before.before.before.before.before.before.before.before.before.before.args).1.0.now (same_length record { before = record { before = c.before; put-finals = c.put_finals }; finals = record { given = g } }), (MutSlice.fix_len (Row.get 3 T101.locals (m71 record { before = c.before; put-finals = c.put_finals } g)).ptr (Row.get 3 T101.locals (m71 record { before = c.before; put-finals = c.put_finals } g)).name (Row.get 3 T101.locals (m71 record { before = c.before; put-finals = c.put_finals } g)).now (dens c.before.before.before.before.before.before.before.before.before.before.before.before.before.before.before.before.before.before.before.before.before.before.before.before.before.before.before.κs c.before.before.before.before.before.before.before.before.before.before.before.before.before.before.before.before.before.before.before.before.before.before.before.before.before.before.before.args).1.1.0.now (same-length-2 record { before = record { before = c.before; put-finals = c.put_finals }; finals = record { given = g } }), (MutSlice.fix_len (Row.get 4 T101.locals (m71 record { before = c.before; put-finals = c.put_finals } g)).ptr (Row.get 4 T101.locals (m71 record { before = c.before; put-finals = c.put_finals } g)).name (Row.get 4 T101.locals (m71 record { before = c.before; put-finals = c.put_finals } g)).now (dens c.before.before.before.before.before.before.before.before.before.before.before.before.before.before.before.before.before.before.before.before.before.before.before.before.before.before.before.κs c.before.before.before.before.before.before.before.before.before.before.before.before.before.before.before.before.before.before.before.before.before.before.before.before.before.before.before.args).1.1.1.0.now (same-length-3 record { before = record { before = c.before; put-finals = c.put_finals }; finals = record { given = g } }), (MutSlice.fix_len (Row.get 5 T101.locals (m71 record { before = c.before; put-finals = c.put_finals } g)).ptr (Row.get 5 T101.locals (m71 record { before = c.before; put-finals = c.put_finals } g)).name (Row.get 5 T101.locals (m71 record { before = c.before; put-finals = c.put_finals } g)).now (dens c.before.before.before.before.before.before.before.before.before.before.before.before.before.before.before.before.before.before.before.before.before.before.before.before.before.before.before.κs c.before.before.before.before.before.before.before.before.before.before.before.before.before.before.before.before.before.before.before.before.before.before.before.before.before.before.before.args).1.1.1.1.0.now (same-length-4 record { before = record { before = c.before; put-finals = c.put_finals }; finals = record { given = g } }), (MutSlice.fix_len (Row.get 6 T101.locals (m71 record { before = c.before; put-finals = c.put_finals } g)).ptr (Row.get 6 T101.locals (m71 record { before = c.before; put-finals = c.put_finals } g)).name (Row.get 6 T101.locals (m71 record { before = c.before; put-finals = c.put_finals } g)).now (dens c.before.before.before.before.before.before.before.before.before.before.before.before.before.before.before.before.before.before.before.before.before.before.before.before.before.before.before.κs c.before.before.before.before.before.before.before.before.before.before.before.before.before.before.before.before.before.before.before.before.before.before.before.before.before.before.before.args).1.1.1.1.1.0.now (same-length-5 record { before = record { before = c.before; put-finals = c.put_finals }; finals = record { given = g } }), tt)))))), returns-3 record { before = record { before = c.before; put-finals = c.put_finals }; finals = record { given = g } }))
 
         lay10 : (c : After-put-charges) → at42 c.before.before.before.before.before.before.before.before.before.before.before.before.before.before.before.before.before.before.before.before.before.before.before.blocks (W0 c.before.before.before.before.before.before.before.before.before.before.before.before.before.before.before.before.before.before.before.before.before.before.before.κs c.before.before.before.before.before.before.before.before.before.before.before.before.before.before.before.before.before.before.before.before.before.before.before.args c.before.before.before.before.before.before.before.before.before.before.before.before.before.before.before.before.before.before.before.before.before.before.before.blocks) (m55 c.before (After-put-charges·gave c))
-        lay10 = λ c. (Path'.refl, λ g. λ g'. (Path'.refl, λ g''. (Path'.refl, (put-finals-requires record { before = record { before = record { before = record { before = c.before; put-charges = c.put-charges }; charges = record { given = g } }; put-finals-arg = record { given = g' } }; put-finals-arg2 = record { given = g'' } }, λ g'3. lay11 record { before = record { before = record { before = record { before = record { before = c.before; put-charges = c.put-charges }; charges = record { given = g } }; put-finals-arg = record { given = g' } }; put-finals-arg2 = record { given = g'' } }; put-finals = Called.called ps·8 r·8 claims·.17 T89 (record { pos = 1; ty = Syntax.ty_ref (Syntax.named 0) Syntax.imm (Syntax.ty_int Syntax.w8); ref = λ x. x }, (record { pos = 8; st = List.[]; d = 0; at = λ x. x }, (record { pos = 33; ty = Syntax.ty_ref Syntax.erased Syntax.imm (Syntax.ty_int Syntax.w64); ref = λ x. x }, (record { pos = 35; ty = Syntax.ty_ref Syntax.erased Syntax.mut (Syntax.ty_int Syntax.w64); ref = λ x. x }, tt)))) (m63 record { before = record { before = record { before = c.before; put-charges = c.put-charges }; charges = record { given = g } }; put-finals-arg = record { given = g' } } g'') g'3 }))))
+        lay10 = λ c. (Path'.refl, λ g. λ g'. (Path'.refl, λ g''. (Path'.refl, (put-finals-requires record { before = record { before = record { before = record { before = c.before; put-charges = c.put_charges }; charges = record { given = g } }; put-finals-arg = record { given = g' } }; put-finals-arg2 = record { given = g'' } }, λ g'3. lay11 record { before = record { before = record { before = record { before = record { before = c.before; put-charges = c.put_charges }; charges = record { given = g } }; put-finals-arg = record { given = g' } }; put-finals-arg2 = record { given = g'' } }; put-finals = Called.called ps·8 r·8 claims·.17 T89 (record { pos = 1; ty = Syntax.ty_ref (Syntax.named 0) Syntax.imm (Syntax.ty_int Syntax.w8); ref = λ x. x }, (record { pos = 8; st = List.[]; d = 0; at = λ x. x }, (record { pos = 33; ty = Syntax.ty_ref Syntax.erased Syntax.imm (Syntax.ty_int Syntax.w64); ref = λ x. x }, (record { pos = 35; ty = Syntax.ty_ref Syntax.erased Syntax.mut (Syntax.ty_int Syntax.w64); ref = λ x. x }, tt)))) (m63 record { before = record { before = record { before = c.before; put-charges = c.put_charges }; charges = record { given = g } }; put-finals-arg = record { given = g' } } g'') g'3 }))))
 
         lay9 : (c : After-put-lines) → at61 c.before.before.before.before.before.before.before.before.before.before.before.before.before.before.before.before.before.before.before.blocks (W0 c.before.before.before.before.before.before.before.before.before.before.before.before.before.before.before.before.before.before.before.κs c.before.before.before.before.before.before.before.before.before.before.before.before.before.before.before.before.before.before.before.args c.before.before.before.before.before.before.before.before.before.before.before.before.before.before.before.before.before.before.before.blocks) (m44 c.before (After-put-lines·gave c))
-        lay9 = λ c. (Path'.refl, λ g. λ g'. (Path'.refl, λ g''. (Path'.refl, (put-charges-requires record { before = record { before = record { before = record { before = c.before; put-lines = c.put-lines }; lines = record { given = g } }; put-charges-arg = record { given = g' } }; put-charges-arg2 = record { given = g'' } }, λ g'3. lay10 record { before = record { before = record { before = record { before = record { before = c.before; put-lines = c.put-lines }; lines = record { given = g } }; put-charges-arg = record { given = g' } }; put-charges-arg2 = record { given = g'' } }; put-charges = Called.called ps·7 r·7 claims·.15 T74 (record { pos = 29; ty = Syntax.ty_ref Syntax.erased Syntax.imm LineKit.behind; ref = λ x. x }, (Num.v_fld 8 (List.◌∷◌ (Syntax.field 0) List.[]) 0 λ x. ((Head.struct).as_values x).0, (record { pos = 31; ty = Syntax.ty_ref Syntax.erased Syntax.mut (Syntax.ty_int Syntax.w64); ref = λ x. x }, tt))) (m54 record { before = record { before = record { before = c.before; put-lines = c.put-lines }; lines = record { given = g } }; put-charges-arg = record { given = g' } } g'') g'3 }))))
+        lay9 = λ c. (Path'.refl, λ g. λ g'. (Path'.refl, λ g''. (Path'.refl, (put-charges-requires record { before = record { before = record { before = record { before = c.before; put-lines = c.put_lines }; lines = record { given = g } }; put-charges-arg = record { given = g' } }; put-charges-arg2 = record { given = g'' } }, λ g'3. lay10 record { before = record { before = record { before = record { before = record { before = c.before; put-lines = c.put_lines }; lines = record { given = g } }; put-charges-arg = record { given = g' } }; put-charges-arg2 = record { given = g'' } }; put-charges = Called.called ps·7 r·7 claims·.15 T74 (record { pos = 29; ty = Syntax.ty_ref Syntax.erased Syntax.imm LineKit.behind; ref = λ x. x }, (Num.v_fld 8 (List.◌∷◌ (Syntax.field 0) List.[]) 0 λ x. ((Head.struct).as_values x).0, (record { pos = 31; ty = Syntax.ty_ref Syntax.erased Syntax.mut (Syntax.ty_int Syntax.w64); ref = λ x. x }, tt))) (m54 record { before = record { before = record { before = c.before; put-lines = c.put_lines }; lines = record { given = g } }; put-charges-arg = record { given = g' } } g'') g'3 }))))
 
         lay8 : (c : After-put-shares) → at76 c.before.before.before.before.before.before.before.before.before.before.before.before.before.before.blocks (W0 c.before.before.before.before.before.before.before.before.before.before.before.before.before.before.κs c.before.before.before.before.before.before.before.before.before.before.before.before.before.before.args c.before.before.before.before.before.before.before.before.before.before.before.before.before.before.blocks) (m34 c.before (After-put-shares·gave c))
-        lay8 = λ c. (Path'.refl, λ g. λ g'. (Path'.refl, λ g''. (Path'.refl, λ g'3. (Path'.refl, (put-lines-requires record { before = record { before = record { before = record { before = record { before = c.before; put-shares = c.put-shares }; shares = record { given = g } }; put-lines-arg = record { given = g' } }; put-lines-arg2 = record { given = g'' } }; put-lines-arg3 = record { given = g'3 } }, λ g'4. lay9 record { before = record { before = record { before = record { before = record { before = record { before = c.before; put-shares = c.put-shares }; shares = record { given = g } }; put-lines-arg = record { given = g' } }; put-lines-arg2 = record { given = g'' } }; put-lines-arg3 = record { given = g'3 } }; put-lines = Called.called ps·6 r·6 claims·.13 T55 (record { pos = 1; ty = Syntax.ty_ref (Syntax.named 0) Syntax.imm (Syntax.ty_int Syntax.w8); ref = λ x. x }, (record { pos = 8; st = List.[]; d = 0; at = λ x. x }, (record { pos = 23; ty = Syntax.ty_ref Syntax.erased Syntax.imm (Syntax.ty_int Syntax.w64); ref = λ x. x }, (record { pos = 25; ty = Syntax.ty_ref Syntax.erased Syntax.imm (Syntax.ty_int Syntax.w64); ref = λ x. x }, (record { pos = 27; ty = Syntax.ty_ref Syntax.erased Syntax.mut LineKit.behind; ref = λ x. x }, tt))))) (m43 record { before = record { before = record { before = record { before = c.before; put-shares = c.put-shares }; shares = record { given = g } }; put-lines-arg = record { given = g' } }; put-lines-arg2 = record { given = g'' } } g'3) g'4 })))))
+        lay8 = λ c. (Path'.refl, λ g. λ g'. (Path'.refl, λ g''. (Path'.refl, λ g'3. (Path'.refl, (put-lines-requires record { before = record { before = record { before = record { before = record { before = c.before; put-shares = c.put_shares }; shares = record { given = g } }; put-lines-arg = record { given = g' } }; put-lines-arg2 = record { given = g'' } }; put-lines-arg3 = record { given = g'3 } }, λ g'4. lay9 record { before = record { before = record { before = record { before = record { before = record { before = c.before; put-shares = c.put_shares }; shares = record { given = g } }; put-lines-arg = record { given = g' } }; put-lines-arg2 = record { given = g'' } }; put-lines-arg3 = record { given = g'3 } }; put-lines = Called.called ps·6 r·6 claims·.13 T55 (record { pos = 1; ty = Syntax.ty_ref (Syntax.named 0) Syntax.imm (Syntax.ty_int Syntax.w8); ref = λ x. x }, (record { pos = 8; st = List.[]; d = 0; at = λ x. x }, (record { pos = 23; ty = Syntax.ty_ref Syntax.erased Syntax.imm (Syntax.ty_int Syntax.w64); ref = λ x. x }, (record { pos = 25; ty = Syntax.ty_ref Syntax.erased Syntax.imm (Syntax.ty_int Syntax.w64); ref = λ x. x }, (record { pos = 27; ty = Syntax.ty_ref Syntax.erased Syntax.mut LineKit.behind; ref = λ x. x }, tt))))) (m43 record { before = record { before = record { before = record { before = c.before; put-shares = c.put_shares }; shares = record { given = g } }; put-lines-arg = record { given = g' } }; put-lines-arg2 = record { given = g'' } } g'3) g'4 })))))
 
         lay7 : (c : After-put-deviations) → at85 c.before.before.before.before.before.before.before.before.before.before.blocks (W0 c.before.before.before.before.before.before.before.before.before.before.κs c.before.before.before.before.before.before.before.before.before.before.args c.before.before.before.before.before.before.before.before.before.before.blocks) (m28 c.before (After-put-deviations·gave c))
-        lay7 = λ c. (Path'.refl, λ g. (tt, λ g'. λ g''. (Path'.refl, (put-shares-requires record { before = record { before = record { before = record { before = c.before; put-deviations = c.put-deviations }; deviations = record { given = g } }; figures = record { given = g' } }; put-shares-arg = record { given = g'' } }, λ g'3. lay8 record { before = record { before = record { before = record { before = record { before = c.before; put-deviations = c.put-deviations }; deviations = record { given = g } }; figures = record { given = g' } }; put-shares-arg = record { given = g'' } }; put-shares = Called.called ps·5 r·5 claims·.11 T40 (record { pos = 1; ty = Syntax.ty_ref (Syntax.named 0) Syntax.imm (Syntax.ty_int Syntax.w8); ref = λ x. x }, (record { pos = 8; st = List.[]; d = 0; at = λ x. x }, (record { pos = 11; st = List.[]; d = 0; at = λ x. x }, (record { pos = 21; ty = Syntax.ty_ref Syntax.erased Syntax.mut (Syntax.ty_int Syntax.w64); ref = λ x. x }, tt)))) (m33 record { before = record { before = record { before = c.before; put-deviations = c.put-deviations }; deviations = record { given = g } }; figures = record { given = g' } } g'') g'3 }))))
+        lay7 = λ c. (Path'.refl, λ g. (tt, λ g'. λ g''. (Path'.refl, (put-shares-requires record { before = record { before = record { before = record { before = c.before; put-deviations = c.put_deviations }; deviations = record { given = g } }; figures = record { given = g' } }; put-shares-arg = record { given = g'' } }, λ g'3. lay8 record { before = record { before = record { before = record { before = record { before = c.before; put-deviations = c.put_deviations }; deviations = record { given = g } }; figures = record { given = g' } }; put-shares-arg = record { given = g'' } }; put-shares = Called.called ps·5 r·5 claims·.11 T40 (record { pos = 1; ty = Syntax.ty_ref (Syntax.named 0) Syntax.imm (Syntax.ty_int Syntax.w8); ref = λ x. x }, (record { pos = 8; st = List.[]; d = 0; at = λ x. x }, (record { pos = 11; st = List.[]; d = 0; at = λ x. x }, (record { pos = 21; ty = Syntax.ty_ref Syntax.erased Syntax.mut (Syntax.ty_int Syntax.w64); ref = λ x. x }, tt)))) (m33 record { before = record { before = record { before = c.before; put-deviations = c.put_deviations }; deviations = record { given = g } }; figures = record { given = g' } } g'') g'3 }))))
 
         lay6 : (c : After-enum-told2) → at89 c.before.before.before.before.before.before.before.before.blocks (W0 c.before.before.before.before.before.before.before.before.κs c.before.before.before.before.before.before.before.before.args c.before.before.before.before.before.before.before.before.blocks) (m21 c.before c.enum-told2.given)
         lay6 = λ c. λ g. (Path'.refl, (put-deviations-requires record { before = record { before = c.before; enum-told2 = c.enum-told2 }; put-deviations-arg = record { given = g } }, λ g'. lay7 record { before = record { before = record { before = c.before; enum-told2 = c.enum-told2 }; put-deviations-arg = record { given = g } }; put-deviations = Called.called ps·4 r·4 claims·.9 T31 (record { pos = 1; ty = Syntax.ty_ref (Syntax.named 0) Syntax.imm (Syntax.ty_int Syntax.w8); ref = λ x. x }, (record { pos = 8; st = List.[]; d = 0; at = λ x. x }, (record { pos = 19; ty = Syntax.ty_ref Syntax.erased Syntax.mut (Syntax.ty_int Syntax.w64); ref = λ x. x }, tt))) (m27 record { before = c.before; enum-told2 = c.enum-told2 } g) g' }))

@@ -843,7 +843,7 @@ module _ (claims· : Claims) where
         pub empty-line : After-empty-line·own before
 
       abbrev pub After-empty-line·gave : (c : After-empty-line) → (s1 c.before.before.blocks).gives (m1 c.before.before c.before.shared-slice-known.given)
-      After-empty-line·gave = λ c. Called.given ps·0 r·0 claims·.1 T2 tt (m1 c.before.before c.before.shared-slice-known.given) c.empty-line
+      After-empty-line·gave = λ c. Called.given ps·0 r·0 claims·.1 T2 tt (m1 c.before.before c.before.shared-slice-known.given) c.empty_line
 
       abbrev pub m3 : (before : After-shared-slice-known) → (given : (s1 before.before.blocks).gives (m1 before.before before.shared-slice-known.given)) → Typed.Mo T4
       m3 = λ before given. s2 before.before.blocks (m2 before given)
@@ -1022,7 +1022,7 @@ module _ (claims· : Claims) where
         lay2 = λ c. (Path'.refl, λ g. (Path'.refl, λ g'. (Path'.refl, λ g''. (Path'.refl, λ g'3. (Path'.refl, λ g'4. ((Path'.refl, (MutSlice.fix_len (Row.get 2 T37.locals (m22 record { before = record { before = record { before = record { before = record { before = c.before; settle = c.settle }; lines2 = record { given = g } }; charges = record { given = g' } }; finals = record { given = g'' } }; shares = record { given = g'3 } } g'4)).ptr (Row.get 2 T37.locals (m22 record { before = record { before = record { before = record { before = record { before = c.before; settle = c.settle }; lines2 = record { given = g } }; charges = record { given = g' } }; finals = record { given = g'' } }; shares = record { given = g'3 } } g'4)).name (Row.get 2 T37.locals (m22 record { before = record { before = record { before = record { before = record { before = c.before; settle = c.settle }; lines2 = record { given = g } }; charges = record { given = g' } }; finals = record { given = g'' } }; shares = record { given = g'3 } } g'4)).now (dens c.before.before.before.before.before.before.before.before.κs c.before.before.before.before.before.before.before.before.args).1.0.now (same_length record { before = record { before = record { before = record { before = record { before = record { before = c.before; settle = c.settle }; lines2 = record { given = g } }; charges = record { given = g' } }; finals = record { given = g'' } }; shares = record { given = g'3 } }; deviations = record { given = g'4 } }), (MutSlice.fix_len (Row.get 3 T37.locals (m22 record { before = record { before = record { before = record { before = record { before = c.before; settle = c.settle }; lines2 = record { given = g } }; charges = record { given = g' } }; finals = record { given = g'' } }; shares = record { given = g'3 } } g'4)).ptr (Row.get 3 T37.locals (m22 record { before = record { before = record { before = record { before = record { before = c.before; settle = c.settle }; lines2 = record { given = g } }; charges = record { given = g' } }; finals = record { given = g'' } }; shares = record { given = g'3 } } g'4)).name (Row.get 3 T37.locals (m22 record { before = record { before = record { before = record { before = record { before = c.before; settle = c.settle }; lines2 = record { given = g } }; charges = record { given = g' } }; finals = record { given = g'' } }; shares = record { given = g'3 } } g'4)).now (dens c.before.before.before.before.before.before.before.before.κs c.before.before.before.before.before.before.before.before.args).1.1.0.now (same-length-2 record { before = record { before = record { before = record { before = record { before = record { before = c.before; settle = c.settle }; lines2 = record { given = g } }; charges = record { given = g' } }; finals = record { given = g'' } }; shares = record { given = g'3 } }; deviations = record { given = g'4 } }), (MutSlice.fix_len (Row.get 4 T37.locals (m22 record { before = record { before = record { before = record { before = record { before = c.before; settle = c.settle }; lines2 = record { given = g } }; charges = record { given = g' } }; finals = record { given = g'' } }; shares = record { given = g'3 } } g'4)).ptr (Row.get 4 T37.locals (m22 record { before = record { before = record { before = record { before = record { before = c.before; settle = c.settle }; lines2 = record { given = g } }; charges = record { given = g' } }; finals = record { given = g'' } }; shares = record { given = g'3 } } g'4)).name (Row.get 4 T37.locals (m22 record { before = record { before = record { before = record { before = record { before = c.before; settle = c.settle }; lines2 = record { given = g } }; charges = record { given = g' } }; finals = record { given = g'' } }; shares = record { given = g'3 } } g'4)).now (dens c.before.before.before.before.before.before.before.before.κs c.before.before.before.before.before.before.before.before.args).1.1.1.0.now (same-length-3 record { before = record { before = record { before = record { before = record { before = record { before = c.before; settle = c.settle }; lines2 = record { given = g } }; charges = record { given = g' } }; finals = record { given = g'' } }; shares = record { given = g'3 } }; deviations = record { given = g'4 } }), (MutSlice.fix_len (Row.get 5 T37.locals (m22 record { before = record { before = record { before = record { before = record { before = c.before; settle = c.settle }; lines2 = record { given = g } }; charges = record { given = g' } }; finals = record { given = g'' } }; shares = record { given = g'3 } } g'4)).ptr (Row.get 5 T37.locals (m22 record { before = record { before = record { before = record { before = record { before = c.before; settle = c.settle }; lines2 = record { given = g } }; charges = record { given = g' } }; finals = record { given = g'' } }; shares = record { given = g'3 } } g'4)).name (Row.get 5 T37.locals (m22 record { before = record { before = record { before = record { before = record { before = c.before; settle = c.settle }; lines2 = record { given = g } }; charges = record { given = g' } }; finals = record { given = g'' } }; shares = record { given = g'3 } } g'4)).now (dens c.before.before.before.before.before.before.before.before.κs c.before.before.before.before.before.before.before.before.args).1.1.1.1.0.now (same-length-4 record { before = record { before = record { before = record { before = record { before = record { before = c.before; settle = c.settle }; lines2 = record { given = g } }; charges = record { given = g' } }; finals = record { given = g'' } }; shares = record { given = g'3 } }; deviations = record { given = g'4 } }), tt))))), returns record { before = record { before = record { before = record { before = record { before = record { before = c.before; settle = c.settle }; lines2 = record { given = g } }; charges = record { given = g' } }; finals = record { given = g'' } }; shares = record { given = g'3 } }; deviations = record { given = g'4 } }))))))
 
         lay1 : (c : After-empty-line) → at35 c.before.before.blocks (W0 c.before.before.κs c.before.before.args c.before.before.blocks) (m2 c.before (After-empty-line·gave c))
-        lay1 = λ c. λ g. (Relend.count_is T8 8 9 (λ x. x) (λ u. 32) (m6 record { before = c.before; empty-line = c.empty-line } g) (slice-aggregate-settle record { before = record { before = c.before; empty-line = c.empty-line }; lines = record { given = g } }), λ g'. (Path'.refl, λ g''. (Path'.refl, λ g'3. (Path'.refl, λ g'4. (Path'.refl, (settle-requires record { before = record { before = record { before = record { before = record { before = record { before = c.before; empty-line = c.empty-line }; lines = record { given = g } }; settle-arg = record { given = g' } }; settle-arg2 = record { given = g'' } }; settle-arg3 = record { given = g'3 } }; settle-arg4 = record { given = g'4 } }, λ g'5. lay2 record { before = record { before = record { before = record { before = record { before = record { before = record { before = c.before; empty-line = c.empty-line }; lines = record { given = g } }; settle-arg = record { given = g' } }; settle-arg2 = record { given = g'' } }; settle-arg3 = record { given = g'3 } }; settle-arg4 = record { given = g'4 } }; settle = Called.called ps·1 r·1 claims·.3 T21 (record { pos = 1; ty = Syntax.ty_ref (Syntax.named 0) Syntax.imm (Syntax.ty_int Syntax.w8); ref = λ x. x }, (record { pos = 9; ty = Syntax.ty_ref Syntax.erased Syntax.mut LineKit.behind; ref = λ x. x }, (record { pos = 11; ty = Syntax.ty_ref Syntax.erased Syntax.mut (Syntax.ty_int Syntax.w64); ref = λ x. x }, (record { pos = 13; ty = Syntax.ty_ref Syntax.erased Syntax.mut (Syntax.ty_int Syntax.w64); ref = λ x. x }, (record { pos = 15; ty = Syntax.ty_ref Syntax.erased Syntax.mut (Syntax.ty_int Syntax.w64); ref = λ x. x }, (record { pos = 17; ty = Syntax.ty_ref Syntax.erased Syntax.mut (Syntax.ty_int Syntax.w64); ref = λ x. x }, tt)))))) (m15 record { before = record { before = record { before = record { before = record { before = c.before; empty-line = c.empty-line }; lines = record { given = g } }; settle-arg = record { given = g' } }; settle-arg2 = record { given = g'' } }; settle-arg3 = record { given = g'3 } } g'4) g'5 }))))))
+        lay1 = λ c. λ g. (Relend.count_is T8 8 9 (λ x. x) (λ u. 32) (m6 record { before = c.before; empty-line = c.empty_line } g) (slice-aggregate-settle record { before = record { before = c.before; empty-line = c.empty_line }; lines = record { given = g } }), λ g'. (Path'.refl, λ g''. (Path'.refl, λ g'3. (Path'.refl, λ g'4. (Path'.refl, (settle-requires record { before = record { before = record { before = record { before = record { before = record { before = c.before; empty-line = c.empty_line }; lines = record { given = g } }; settle-arg = record { given = g' } }; settle-arg2 = record { given = g'' } }; settle-arg3 = record { given = g'3 } }; settle-arg4 = record { given = g'4 } }, λ g'5. lay2 record { before = record { before = record { before = record { before = record { before = record { before = record { before = c.before; empty-line = c.empty_line }; lines = record { given = g } }; settle-arg = record { given = g' } }; settle-arg2 = record { given = g'' } }; settle-arg3 = record { given = g'3 } }; settle-arg4 = record { given = g'4 } }; settle = Called.called ps·1 r·1 claims·.3 T21 (record { pos = 1; ty = Syntax.ty_ref (Syntax.named 0) Syntax.imm (Syntax.ty_int Syntax.w8); ref = λ x. x }, (record { pos = 9; ty = Syntax.ty_ref Syntax.erased Syntax.mut LineKit.behind; ref = λ x. x }, (record { pos = 11; ty = Syntax.ty_ref Syntax.erased Syntax.mut (Syntax.ty_int Syntax.w64); ref = λ x. x }, (record { pos = 13; ty = Syntax.ty_ref Syntax.erased Syntax.mut (Syntax.ty_int Syntax.w64); ref = λ x. x }, (record { pos = 15; ty = Syntax.ty_ref Syntax.erased Syntax.mut (Syntax.ty_int Syntax.w64); ref = λ x. x }, (record { pos = 17; ty = Syntax.ty_ref Syntax.erased Syntax.mut (Syntax.ty_int Syntax.w64); ref = λ x. x }, tt)))))) (m15 record { before = record { before = record { before = record { before = record { before = c.before; empty-line = c.empty_line }; lines = record { given = g } }; settle-arg = record { given = g' } }; settle-arg2 = record { given = g'' } }; settle-arg3 = record { given = g'3 } } g'4) g'5 }))))))
 
         pub laid : (c : Start) → at37 c.blocks (W0 c.κs c.args c.blocks) (m0 c.κs c.args c.blocks)
         laid = λ c. λ g. (empty-line-requires record { before = c; shared-slice-known = record { given = g } }, λ g'. lay1 record { before = record { before = c; shared-slice-known = record { given = g } }; empty-line = Called.called ps·0 r·0 claims·.1 T2 tt (m1 c g) g' })

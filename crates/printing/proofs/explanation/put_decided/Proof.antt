@@ -1,10 +1,10 @@
 -- `printing::explanation::put_decided` meets its contract: the word, the name and a line feed, one after the other.
 use native.Mathlib.Omega.{arith}
 use borrow.Author.Rules.{rules}
-use Rattle.rules.specs.Explanation.{decidedLine}
+use Rattle.rules.specs.Explanation.{decided_line}
 use Rattle.rules.specs.Refusals.{found_at}
-use Rattle.rules.proofs.Worded.{decided-name-most}
-use Rattle.printing.proofs.Putting.{put_on, put-length}
+use Rattle.rules.proofs.Worded.{decided_name_most}
+use Rattle.printing.proofs.Putting.{put_on, put_length}
 use Rattle.printing.proofs.explanation.put_decided.Statement.{statement}
 use Rattle.printing.proofs.explanation.put_decided.Tie as tie
 
@@ -29,10 +29,10 @@ put-bytes-requires-2 c κs =
     let s = w.before.before.before.before in
     omega (
       arith,
-      w.put-bytes.ensures.next-is,
-      n.put-decided-name.ensures.next-is,
-      decided-name-most (found_at s.args.decided),
-      put-length (put_on w.put-bytes.ensures n.put-decided-name.ensures),
+      w.put_bytes.ensures.next_is,
+      n.put_decided_name.ensures.next_is,
+      decided_name_most (found_at s.args.decided),
+      put_length (put_on w.put_bytes.ensures n.put_decided_name.ensures),
       s.requires,
     )
 
@@ -41,11 +41,11 @@ same_length : tie.Need-same-length
 same_length c = search rules
 
 returns : tie.Need-returns
-unfolding decidedLine
+unfolding decided_line
 returns c =
     let b = c.before.before in
     let n = b.before.before.before.before.before in
-    put_on (put_on n.before.before.before.before.put-bytes.ensures n.put-decided-name.ensures) b.put-bytes2.ensures
+    put_on (put_on n.before.before.before.before.put_bytes.ensures n.put_decided_name.ensures) b.put-bytes2.ensures
 
 pub put-decided-spec : {M : Type 1} → statement M
 put-decided-spec =

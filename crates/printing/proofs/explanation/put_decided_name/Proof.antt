@@ -3,9 +3,9 @@ use mathlib.Core.Path.{sym, ap}
 use native.Mathlib.Omega.{arith}
 use borrow.Author.Rules.{rules}
 use Rattle.rules.specs.declared.Found.{Found}
-use Rattle.rules.specs.Explanation.{decidedName}
+use Rattle.rules.specs.Explanation.{decided_name}
 use Rattle.rules.specs.Refusals.{found_at}
-use Rattle.rules.proofs.Worded.{head-name-most}
+use Rattle.rules.proofs.Worded.{head_name_most}
 use Rattle.printing.proofs.Putting.{put_as}
 use Rattle.printing.proofs.explanation.put_decided_name.Statement.{statement}
 use Rattle.printing.proofs.explanation.put_decided_name.Tie as tie
@@ -31,10 +31,10 @@ same_length c = search rules
 returns : tie.Need-returns
 returns c =
     let p = c.before.before in
-    put_as (ap (λ (d : Found). decidedName (found_at d)) (sym p.before.before.before.enum_told.given.1)) p.put-bytes.ensures
+    put_as (ap (λ (d : Found). decided_name (found_at d)) (sym p.before.before.before.enum_told.given.1)) p.put_bytes.ensures
 
 put-head-name-requires : tie.Need-put-head-name-requires
-put-head-name-requires c κs = omega (arith, head-name-most c.before.before.decided.given.0.0, c.before.before.before.before.before.requires)
+put-head-name-requires c κs = omega (arith, head_name_most c.before.before.decided.given.0.0, c.before.before.before.before.before.requires)
 
 -- out, where a head did
 same-length-2 : tie.Need-same-length-2
@@ -43,7 +43,7 @@ same-length-2 c = search rules
 returns-2 : tie.Need-returns-2
 returns-2 c =
     let p = c.before.before in
-    put_as (ap (λ (d : Found). decidedName (found_at d)) (sym p.before.before.before.decided.given.1)) p.put-head-name.ensures
+    put_as (ap (λ (d : Found). decided_name (found_at d)) (sym p.before.before.before.decided.given.1)) p.put_head_name.ensures
 
 pub put-decided-name-spec : {M : Type 1} → statement M
 put-decided-name-spec =

@@ -5,13 +5,13 @@ use mathlib.Core.List.{[]}
 use Prim.Native.Nat.{ℕ, zero, suc}
 use native.Mathlib.Omega.{arith}
 use borrow.Author.Rules.{rules}
-use Rattle.rules.specs.Explanation.{headName}
-use Rattle.printing.proofs.Putting.{put-nothing, put_as}
+use Rattle.rules.specs.Explanation.{head_name}
+use Rattle.printing.proofs.Putting.{put_nothing, put_as}
 use Rattle.printing.proofs.explanation.put_head_name.Statement.{statement}
 use Rattle.printing.proofs.explanation.put_head_name.Tie as tie
 
 -- a place that is none of the five has no name
-unnamed : (k : ℕ) → k ≢ 0 → k ≢ 1 → k ≢ 2 → k ≢ 3 → k ≢ 4 → [] ≡ headName k
+unnamed : (k : ℕ) → k ≢ 0 → k ≢ 1 → k ≢ 2 → k ≢ 3 → k ≢ 4 → [] ≡ head_name k
 unnamed zero a b c d e = absurd (a refl)
 unnamed (suc zero) a b c d e = absurd (b refl)
 unnamed (suc (suc zero)) a b c d e = absurd (c refl)
@@ -30,7 +30,7 @@ same_length : tie.Need-same-length
 same_length c = search rules
 
 returns : tie.Need-returns
-returns c = let p = c.before.before in put_as (ap headName (sym p.before.before.before.match.keys1)) p.put-bytes.ensures
+returns c = let p = c.before.before in put_as (ap head_name (sym p.before.before.before.match.keys1)) p.put_bytes.ensures
 
 -- 1 => put_bytes(out, at, b"load")
 slice-aggregate-put-bytes-2 : tie.Need-slice-aggregate-put-bytes-2
@@ -43,7 +43,7 @@ same-length-2 : tie.Need-same-length-2
 same-length-2 c = search rules
 
 returns-2 : tie.Need-returns-2
-returns-2 c = let p = c.before.before in put_as (ap headName (sym p.before.before.before.match.keys2)) p.put-bytes2.ensures
+returns-2 c = let p = c.before.before in put_as (ap head_name (sym p.before.before.before.match.keys2)) p.put-bytes2.ensures
 
 -- 2 => put_bytes(out, at, b"import")
 slice-aggregate-put-bytes-3 : tie.Need-slice-aggregate-put-bytes-3
@@ -56,7 +56,7 @@ same-length-3 : tie.Need-same-length-3
 same-length-3 c = search rules
 
 returns-3 : tie.Need-returns-3
-returns-3 c = let p = c.before.before in put_as (ap headName (sym p.before.before.before.match.keys3)) p.put-bytes3.ensures
+returns-3 c = let p = c.before.before in put_as (ap head_name (sym p.before.before.before.match.keys3)) p.put-bytes3.ensures
 
 -- 3 => put_bytes(out, at, b"export")
 slice-aggregate-put-bytes-4 : tie.Need-slice-aggregate-put-bytes-4
@@ -69,7 +69,7 @@ same-length-4 : tie.Need-same-length-4
 same-length-4 c = search rules
 
 returns-4 : tie.Need-returns-4
-returns-4 c = let p = c.before.before in put_as (ap headName (sym p.before.before.before.match.keys4)) p.put-bytes4.ensures
+returns-4 c = let p = c.before.before in put_as (ap head_name (sym p.before.before.before.match.keys4)) p.put-bytes4.ensures
 
 -- 4 => put_bytes(out, at, b"share")
 slice-aggregate-put-bytes-5 : tie.Need-slice-aggregate-put-bytes-5
@@ -82,14 +82,14 @@ same-length-5 : tie.Need-same-length-5
 same-length-5 c = search rules
 
 returns-5 : tie.Need-returns-5
-returns-5 c = let p = c.before.before in put_as (ap headName (sym p.before.before.before.match.keys5)) p.put-bytes5.ensures
+returns-5 c = let p = c.before.before in put_as (ap head_name (sym p.before.before.before.match.keys5)) p.put-bytes5.ensures
 
 -- _ => at
 returns-6 : tie.Need-returns-6
 returns-6 c =
     let none = c.match.rest in
     let s = c.before.before.args in
-    put_as (unnamed s.place none.0.0.0.0.1 none.0.0.0.1 none.0.0.1 none.0.1 none.1) (put-nothing s.out.now s.at)
+    put_as (unnamed s.place none.0.0.0.0.1 none.0.0.0.1 none.0.0.1 none.0.1 none.1) (put_nothing s.out.now s.at)
 
 pub put-head-name-spec : {M : Type 1} → statement M
 put-head-name-spec =

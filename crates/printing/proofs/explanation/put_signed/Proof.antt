@@ -5,10 +5,10 @@ use Prim.Native.Nat.{ℕ}
 use native.Mathlib.Omega.{arith}
 use lib.IntN.{nat_abs}
 use borrow.Author.Rules.{rules}
-use Rattle.whole.proofs.Machine.{below-0, from-0, read_back}
+use Rattle.whole.proofs.Machine.{below_0, from_0, read_back}
 use Rattle.rules.specs.Text.{bytes, decimal}
-use Rattle.rules.proofs.Digits.{decimal-at-most-20}
-use Rattle.rules.proofs.Worded.{signed_below, signed-from-0}
+use Rattle.rules.proofs.Digits.{decimal_at_most_20}
+use Rattle.rules.proofs.Worded.{signed_below, signed_from_0}
 use Rattle.printing.proofs.Putting.{put_on, put_as}
 use Rattle.printing.proofs.explanation.put_signed.Statement.{statement}
 use Rattle.printing.proofs.explanation.put_signed.Tie as tie
@@ -30,7 +30,7 @@ put-number-requires : tie.Need-put-number-requires
 put-number-requires c κs =
     let p = c.before.before.before in
     let d = p.before.before.before.before in
-    omega (arith, decimal-at-most-20 d.type_size.result, p.put-bytes.ensures.next-is, p.put-bytes.auto.0, d.before.before.requires)
+    omega (arith, decimal_at_most_20 d.type_size.result, p.put_bytes.ensures.next_is, p.put_bytes.auto.0, d.before.before.requires)
 
 -- out, below zero
 same_length : tie.Need-same-length
@@ -43,12 +43,12 @@ returns c =
     let d = p.before.before.before.before in
     let s = d.before.before in
     put_as
-    (ap (λ (k : ℕ). bytes "-" ++ decimal k) (size d) ∙ signed_below s.args.number (below-0 s.ranges.number p.before.before.before.if1.true))
-    (put_on p.put-bytes.ensures n.put-number.ensures)
+    (ap (λ (k : ℕ). bytes "-" ++ decimal k) (size d) ∙ signed_below s.args.number (below_0 s.ranges.number p.before.before.before.if1.true))
+    (put_on p.put_bytes.ensures n.put_number.ensures)
 
 put-number-requires-2 : tie.Need-put-number-requires-2
 put-number-requires-2 c κs =
-    omega (arith, decimal-at-most-20 c.before.before.type_size.result, c.before.before.before.before.requires)
+    omega (arith, decimal_at_most_20 c.before.before.type_size.result, c.before.before.before.before.requires)
 
 -- out, from zero on
 same-length-2 : tie.Need-same-length-2
@@ -60,7 +60,7 @@ returns-2 c =
     let d = n.before.before.before in
     let s = d.before.before in
     put_as
-    (ap decimal (size d) ∙ signed-from-0 s.args.number (from-0 s.ranges.number n.before.before.if1.false))
+    (ap decimal (size d) ∙ signed_from_0 s.args.number (from_0 s.ranges.number n.before.before.if1.false))
     n.put-number2.ensures
 
 pub put-signed-spec : {M : Type 1} → statement M

@@ -2,15 +2,15 @@
 use mathlib.Core.Path.{◌≡◌, ap}
 use Prim.Native.Nat.{ℕ}
 use borrow.Author.Rules.{rules}
-use Rattle.whole.proofs.Machine.{element-fits, read_back, back}
-use Rattle.rules.specs.Explanation.{headAt, headLine, explanationLines}
+use Rattle.whole.proofs.Machine.{element_fits, read_back, back}
+use Rattle.rules.specs.Explanation.{head_at, head_line, explanation_lines}
 use Rattle.printing.proofs.Putting.{put_on, put_as}
 use Rattle.printing.proofs.explanation.put_six_lines.Statement.{statement}
 use Rattle.printing.proofs.explanation.put_six_lines.Tie as tie
 
 -- a head, as it is read from the array
-read : (s : tie.Start) (k : ℕ) → headLine k (back (headAt s.args.t2 k)) ≡ headLine k (headAt s.args.t2 k)
-read s k = ap (headLine k) (read_back (element-fits s.args.t2 _ k s.well-formed.1.0.1.1))
+read : (s : tie.Start) (k : ℕ) → head_line k (back (head_at s.args.t2 k)) ≡ head_line k (head_at s.args.t2 k)
+read s k = ap (head_line k) (read_back (element_fits s.args.t2 _ k s.well-formed.1.0.1.1))
 
 -- heads[0]
 array-copy-out-put-head : tie.Need-array-copy-out-put-head
@@ -55,7 +55,7 @@ same_length : tie.Need-same-length
 same_length c = search rules
 
 returns : tie.Need-returns
-unfolding explanationLines
+unfolding explanation_lines
 returns c =
     let d = c.before.before in
     let share = d.before.before.before.before in
@@ -64,12 +64,12 @@ returns c =
     let load = imported.before.before.before.before.before in
     let generation = load.before.before.before.before.before in
     let s = generation.before.before.before.before in
-    let one = put_as (read s 0) generation.put-head.ensures.0 in
+    let one = put_as (read s 0) generation.put_head.ensures.0 in
     let two = put_on one (put_as (read s 1) load.put-head2.ensures.0) in
     let three = put_on two (put_as (read s 2) imported.put-head3.ensures.0) in
     let four = put_on three (put_as (read s 3) exported.put-head4.ensures.0) in
     let five = put_on four (put_as (read s 4) share.put-head5.ensures.0) in
-    put_on five d.put-decided.ensures
+    put_on five d.put_decided.ensures
 
 pub put-six-lines-spec : {M : Type 1} → statement M
 put-six-lines-spec =

@@ -61,7 +61,7 @@ returns c =
     let l = c.before.loop in
     let all : l.i ≡ length s.text.now = omega arith in
     record {
-      next-is = omega arith;
+      next_is = omega arith;
       after_is =
           l.invariant.2 ∙ rw (all, take-length s.text.now) (sym (sets-eq s.text.now s.out.now s.at c.before.before.requires));
     }

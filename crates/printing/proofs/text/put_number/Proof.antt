@@ -27,7 +27,7 @@ returns c =
     let d = c.before.before.before.before.digits in
     let s = c.before.before.before.before.before.before.args in
     let at : s.at + d.result - length (decimal s.number) ≡ s.at = omega (arith, d.ensures) in
-    record { next-is = omega (arith, d.ensures); after_is = c.before.before.put-digits.ensures ∙ rw at }
+    record { next_is = omega (arith, d.ensures); after_is = c.before.before.put_digits.ensures ∙ rw at }
 
 pub put-number-spec : {M : Type 1} → statement M
 put-number-spec =

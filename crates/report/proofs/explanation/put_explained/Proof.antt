@@ -2,7 +2,7 @@
 use borrow.Author.Rules.{rules}
 use Rattle.answer.proofs.Refusing.{no_other}
 use Rattle.printing.proofs.Putting.{put_as}
-use Rattle.report.proofs.Worded.{worded-refused, worded-accepted}
+use Rattle.report.proofs.Worded.{worded_refused, worded_accepted}
 use Rattle.report.proofs.explanation.put_explained.Statement.{statement}
 use Rattle.report.proofs.explanation.put_explained.Tie as tie
 
@@ -22,7 +22,7 @@ returns : tie.Need-returns
 returns c =
     let p = c.before.before in
     let m = p.before.before in
-    put_as (worded-refused m.before.before.args.explained (λ e. no_other (rw e at m.match.keys2))) p.Put-refused.ensures
+    put_as (worded_refused m.before.before.args.explained (λ e. no_other (rw e at m.match.keys2))) p.Put-refused.ensures
 
 put-six-lines-requires : tie.Need-put-six-lines-requires
 put-six-lines-requires c κs = search rules
@@ -36,7 +36,7 @@ returns-2 : tie.Need-returns-2
 returns-2 c =
     let p = c.before.before in
     let t = p.before.before.before in
-    put_as (worded-accepted t.before.before.before.args.explained t.enum_told.given.1) p.put-six-lines.ensures
+    put_as (worded_accepted t.before.before.before.args.explained t.enum_told.given.1) p.put_six_lines.ensures
 
 pub put-explained-spec : {M : Type 1} → statement M
 put-explained-spec =

@@ -6,9 +6,9 @@ use borrow.Author.Rules.{rules}
 use lib.ListN.{length, take, drop, length-drop}
 use lib.Seq.{take_all}
 use Rattle.rules.specs.Explanation as Explanation
-use Rattle.rules.proofs.Worded.{explanation-fits, too-few-bytes}
+use Rattle.rules.proofs.Worded.{explanation_fits, too_few_bytes}
 use Rattle.printing.proofs.Putting.{put_as}
-use Rattle.printing.proofs.Showing.{no_room, put-shown}
+use Rattle.printing.proofs.Showing.{no_room, put_shown}
 use Rattle.rules.specs.Explanation.{worded}
 use Rattle.report.proofs.Worded.{asked}
 use Rattle.report.proofs.explanation.put_explanation.Statement.{statement}
@@ -32,7 +32,7 @@ returns-2 c =
     let t = p.before.before in
     let e = t.before in
     let s = e.before.before.before.args.input.now in
-    put-shown e.if1.false (explanation-fits s) (put_as (sym (too-few-bytes s t.if2.true)) p.Put-refused.ensures)
+    put_shown e.if1.false (explanation_fits s) (put_as (sym (too_few_bytes s t.if2.true)) p.Put-refused.ensures)
 
 whole-word-requires : tie.Need-whole-word-requires
 whole-word-requires c κs = search rules
@@ -69,7 +69,7 @@ returns-3 c =
     let s = e.before.before.before.before.args.input.now in
     let hour : take (length s - 4) (drop 4 s) ≡ drop 4 s = take_all (length s - 4) (drop 4 s) (omega (arith, length-drop 4 s)) in
     let said = ap worded (x.explain.ensures ∙ ap₂ Explanation.explain hour w.whole_word.ensures) in
-    put-shown e.before.if1.false (explanation-fits s) (put_as (said ∙ asked s e.if2.false) p.put-explained.ensures)
+    put_shown e.before.if1.false (explanation_fits s) (put_as (said ∙ asked s e.if2.false) p.put_explained.ensures)
 
 pub put-explanation-spec : {M : Type 1} → statement M
 put-explanation-spec =

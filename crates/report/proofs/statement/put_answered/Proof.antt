@@ -2,7 +2,7 @@
 use borrow.Author.Rules.{rules}
 use Rattle.answer.proofs.Refusing.{no_other}
 use Rattle.printing.proofs.Putting.{put_as}
-use Rattle.report.proofs.Settled.{refused-statement, accepted-statement}
+use Rattle.report.proofs.Settled.{refused_statement, accepted_statement}
 use Rattle.report.proofs.statement.put_answered.Statement.{statement}
 use Rattle.report.proofs.statement.put_answered.Tie as tie
 
@@ -22,7 +22,7 @@ returns : tie.Need-returns
 returns c =
     let p = c.before.before in
     let m = p.before.before in
-    put_as (refused-statement m.before.before.before.requires.0 (λ e. no_other (rw e at m.match.keys2))) p.Put-refused.ensures
+    put_as (refused_statement m.before.before.before.requires.0 (λ e. no_other (rw e at m.match.keys2))) p.Put-refused.ensures
 
 put-accepted-requires : tie.Need-put-accepted-requires
 put-accepted-requires c κs =
@@ -39,7 +39,7 @@ returns-2 : tie.Need-returns-2
 returns-2 c =
     let p = c.before.before in
     let t = p.before.before in
-    put_as (accepted-statement t.before.before.before.before.requires.0 t.enum_told.given.1) p.put-accepted.ensures
+    put_as (accepted_statement t.before.before.before.before.requires.0 t.enum_told.given.1) p.put_accepted.ensures
 
 pub put-answered-spec : {M : Type 1} → statement M
 put-answered-spec =

@@ -2,8 +2,8 @@
 use native.Mathlib.Omega.{arith}
 use borrow.Author.Rules.{rules}
 use Rattle.rules.specs.Statement as Statement
-use Rattle.rules.proofs.Stated.{statement-fits}
-use Rattle.printing.proofs.Showing.{no_room, put-shown}
+use Rattle.rules.proofs.Stated.{statement_fits}
+use Rattle.printing.proofs.Showing.{no_room, put_shown}
 use Rattle.report.proofs.statement.put_statement.Statement.{statement}
 use Rattle.report.proofs.statement.put_statement.Tie as tie
 
@@ -32,8 +32,8 @@ returns-2 c =
     let p = c.before.before.before.before in
     let e = p.before.before.before.before in
     let known = e.before.before in
-    put-shown e.if1.false (statement-fits known.before.args.file.now (λ i. (known.shared-slice-known.given i).fits))
-    p.put-settled.ensures
+    put_shown e.if1.false (statement_fits known.before.args.file.now (λ i. (known.shared-slice-known.given i).fits))
+    p.put_settled.ensures
 
 pub put-statement-spec : {M : Type 1} → statement M
 put-statement-spec =

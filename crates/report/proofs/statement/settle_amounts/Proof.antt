@@ -28,12 +28,12 @@ returns c =
     let settled = c.before.before.before.before in
     let start = settled.before.before.before.before.before.before in
     answered (record {
-      charges-room = start.requires.0;
-      finals-room = start.requires.1;
-      shares-room = search rules;
-      deviations-room = search rules;
+      charges_room = start.requires.0;
+      finals_room = start.requires.1;
+      shares_room = search rules;
+      deviations_room = search rules;
     })
-    settled.settle-unlined.ensures
+    settled.settle_unlined.ensures
 
 pub settle-amounts-spec : {M : Type 1} → statement M
 settle-amounts-spec =

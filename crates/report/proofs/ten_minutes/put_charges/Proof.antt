@@ -5,31 +5,31 @@ use mathlib.Core.List.{List}
 use native.Mathlib.Omega.{arith}
 use lib.IntN.{ℤ, pos}
 use lib.ListN.{length, get_or}
-use Rattle.rules.specs.Statement.{chargeLine}
-use Rattle.rules.proofs.Stated.{member-lines-length}
-use Rattle.rules.proofs.TenMinutesSheet.{charge-line-length}
+use Rattle.rules.specs.Statement.{charge_line}
+use Rattle.rules.proofs.Stated.{member_lines_length}
+use Rattle.rules.proofs.TenMinutesSheet.{charge_line_length}
 use Rattle.printing.specs.Put.{Put}
-use Rattle.printing.proofs.Putting.{put-length, put_on, put_as}
-use Rattle.report.specs.TenMinutes.{chargeLinesOf}
-use Rattle.report.proofs.Lines.{put-none, next-line, held}
+use Rattle.printing.proofs.Putting.{put_length, put_on, put_as}
+use Rattle.report.specs.TenMinutes.{charge_lines_of}
+use Rattle.report.proofs.Lines.{put_none, next_line, held}
 use Rattle.report.proofs.ten_minutes.put_charges.Statement.{statement}
 use Rattle.report.proofs.ten_minutes.put_charges.Tie as tie
 
 module _ (charges : List ℤ) where
   abbrev line : ℕ → List ℕ
-  line m = chargeLine m (get_or charges m (pos 0))
+  line m = charge_line m (get_or charges m (pos 0))
 
-  lines-length : (m : ℕ) → length (chargeLinesOf charges m) ≡ 18 * m
-  lines-length = member-lines-length line 18 (λ m. charge-line-length m (get_or charges m (pos 0)))
+  lines_length : (m : ℕ) → length (charge_lines_of charges m) ≡ 18 * m
+  lines_length = member_lines_length line 18 (λ m. charge_line_length m (get_or charges m (pos 0)))
 
 abbrev invariant-loop : tie.invariant-loop
-invariant-loop members charges out₀ at place₀ m₀ out place m = (m ≤ members) × Put out₀ at (chargeLinesOf charges m) place out
+invariant-loop members charges out₀ at place₀ m₀ out place m = (m ≤ members) × Put out₀ at (charge_lines_of charges m) place out
 
 abbrev decreases-loop : tie.decreases-loop
 decreases-loop members charges out₀ at place₀ m₀ out place m = members - m
 
 loop-holds : tie.Need-loop-init invariant-loop decreases-loop
-loop-holds c = let s = c.before in (omega arith, put-none (line s.args.charges.now) s.args.out.now s.args.at)
+loop-holds c = let s = c.before in (omega arith, put_none (line s.args.charges.now) s.args.out.now s.args.at)
 
 -- the offset of charges[m]
 mul-put-charge : tie.Need-overflow-mul-put-charge invariant-loop decreases-loop
@@ -43,7 +43,7 @@ put-charge-requires : tie.Need-put-charge-requires invariant-loop decreases-loop
 put-charge-requires c κs =
     let l = c.before.before.before.loop in
     let s = c.before.before.before.before.before in (
-      omega (arith, l.invariant.1.next-is, put-length l.invariant.1, lines-length s.args.charges.now l.m, s.requires.1),
+      omega (arith, l.invariant.1.next_is, put_length l.invariant.1, lines_length s.args.charges.now l.m, s.requires.1),
       omega (arith, s.requires.0.few),
       rw (held s.requires.0 l.m (omega arith)) (s.requires.0.small l.m (omega arith)).under,
     )
@@ -59,12 +59,12 @@ loop-again : tie.Need-loop-preserved invariant-loop decreases-loop
 loop-again c =
     let l = c.before.before.before.before.before.before.loop in
     let s = c.before.before.before.before.before.before.before.before in
-    let put = rw (held s.requires.0 l.m (omega arith)) at c.before.before.put-charge.ensures in
-    (omega arith, put_as (next-line (line s.args.charges.now) l.m) (put_on l.invariant.1 put))
+    let put = rw (held s.requires.0 l.m (omega arith)) at c.before.before.put_charge.ensures in
+    (omega arith, put_as (next_line (line s.args.charges.now) l.m) (put_on l.invariant.1 put))
 
 -- out: &mut [u8]
 same_length : tie.Need-same-length invariant-loop decreases-loop
-same_length c = put-length c.before.loop.invariant.1
+same_length c = put_length c.before.loop.invariant.1
 
 returns : tie.Need-returns invariant-loop decreases-loop
 returns c =

@@ -4,7 +4,7 @@ use borrow.Author.Rules.{rules}
 use Rattle.answer.proofs.Refusing.{no_other}
 use Rattle.tenminutes.proofs.Settled.{Settles}
 use Rattle.printing.proofs.Putting.{put_as}
-use Rattle.report.proofs.TenMinutes.{refused-sheet, accepted-sheet, printable}
+use Rattle.report.proofs.TenMinutes.{refused_sheet, accepted_sheet, printable}
 use Rattle.report.proofs.ten_minutes.put_settled.Statement.{statement}
 use Rattle.report.proofs.ten_minutes.put_settled.Tie as tie
 
@@ -16,7 +16,7 @@ start c = c.before.before.before.before
 
 settled : (c : tie.After-settle) →
     Settles (start c).args.file.now (start c).args.charges.now c.settle.result c.settle.new.1.0
-settled c = record { verdict-is = c.settle.ensures.0; charges-are = c.settle.ensures.1 }
+settled c = record { verdict_is = c.settle.ensures.0; charges_are = c.settle.ensures.1 }
 
 -- let Answer::Accepted = answer
 enum_told : tie.Need-enum-told
@@ -38,7 +38,7 @@ returns c =
     let p = c.before.before in
     let m = p.before.before in
     let told = m.before.before in
-    put_as (refused-sheet (start told).requires.0 (settled told) (λ e. no_other (rw e at m.match.keys2))) p.Put-refused.ensures
+    put_as (refused_sheet (start told).requires.0 (settled told) (λ e. no_other (rw e at m.match.keys2))) p.Put-refused.ensures
 
 put-accepted-requires : tie.Need-put-accepted-requires
 put-accepted-requires c κs =
@@ -59,7 +59,7 @@ returns-2 c =
     let p = c.before.before in
     let t = p.before.before.before in
     let told = t.before.before.before in
-    put_as (accepted-sheet (start told).requires.0 (settled told) t.enum_told.given.1) p.put-accepted.ensures
+    put_as (accepted_sheet (start told).requires.0 (settled told) t.enum_told.given.1) p.put_accepted.ensures
 
 pub put-settled-spec : {M : Type 1} → statement M
 put-settled-spec =

@@ -2,14 +2,14 @@
 use native.Mathlib.Omega.{arith}
 use borrow.Author.Rules.{rules}
 use Rattle.rules.specs.Statement as Statement
-use Rattle.rules.proofs.TenMinutesSheet.{sheet-fits}
-use Rattle.printing.proofs.Showing.{no_room, put-shown}
+use Rattle.rules.proofs.TenMinutesSheet.{sheet_fits}
+use Rattle.printing.proofs.Showing.{no_room, put_shown}
 use Rattle.report.proofs.ten_minutes.put_ten_minutes_statement.Statement.{statement}
 use Rattle.report.proofs.ten_minutes.put_ten_minutes_statement.Tie as tie
 
 -- return 0
 returns : tie.Need-returns
-returns c = no_room (Statement.tenMinutesStatement c.before.before.before.args.file.now) (omega (arith, c.if1.true))
+returns c = no_room (Statement.ten_minutes_statement c.before.before.before.args.file.now) (omega (arith, c.if1.true))
 
 -- &mut charges
 slice-aggregate-put-settled : tie.Need-slice-aggregate-put-settled
@@ -28,8 +28,8 @@ returns-2 c =
     let p = c.before.before.before in
     let e = p.before.before.before in
     let known = e.before.before in
-    put-shown e.if1.false (sheet-fits known.before.args.file.now (λ i. (known.shared-slice-known.given i).fits))
-    p.put-settled.ensures
+    put_shown e.if1.false (sheet_fits known.before.args.file.now (λ i. (known.shared-slice-known.given i).fits))
+    p.put_settled.ensures
 
 pub put-ten-minutes-statement-spec : {M : Type 1} → statement M
 put-ten-minutes-statement-spec =

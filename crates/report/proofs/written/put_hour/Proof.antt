@@ -3,7 +3,7 @@ use mathlib.Core.Path.{sym}
 use borrow.Author.Rules.{rules}
 use lib.Seq.{length-take-le}
 use Rattle.answer.proofs.Refusing.{no_other}
-use Rattle.report.proofs.Input.{file-put, line-put}
+use Rattle.report.proofs.Input.{file_put, line_put}
 use Rattle.report.proofs.written.put_hour.Statement.{statement}
 use Rattle.report.proofs.written.put_hour.Tie as tie
 
@@ -42,9 +42,9 @@ returns c =
     let m = p.before.before in
     let w = m.before.before.before in
     let s = w.before.before.before.before.before.before in
-    let e = w.write-hour.ensures in
-    line-put s.args.words.now w.write-hour.result s.requires.1
-    (record { verdict-is = e.0; length-is = e.1.0; file-is = e.1.1.0 })
+    let e = w.write_hour.ensures in
+    line_put s.args.words.now w.write_hour.result s.requires.1
+    (record { verdict_is = e.0; length_is = e.1.0; file_is = e.1.1.0 })
     (λ a. no_other (rw a at m.match.keys2)) p.Put-refused.ensures
 
 -- out, at the end
@@ -56,9 +56,9 @@ returns-2 : tie.Need-returns-2
 returns-2 c =
     let w = c.before.before.before.before in
     let s = w.before.before.before.before.before.before in
-    let e = w.write-hour.ensures in
-    file-put s.args.words.now w.write-hour.result s.requires.1
-    (record { verdict-is = e.0; length-is = e.1.0; file-is = e.1.1.0 }) c.enum_told.given.1
+    let e = w.write_hour.ensures in
+    file_put s.args.words.now w.write_hour.result s.requires.1
+    (record { verdict_is = e.0; length_is = e.1.0; file_is = e.1.1.0 }) c.enum_told.given.1
 
 pub put-hour-spec : {M : Type 1} → statement M
 put-hour-spec =

@@ -1,7 +1,7 @@
 -- `report::written::put_input` meets its contract: the words of the input, and then what the writer makes of them.
 use borrow.Author.Rules.{rules}
 use Rattle.printing.proofs.Putting.{put_as}
-use Rattle.report.proofs.Input.{by-words}
+use Rattle.report.proofs.Input.{by_words}
 use Rattle.report.proofs.written.put_input.Statement.{statement}
 use Rattle.report.proofs.written.put_input.Tie as tie
 
@@ -12,7 +12,7 @@ put-hour-requires : tie.Need-put-hour-requires
 put-hour-requires c κs =
     let w = c.before.before.before.before in
     let s = w.before.before.before.before.before in
-    ((by-words s.args.input.now s.requires.0 s.requires.1 w.put-words.ensures).0, s.requires.2)
+    ((by_words s.args.input.now s.requires.0 s.requires.1 w.put_words.ensures).0, s.requires.2)
 
 -- words: &mut [u32]
 same_length : tie.Need-same-length
@@ -28,7 +28,7 @@ returns c =
     let p = c.before.before in
     let w = p.before.before.before.before.before in
     let s = w.before.before.before.before.before in
-    put_as (by-words s.args.input.now s.requires.0 s.requires.1 w.put-words.ensures).1 p.put-hour.ensures
+    put_as (by_words s.args.input.now s.requires.0 s.requires.1 w.put_words.ensures).1 p.put_hour.ensures
 
 pub put-input-spec : {M : Type 1} → statement M
 put-input-spec = tie.close (tie.spec put-words-requires put-hour-requires same_length same-length-2 returns)

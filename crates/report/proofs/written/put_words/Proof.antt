@@ -3,7 +3,7 @@ use mathlib.Core.Path.{refl}
 use Prim.Native.Nat.{◌-◌}
 use native.Mathlib.Nat.{le_refl}
 use native.Mathlib.Omega.{arith}
-use Rattle.whole.proofs.Filling.{Filled, none_filled, filled-length, place-there, next-filled, all-filled}
+use Rattle.whole.proofs.Filling.{Filled, none_filled, filled_length, place_there, next_filled, all_filled}
 use Rattle.rules.specs.HourFile.{word}
 use Rattle.report.proofs.written.put_words.Statement.{statement}
 use Rattle.report.proofs.written.put_words.Tie as tie
@@ -22,11 +22,11 @@ whole-word-requires c κs = omega arith
 
 -- the offset of words[k]
 mul_words : tie.Need-overflow-mul-words invariant-loop decreases-loop
-mul_words c = omega (arith, place-there c.before.before.loop.invariant (omega arith))
+mul_words c = omega (arith, place_there c.before.before.loop.invariant (omega arith))
 
 -- words[k] = blocks::whole_word(input, k)
 slice-write-words : tie.Need-slice-write-words invariant-loop decreases-loop
-slice-write-words c = place-there c.before.before.loop.invariant (omega arith)
+slice-write-words c = place_there c.before.before.loop.invariant (omega arith)
 
 -- k += 1
 add-k : tie.Need-overflow-add-k invariant-loop decreases-loop
@@ -36,14 +36,14 @@ loop-less : tie.Need-loop-smaller invariant-loop decreases-loop
 loop-less c = omega arith
 
 loop-again : tie.Need-loop-preserved invariant-loop decreases-loop
-loop-again c = next-filled c.before.before.loop.invariant (omega arith) c.whole_word.ensures
+loop-again c = next_filled c.before.before.loop.invariant (omega arith) c.whole_word.ensures
 
 -- words: &mut [u32]
 same_length : tie.Need-same-length invariant-loop decreases-loop
-same_length c = filled-length c.before.loop.invariant
+same_length c = filled_length c.before.loop.invariant
 
 returns : tie.Need-returns invariant-loop decreases-loop
-returns c = all-filled c.before.loop.invariant (omega arith) refl
+returns c = all_filled c.before.loop.invariant (omega arith) refl
 
 pub put-words-spec : {M : Type 1} → statement M
 put-words-spec =

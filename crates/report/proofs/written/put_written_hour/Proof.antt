@@ -3,17 +3,17 @@ use mathlib.Core.Path.{sym, ◌∙◌}
 use native.Mathlib.Omega.{arith}
 use borrow.Author.Rules.{rules}
 use lib.Seq.{length-take-le}
-use Rattle.rules.specs.RawHour.{rawWritten}
-use Rattle.rules.proofs.Raw.{raw-fits}
+use Rattle.rules.specs.RawHour.{raw_written}
+use Rattle.rules.proofs.Raw.{raw_fits}
 use Rattle.printing.proofs.Putting.{put_as}
-use Rattle.printing.proofs.Showing.{no_room, put-shown}
-use Rattle.report.proofs.Input.{bad-length, words-fit}
+use Rattle.printing.proofs.Showing.{no_room, put_shown}
+use Rattle.report.proofs.Input.{bad_length_lem, words_fit}
 use Rattle.report.proofs.written.put_written_hour.Statement.{statement}
 use Rattle.report.proofs.written.put_written_hour.Tie as tie
 
 -- return 0
 returns : tie.Need-returns
-returns c = no_room (rawWritten c.before.before.before.args.input.now) (omega (arith, c.if1.true))
+returns c = no_room (raw_written c.before.before.before.args.input.now) (omega (arith, c.if1.true))
 
 input-bad-requires : tie.Need-input-bad-requires
 input-bad-requires c κs = search rules
@@ -32,13 +32,13 @@ returns-2 c =
     let t = p.before.before in
     let e = t.before.before in
     let s = e.before.before.before.args.input.now in
-    put-shown e.if1.false (raw-fits s)
-    (put_as (sym (bad-length s (sym t.before.input-bad.ensures ∙ t.if2.true))) p.Put-refused.ensures)
+    put_shown e.if1.false (raw_fits s)
+    (put_as (sym (bad_length_lem s (sym t.before.input_bad.ensures ∙ t.if2.true))) p.Put-refused.ensures)
 
 -- &mut words[..n]
 array-borrow-prefix-words : tie.Need-array-borrow-prefix-words
 array-borrow-prefix-words c =
-    words-fit c.before.before.before.before.before.args.input.now (sym c.before.input-bad.ensures ∙ c.if2.false)
+    words_fit c.before.before.before.before.before.args.input.now (sym c.before.input_bad.ensures ∙ c.if2.false)
 
 slice-aggregate-put-input : tie.Need-slice-aggregate-put-input
 slice-aggregate-put-input c = sym (length-take-le _ _ (array-borrow-prefix-words c.before))
@@ -46,7 +46,7 @@ slice-aggregate-put-input c = sym (length-take-le _ _ (array-borrow-prefix-words
 put-input-requires : tie.Need-put-input-requires
 put-input-requires c κs =
     let e = c.before.before in
-    (sym e.before.input-bad.ensures ∙ e.if2.false, length-take-le _ _ (array-borrow-prefix-words e), e.before.before.if1.false)
+    (sym e.before.input_bad.ensures ∙ e.if2.false, length-take-le _ _ (array-borrow-prefix-words e), e.before.before.if1.false)
 
 -- out, at the end
 same-length-2 : tie.Need-same-length-2
@@ -57,7 +57,7 @@ returns-3 : tie.Need-returns-3
 returns-3 c =
     let p = c.before.before.before in
     let e = p.before.before.before.before.before in
-    put-shown e.if1.false (raw-fits e.before.before.before.args.input.now) p.put-input.ensures
+    put_shown e.if1.false (raw_fits e.before.before.before.args.input.now) p.put_input.ensures
 
 pub put-written-hour-spec : {M : Type 1} → statement M
 put-written-hour-spec =

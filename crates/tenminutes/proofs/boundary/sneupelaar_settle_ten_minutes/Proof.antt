@@ -3,7 +3,7 @@ use mathlib.Core.Path.{◌∙◌, ap₂}
 use borrow.Author.Rules.{rules}
 use mathlib.Core.List.{List}
 use lib.IntN.{ℤ}
-use Rattle.rules.specs.Refusals.{Verdict, refusedAt}
+use Rattle.rules.specs.Refusals.{Verdict, refused_at}
 use Rattle.tenminutes.proofs.boundary.sneupelaar_settle_ten_minutes.Statement.{statement}
 use Rattle.tenminutes.proofs.boundary.sneupelaar_settle_ten_minutes.Tie as tie
 
@@ -24,7 +24,7 @@ returns : tie.Need-returns
 returns c =
     let answered = c.before.before.before.settle in
     ap₂ (λ (v : Verdict) (charges : List ℤ). record { verdict = v; charges = charges })
-    (ap₂ refusedAt c.before.number_of_lem.ensures c.place_of.ensures ∙ answered.ensures.0) answered.ensures.1
+    (ap₂ refused_at c.before.number_of_lem.ensures c.place_of.ensures ∙ answered.ensures.0) answered.ensures.1
 
 pub sneupelaar-settle-ten-minutes-spec : {M : Type 1} → statement M
 sneupelaar-settle-ten-minutes-spec = tie.close (tie.spec settle-requires number-of-requires place-of-requires same_length returns)

@@ -3,8 +3,8 @@ use Prim.Native.Nat.{◌<◌}
 use native.Mathlib.Omega.{arith}
 use lib.ListN.{length}
 use borrow.Author.Rules.{rules}
-use Rattle.rules.specs.TenMinutes.{tenMinutesIn}
-use Rattle.rules.specs.Record.{Hour, memberOf}
+use Rattle.rules.specs.TenMinutes.{ten_minutes_in}
+use Rattle.rules.specs.Record.{Hour, member_of}
 use Rattle.tenminutes.proofs.Chaining.{linked}
 use Rattle.tenminutes.proofs.chain.link.Statement.{statement}
 use Rattle.tenminutes.proofs.chain.link.Tie as tie
@@ -18,18 +18,18 @@ module _ (c : tie.After-slice-known3) where
   start = c.before.before.before.before.before
 
   abbrev h : Hour
-  h = tenMinutesIn start.args.file.now
+  h = ten_minutes_in start.args.file.now
 
   few : start.args.i < 64
-  few = omega (arith, start.pre.1, start.pre.0.hour-kept.count_most)
+  few = omega (arith, start.pre.1, start.pre.0.hour_kept.count_most)
 
-  known : memberOf h start.args.i < 32
+  known : member_of h start.args.i < 32
   known =
-      let kept = start.pre.0.hour-kept in
-      omega (arith, (kept.record-kept start.args.i start.pre.1).member-there, kept.members-most)
+      let kept = start.pre.0.hour_kept in
+      omega (arith, (kept.record_kept start.args.i start.pre.1).member_there, kept.members_most)
 
   its-place : c.before.member_of.result < length start.args.firsts.now
-  its-place = omega (arith, c.before.member_of.ensures, known, start.pre.2.a-place-each-member)
+  its-place = omega (arith, c.before.member_of.ensures, known, start.pre.2.a_place_each_member)
 
 -- firsts[member]
 slice-read-nexts : tie.Need-slice-read-nexts
@@ -37,7 +37,7 @@ slice-read-nexts c = its-place c
 
 -- nexts[i] = firsts[member]
 slice-write-nexts : tie.Need-slice-write-nexts
-slice-write-nexts c = omega (arith, few c, (start c).requires.2.a-place-each-record)
+slice-write-nexts c = omega (arith, few c, (start c).requires.2.a_place_each_record)
 
 -- i as u8
 cast-firsts : tie.Need-overflow-cast-firsts

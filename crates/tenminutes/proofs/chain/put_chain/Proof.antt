@@ -2,13 +2,13 @@
 use mathlib.Core.Path.{◌≡◌, sym, ◌∙◌, subst}
 use Prim.Native.Nat.{◌+◌, ◌-◌, ◌≤◌}
 use native.Mathlib.Omega.{arith}
-use Rattle.rules.specs.TenMinutes.{tenMinutesIn}
+use Rattle.rules.specs.TenMinutes.{ten_minutes_in}
 use Rattle.tenminutes.specs.Chain.{Chained}
 use Rattle.tenminutes.proofs.chain.put_chain.Statement.{statement}
 use Rattle.tenminutes.proofs.chain.put_chain.Tie as tie
 
 abbrev invariant-loop : tie.invariant-loop
-invariant-loop file firsts₀ nexts₀ i₀ firsts nexts i = (i ≤ (tenMinutesIn file).count) × Chained (tenMinutesIn file) i firsts nexts
+invariant-loop file firsts₀ nexts₀ i₀ firsts nexts i = (i ≤ (ten_minutes_in file).count) × Chained (ten_minutes_in file) i firsts nexts
 
 abbrev decreases-loop : tie.decreases-loop
 decreases-loop file firsts₀ nexts₀ i₀ firsts nexts i = i
@@ -19,8 +19,8 @@ records-requires c κs = tt
 loop-holds : tie.Need-loop-init invariant-loop decreases-loop
 loop-holds c =
     let s = c.before.before.before.before in
-    let all : (tenMinutesIn s.args.file.now).count ≡ c.records.result = sym c.records.ensures in
-    (omega (arith, all), subst (λ n. Chained (tenMinutesIn s.args.file.now) n s.args.firsts.now s.args.nexts.now) all s.requires.1)
+    let all : (ten_minutes_in s.args.file.now).count ≡ c.records.result = sym c.records.ensures in
+    (omega (arith, all), subst (λ n. Chained (ten_minutes_in s.args.file.now) n s.args.firsts.now s.args.nexts.now) all s.requires.1)
 
 -- i -= 1
 sub-i : tie.Need-overflow-sub-i invariant-loop decreases-loop
@@ -33,7 +33,7 @@ link-requires c κs =
     let before : at.loop.i ≡ at.loop.i - 1 + 1 = omega arith in (
       s.requires.0,
       omega (arith, at.loop.invariant.0),
-      subst (λ n. Chained (tenMinutesIn s.args.file.now) n at.loop.firsts at.loop.nexts) before at.loop.invariant.1,
+      subst (λ n. Chained (ten_minutes_in s.args.file.now) n at.loop.firsts at.loop.nexts) before at.loop.invariant.1,
     )
 
 loop-less : tie.Need-loop-smaller invariant-loop decreases-loop
@@ -47,18 +47,18 @@ loop-again c =
 
 -- firsts: &mut [u8]
 same_length : tie.Need-same-length invariant-loop decreases-loop
-same_length c = c.before.loop.invariant.1.a-place-each-member ∙ sym c.before.before.before.before.before.before.requires.1.a-place-each-member
+same_length c = c.before.loop.invariant.1.a_place_each_member ∙ sym c.before.before.before.before.before.before.requires.1.a_place_each_member
 
 -- nexts: &mut [u8]
 same-length-2 : tie.Need-same-length-2 invariant-loop decreases-loop
-same-length-2 c = c.before.loop.invariant.1.a-place-each-record ∙ sym c.before.before.before.before.before.before.requires.1.a-place-each-record
+same-length-2 c = c.before.loop.invariant.1.a_place_each_record ∙ sym c.before.before.before.before.before.before.requires.1.a_place_each_record
 
 returns : tie.Need-returns invariant-loop decreases-loop
 returns c =
     let ended = c.before in
     let file = ended.before.before.before.before.before.args.file.now in
     let all : ended.loop.i ≡ 0 = omega arith in
-    subst (λ n. Chained (tenMinutesIn file) n ended.loop.firsts ended.loop.nexts) all ended.loop.invariant.1
+    subst (λ n. Chained (ten_minutes_in file) n ended.loop.firsts ended.loop.nexts) all ended.loop.invariant.1
 
 pub put-chain-spec : {M : Type 1} → statement M
 put-chain-spec =

@@ -10,9 +10,9 @@ use borrow.Author.Rules.{sfits_of}
 use Rattle.whole.specs.Signed.{Under}
 use Rattle.whole.proofs.Machine.{Num, at, result, gives, stored, read_back}
 use Rattle.rules.specs.Record.{Hour, signed}
-use Rattle.rules.specs.TenMinutes.{tenMinutesIn, incremental, decremental, intervalPrice, netDeviation}
+use Rattle.rules.specs.TenMinutes.{ten_minutes_in, incremental, decremental, interval_price, net_deviation}
 use Rattle.rules.specs.Inner.Kept.{TenMinutesKept}
-use Rattle.rules.proofs.IntervalBounds.{net-under}
+use Rattle.rules.proofs.IntervalBounds.{net_under}
 use Rattle.tenminutes.proofs.charges.interval_cost.Statement.{statement}
 use Rattle.tenminutes.proofs.charges.interval_cost.Tie as tie
 
@@ -20,7 +20,7 @@ grouped : (a b c : ℕ) → a + (b + c) ≡ a + b + c
 grouped a b c = omega arith
 
 zone-few : (c : tie.Start) → c.args.z < 4
-zone-few c = omega (arith, c.requires.0.hour-kept.zones-most, c.requires.1)
+zone-few c = omega (arith, c.requires.0.hour_kept.zones_most, c.requires.1)
 
 -- 12 * z
 mul_at : tie.Need-overflow-mul-at
@@ -66,7 +66,7 @@ module _ (c : tie.After-cost-arg) where
   start = c.before.before.before.before
 
   abbrev h : Hour
-  h = tenMinutesIn start.args.file.now
+  h = ten_minutes_in start.args.file.now
 
   abbrev z : ℕ
   z = start.args.z
@@ -75,15 +75,15 @@ module _ (c : tie.After-cost-arg) where
   k = start.args.k
 
   kept : TenMinutesKept h
-  kept = start.pre.0.hour-kept
+  kept = start.pre.0.hour_kept
 
   abbrev inRoom : ℤ
   inRoom = get_or start.args.room.now (6 * z + k) (pos 0)
 
   small : Under inRoom 6144000000000
-  unfolding netDeviation
+  unfolding net_deviation
   small = let own = start.pre.3 in
-      rw (own.nets.net-is z k (zone-few start) start.pre.2) (net-under kept own.member z k start.pre.2)
+      rw (own.nets.net_is z k (zone-few start) start.pre.2) (net_under kept own.member z k start.pre.2)
 
   up_is : c.before.before.price.result ≡ incremental h z k
   unfolding incremental
@@ -97,10 +97,10 @@ module _ (c : tie.After-cost-arg) where
   net = at small
 
   abbrev up : Num
-  up = result up_is (kept.incremental-in z k start.pre.1 start.pre.2)
+  up = result up_is (kept.incremental_in z k start.pre.1 start.pre.2)
 
   abbrev down : Num
-  down = result down_is (kept.decremental-in z k start.pre.1 start.pre.2)
+  down = result down_is (kept.decremental_in z k start.pre.1 start.pre.2)
 
 cost-requires : tie.Need-cost-requires
 cost-requires c κs = (gives 6144000000000 (net c) tt tt, gives 100000 (up c) tt tt, gives 100000 (down c) tt tt)
@@ -112,7 +112,7 @@ alike : (a b c n i d r : ℤ) → r ≡ by a b c → a ≡ n → b ≡ i → c �
 alike a b c n i d r e a-is b-is c-is = rw (← a-is, ← b-is, ← c-is) e
 
 returns : tie.Need-returns
-unfolding intervalPrice
+unfolding interval_price
 returns c = let read = c.before in
     read_back (sfits_of c.cost.type-inv)
     ∙ alike _ _ _ _ _ _ _ c.cost.ensures (stored (net read) tt) (stored (up read) tt) (stored (down read) tt)

@@ -1,6 +1,6 @@
 -- `tenminutes::charges::put_charges` meets its contract: no record is chained in rooms of which each place holds 64.
 use borrow.Author.Rules.{rules}
-use Rattle.tenminutes.proofs.Chaining.{none-chained}
+use Rattle.tenminutes.proofs.Chaining.{none_chained}
 use Rattle.tenminutes.proofs.charges.put_charges.Statement.{statement}
 use Rattle.tenminutes.proofs.charges.put_charges.Tie as tie
 
@@ -13,14 +13,14 @@ slice-aggregate-put-charges-in-2 c = search rules
 put-charges-in-requires : tie.Need-put-charges-in-requires
 put-charges-in-requires c κs =
     let s = c.before.before.before.before in
-    (s.requires.0, s.requires.1, s.requires.2, none-chained s.requires.0.hour-kept.count_most)
+    (s.requires.0, s.requires.1, s.requires.2, none_chained s.requires.0.hour_kept.count_most)
 
 -- charges: &mut [i64]
 same_length : tie.Need-same-length
 same_length c = search rules
 
 returns : tie.Need-returns
-returns c = c.before.before.before.put-charges-in.ensures
+returns c = c.before.before.before.put_charges_in.ensures
 
 pub put-charges-spec : {M : Type 1} → statement M
 put-charges-spec =

@@ -10,7 +10,7 @@ put-each-requires : tie.Need-put-each-requires
 put-each-requires c κs =
     let made = c.before.before.before.before.before.before.before in
     let s = made.before.before.before.before.before.before in
-    (s.requires.0, s.requires.1, s.requires.2, made.put-chain.ensures)
+    (s.requires.0, s.requires.1, s.requires.2, made.put_chain.ensures)
 
 -- firsts: &mut [u8]
 same_length : tie.Need-same-length
@@ -25,7 +25,7 @@ same-length-3 : tie.Need-same-length-3
 same-length-3 c = search rules
 
 returns : tie.Need-returns
-returns c = c.before.put-each.ensures
+returns c = c.before.put_each.ensures
 
 pub put-charges-in-spec : {M : Type 1} → statement M
 put-charges-in-spec =

@@ -18,10 +18,10 @@ below : (net inc dec : ℤ) → net <ℤ pos 0 → net *ℤ dec ≡ net *ℤ con
 below (pos n) inc dec l = absurd (omega (arith, lt↓ l))
 below (negsuc n) inc dec l = refl
 
-from-0 : (net inc dec : ℤ) → pos 0 ≤ℤ net → net *ℤ inc ≡ net *ℤ cond (lt_z net (pos 0)) dec (cond (lt_z (pos 0) net) inc (pos 0))
-from-0 (pos zero) inc dec l = zero-times inc
-from-0 (pos (suc n)) inc dec l = rw (le-ltb (suc n) 0 zero-le, lt-ltb 0 (suc n) (omega arith)) refl
-from-0 (negsuc n) inc dec l = absurd (omega (arith, le↓ l))
+from_0 : (net inc dec : ℤ) → pos 0 ≤ℤ net → net *ℤ inc ≡ net *ℤ cond (lt_z net (pos 0)) dec (cond (lt_z (pos 0) net) inc (pos 0))
+from_0 (pos zero) inc dec l = zero-times inc
+from_0 (pos (suc n)) inc dec l = rw (le-ltb (suc n) 0 zero-le, lt-ltb 0 (suc n) (omega arith)) refl
+from_0 (negsuc n) inc dec l = absurd (omega (arith, le↓ l))
 
 module _ (c : tie.Start) where
   abbrev net : Num
@@ -49,7 +49,7 @@ mul-result-2 c = fits (up c.before) tt
 returns-2 : tie.Need-returns-2
 returns-2 c =
     let s = c.before in
-    stored (up s) tt ∙ from-0 s.args.net s.args.incremental s.args.decremental (lt_no (net s) (# (pos 0)) tt tt c.if1.false)
+    stored (up s) tt ∙ from_0 s.args.net s.args.incremental s.args.decremental (lt_no (net s) (# (pos 0)) tt tt c.if1.false)
 
 pub cost-spec : {M : Type 1} → statement M
 cost-spec = tie.close (tie.spec mul-result returns mul-result-2 returns-2)

@@ -25,7 +25,7 @@ returns c =
     let told = c.before.before.before.before in
     let pre = told.before.before.requires in
     let learnt = rw (passed_on pre.0, passed_on pre.1, passed_on pre.2) at c.ramped.ensures in
-    rw (sym told.before.is-ramped.ensures ∙ told.if1.true) (read_back (sfits_of c.ramped.type-inv) ∙ learnt)
+    rw (sym told.before.is_ramped.ensures ∙ told.if1.true) (read_back (sfits_of c.ramped.type-inv) ∙ learnt)
 
 -- 4 * shared.hour
 mul-result : tie.Need-overflow-mul-result
@@ -34,7 +34,7 @@ mul-result c = fits (sixth c.before.before.before.before) tt
 returns-2 : tie.Need-returns-2
 returns-2 c =
     let told = c.before.before in
-    rw (sym told.before.is-ramped.ensures ∙ told.if1.false) (stored (sixth told.before.before) tt ∙ sym (+ℤ_idr _))
+    rw (sym told.before.is_ramped.ensures ∙ told.if1.false) (stored (sixth told.before.before) tt ∙ sym (+ℤ_idr _))
 
 pub scheduled-spec : {M : Type 1} → statement M
 scheduled-spec = tie.close (tie.spec is-ramped-requires ramped-requires returns mul-result returns-2)

@@ -41,7 +41,7 @@ returns c =
     let hour = before.before in
     let kind = hour.before in
     λ k. record {
-      kind = (kind.kind-of.ensures ∙ ap kind_of kind.before.whole_word.ensures) k;
+      kind = (kind.kind_of.ensures ∙ ap kind_of kind.before.whole_word.ensures) k;
       hour = (read_back (sfits_of hour.number.type-inv) ∙ hour.number.ensures) k;
       before = (read_back (sfits_of before.number2.type-inv) ∙ before.number2.ensures) k;
       next = (read_back (sfits_of next.number3.type-inv) ∙ next.number3.ensures) k;

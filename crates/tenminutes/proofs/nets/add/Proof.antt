@@ -6,17 +6,17 @@ use lib.ListN.{length}
 use Rattle.whole.proofs.Machine.{Num, result, ◌:+◌, fits, stored}
 use Rattle.rules.specs.Charge.{entering}
 use Rattle.rules.specs.HourFile.{word}
-use Rattle.rules.specs.TenMinutes.{intervalEntry}
-use Rattle.rules.proofs.IntervalsKept.{interval-kept}
-use Rattle.rules.proofs.IntervalBounds.{interval-under}
+use Rattle.rules.specs.TenMinutes.{interval_entry}
+use Rattle.rules.proofs.IntervalsKept.{interval_kept}
+use Rattle.rules.proofs.IntervalBounds.{interval_under}
 use Rattle.tenminutes.specs.Room.{Added}
-use Rattle.tenminutes.proofs.Adding.{none-added, next_place, next-added}
+use Rattle.tenminutes.proofs.Adding.{none_added, next_place, next_added}
 use Rattle.tenminutes.proofs.nets.add.Statement.{statement}
 use Rattle.tenminutes.proofs.nets.add.Tie as tie
 
 abbrev invariant-loop : tie.invariant-loop
 invariant-loop words zone room₀ first shared k₀ room k =
-    (k ≤ 6) × Added (λ j. entering (intervalEntry (word words) j)) zone k room₀ room
+    (k ≤ 6) × Added (λ j. entering (interval_entry (word words) j)) zone k room₀ room
 
 abbrev decreases-loop : tie.decreases-loop
 decreases-loop words zone room₀ first shared k₀ room k = 6 - k
@@ -29,7 +29,7 @@ mul-first : tie.Need-overflow-mul-first invariant-loop decreases-loop
 mul-first c = omega (arith, c.before.requires.2)
 
 loop-holds : tie.Need-loop-init invariant-loop decreases-loop
-loop-holds c = (omega arith, none-added)
+loop-holds c = (omega arith, none_added)
 
 module _ (c : tie.In-loop invariant-loop decreases-loop) where
   abbrev at : tie.At-loop invariant-loop decreases-loop
@@ -51,7 +51,7 @@ module _ (c : tie.In-loop invariant-loop decreases-loop) where
   inside = omega (arith, few, at.loop.inv.1.same_length, start.pre.3.places)
 
 deviation-requires : tie.Need-deviation-requires invariant-loop decreases-loop
-deviation-requires c κs = let s = start c in (s.pre.0, s.pre.1, omega arith, (at c).before.shared-in.ensures)
+deviation-requires c κs = let s = start c in (s.pre.0, s.pre.1, omega arith, (at c).before.shared_in.ensures)
 
 -- the deviation is worked
 module _ (c : tie.After-deviation invariant-loop decreases-loop) where
@@ -63,7 +63,7 @@ module _ (c : tie.After-deviation invariant-loop decreases-loop) where
       let s = start turn in
       result (next_place (at turn).loop.inv.1 (omega arith)) (s.pre.3.small s.args.zone (k turn) s.pre.2 (omega arith))
       :+ result c.deviation.ensures
-      (interval-under (interval-kept (word s.args.words.now) s.pre.1 (k turn) (omega arith)))
+      (interval_under (interval_kept (word s.args.words.now) s.pre.1 (k turn) (omega arith)))
 
 -- first + k
 add-room : tie.Need-overflow-add-room invariant-loop decreases-loop
@@ -94,7 +94,7 @@ loop-again : tie.Need-loop-preserved invariant-loop decreases-loop
 loop-again c =
     let worked = c.before in
     let s = start (turn worked) in
-    (omega arith, next-added (at (turn worked)).loop.inv.1 (omega arith) s.pre.2 s.pre.3.places (stored (sum worked) tt))
+    (omega arith, next_added (at (turn worked)).loop.inv.1 (omega arith) s.pre.2 s.pre.3.places (stored (sum worked) tt))
 
 -- room: &mut [i64]
 same_length : tie.Need-same-length invariant-loop decreases-loop

@@ -4,10 +4,10 @@ use Prim.Native.Nat.{◌<◌}
 use native.Mathlib.Omega.{arith}
 use lib.ListN.{length}
 use borrow.Author.Rules.{rules}
-use Rattle.rules.specs.Record.{Hour, areaOf, zoneOf, areas}
+use Rattle.rules.specs.Record.{Hour, area_of, zone_of, areas}
 use Rattle.rules.specs.Charge.{entering}
-use Rattle.rules.specs.TenMinutes.{tenMinutesIn}
-use Rattle.tenminutes.proofs.Inside.{part_length, part-area, part-kept, part-interval}
+use Rattle.rules.specs.TenMinutes.{ten_minutes_in}
+use Rattle.tenminutes.proofs.Inside.{part_length, part_area, part_kept, part_interval}
 use Rattle.tenminutes.proofs.Adding.{spare, its_own}
 use Rattle.tenminutes.proofs.nets.post.Statement.{statement}
 use Rattle.tenminutes.proofs.nets.post.Tie as tie
@@ -21,7 +21,7 @@ module _ (c : tie.After-record) where
   start = c.before.before
 
   abbrev h : Hour
-  h = tenMinutesIn start.args.file.now
+  h = ten_minutes_in start.args.file.now
 
   long : length c.record.result.now ≡ 120
   long = part_length start.pre.0 start.pre.1 c.record.ensures
@@ -41,37 +41,37 @@ module _ (c : tie.After-whole-word) where
   abbrev begun : tie.Start
   begun = start part
 
-  area-is : c.whole_word.result ≡ areaOf (h part) begun.args.i
-  area-is = c.whole_word.ensures ∙ part-area begun.pre.0 begun.pre.1 part.record.ensures
+  area-is : c.whole_word.result ≡ area_of (h part) begun.args.i
+  area-is = c.whole_word.ensures ∙ part_area begun.pre.0 begun.pre.1 part.record.ensures
 
-  area-there : c.whole_word.result < areas (h part)
-  area-there = omega (arith, area-is, (begun.pre.0.hour-kept.record-kept begun.args.i begun.pre.1).area-there)
+  area_there : c.whole_word.result < areas (h part)
+  area_there = omega (arith, area-is, (begun.pre.0.hour_kept.record_kept begun.args.i begun.pre.1).area_there)
 
 zone-of-requires : tie.Need-zone-of-requires
-zone-of-requires c κs = ((begun c).requires.0, area-there c)
+zone-of-requires c κs = ((begun c).requires.0, area_there c)
 
 -- its zone is known
 module _ (c : tie.After-zone-of) where
   abbrev area : tie.After-whole-word
   area = c.before
 
-  zone-is : c.zone-of.result ≡ zoneOf (h (part area)) (areaOf (h (part area)) (begun area).args.i)
-  zone-is = c.zone-of.ensures ∙ ap (zoneOf (h (part area))) (area-is area)
+  zone-is : c.zone_of.result ≡ zone_of (h (part area)) (area_of (h (part area)) (begun area).args.i)
+  zone-is = c.zone_of.ensures ∙ ap (zone_of (h (part area))) (area-is area)
 
-  zone-few : c.zone-of.result < 4
+  zone-few : c.zone_of.result < 4
   zone-few =
-      let kept = (begun area).pre.0.hour-kept in
-      omega (arith, c.zone-of.ensures, kept.zone-there area.whole_word.result (area-there area), kept.zones-most)
+      let kept = (begun area).pre.0.hour_kept in
+      omega (arith, c.zone_of.ensures, kept.zone_there area.whole_word.result (area_there area), kept.zones_most)
 
 add-requires : tie.Need-add-requires
 add-requires c κs =
     let zoned = c.before in
     let s = begun (area zoned) in
-    let part-is = (part (area zoned)).record.ensures in (
+    let part_is = (part (area zoned)).record.ensures in (
       long (part (area zoned)),
-      part-kept s.pre.0 s.pre.1 part-is,
+      part_kept s.pre.0 s.pre.1 part_is,
       zone-few zoned,
-      spare s.pre.2 s.pre.0.hour-kept (omega (arith, s.pre.1)),
+      spare s.pre.2 s.pre.0.hour_kept (omega (arith, s.pre.1)),
     )
 
 -- room: &mut [i64]
@@ -82,9 +82,9 @@ returns : tie.Need-returns
 returns c =
     let zoned = c.before.before.before in
     let s = begun (area zoned) in
-    let part-is = (part (area zoned)).record.ensures in
+    let part_is = (part (area zoned)).record.ensures in
     its_own s.pre.2 refl (zone-is zoned)
-    (λ k l. ap entering (part-interval s.pre.0 s.pre.1 part-is k l)) c.before.add.ensures
+    (λ k l. ap entering (part_interval s.pre.0 s.pre.1 part_is k l)) c.before.add.ensures
 
 pub post-spec : {M : Type 1} → statement M
 post-spec =

@@ -13,7 +13,7 @@ signed-requires : tie.Need-signed-requires
 signed-requires c κs = tt
 
 returns : tie.Need-returns
-returns c = read_back (sfits_of c.signed.type-inv) ∙ c.signed.ensures ∙ ap signed c.before.head-word.ensures
+returns c = read_back (sfits_of c.signed.type-inv) ∙ c.signed.ensures ∙ ap signed c.before.head_word.ensures
 
 pub price-spec : {M : Type 1} → statement M
 price-spec = tie.close (tie.spec head-word-requires signed-requires returns)

@@ -1,6 +1,6 @@
 -- `trial_figures::deviations::show_entry` is safe: an hour's entry fits the formulas.
 use borrow.Author.Rules.{rules}
-use Rattle.rules.proofs.Bounds.{entry-room}
+use Rattle.rules.proofs.Bounds.{entry_room}
 use Rattle.trial_figures.proofs.deviations.show_entry.Statement.{statement}
 use Rattle.trial_figures.proofs.deviations.show_entry.Tie as tie
 
@@ -14,7 +14,7 @@ print-requires : tie.Need-print-requires
 print-requires c κs = search rules
 
 deviation-requires : tie.Need-deviation-requires
-deviation-requires c κs = entry-room (search rules)
+deviation-requires c κs = entry_room (search rules)
 
 print-signed-requires : tie.Need-print-signed-requires
 print-signed-requires c κs = search rules

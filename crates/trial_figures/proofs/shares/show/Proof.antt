@@ -8,7 +8,7 @@ use mir.Syntax.{w64}
 use mir.ValLaws.{to_z-of_z}
 use borrow.Author.Rules.{rules}
 use Rattle.trial_figures.specs.Small.{Small}
-use Rattle.trial_figures.proofs.Shown.{small-take}
+use Rattle.trial_figures.proofs.Shown.{small_take}
 use Rattle.trial_figures.proofs.shares.show.Statement.{statement}
 use Rattle.trial_figures.proofs.shares.show.Tie as tie
 
@@ -25,7 +25,7 @@ module _ (start : tie.Start) where
   demands = start.args.first ∷ start.args.second ∷ start.args.third ∷ []
 
   small : Small (take start.args.n demands)
-  small = small-take demands (start.pre.2, (start.pre.3, (start.pre.4, tt))) start.args.n
+  small = small_take demands (start.pre.2, (start.pre.3, (start.pre.4, tt))) start.args.n
 
   counted : length (take start.args.n demands) ≡ start.args.n
   counted = length-take-le start.args.n demands start.pre.1

@@ -3,7 +3,7 @@ use Prim.Native.Nat.{◌≤◌}
 use mir.Syntax.{w64}
 use mir.ValLaws.{to_z-of_z}
 use borrow.Author.Rules.{rules}
-use Rattle.trial_figures.proofs.Shown.{small-fits, shareable, share-fits}
+use Rattle.trial_figures.proofs.Shown.{small_fits, shareable, share_fits}
 use Rattle.trial_figures.proofs.shares.show_in.Statement.{statement}
 use Rattle.trial_figures.proofs.shares.show_in.Tie as tie
 
@@ -29,7 +29,7 @@ print-requires-2 c κs = search rules
 -- print_sizes(0, places)
 print-sizes-requires : tie.Need-print-sizes-requires
 print-sizes-requires c κs = let start = c.before.before.before.before.before.before.before in
-    small-fits start.args.places.now start.requires.0
+    small_fits start.args.places.now start.requires.0
 
 size-of-requires : tie.Need-size-of-requires
 size-of-requires c κs = search rules
@@ -58,7 +58,7 @@ print-sizes-requires-2 : tie.Need-print-sizes-requires-2
 print-sizes-requires-2 c κs = let shared = c.before.before.before.before.before in
     let d = shared.before in
     let s = start d in
-    share-fits s.args.places.now s.pre.0 s.pre.1 d.type_size.result (size-most d) _ shared.share-in-place.ensures
+    share_fits s.args.places.now s.pre.0 s.pre.1 d.type_size.result (size-most d) _ shared.share_in_place.ensures
 
 -- b"\n"
 slice-aggregate-print-4 : tie.Need-slice-aggregate-print-4

@@ -1,26 +1,26 @@
 -- `wordrules::ten_minutes::generator_rule` meets its contract: the row by its tests.
 use borrow.Author.Tests.{lt-ltb, le-ltb, eq-eqb, ne_eqb}
-use Rattle.rules.proofs.IntervalTables.{interval-words}
+use Rattle.rules.proofs.IntervalTables.{interval_words}
 use Rattle.wordrules.proofs.ten_minutes.generator_rule.Statement.{statement}
 use Rattle.wordrules.proofs.ten_minutes.generator_rule.Tie as tie
 
 returns : tie.Need-returns
-returns c = rw interval-words (simp (lt-ltb _ _ c.if1.true))
+returns c = rw interval_words (simp (lt-ltb _ _ c.if1.true))
 
 returns-2 : tie.Need-returns-2
-returns-2 c = rw interval-words (simp (le-ltb _ _ c.before.if1.false, lt-ltb _ _ c.if2.true))
+returns-2 c = rw interval_words (simp (le-ltb _ _ c.before.if1.false, lt-ltb _ _ c.if2.true))
 
 returns-3 : tie.Need-returns-3
-returns-3 c = rw interval-words (simp (le-ltb _ _ c.before.before.if1.false, le-ltb _ _ c.before.if2.false, lt-ltb _ _ c.if3.true))
+returns-3 c = rw interval_words (simp (le-ltb _ _ c.before.before.if1.false, le-ltb _ _ c.before.if2.false, lt-ltb _ _ c.if3.true))
 
 returns-4 : tie.Need-returns-4
-returns-4 c = rw interval-words (simp (le-ltb _ _ c.before.before.before.if1.false, le-ltb _ _ c.before.before.if2.false, le-ltb _ _ c.before.if3.false, lt-ltb _ _ c.if4.true))
+returns-4 c = rw interval_words (simp (le-ltb _ _ c.before.before.before.if1.false, le-ltb _ _ c.before.before.if2.false, le-ltb _ _ c.before.if3.false, lt-ltb _ _ c.if4.true))
 
 returns-5 : tie.Need-returns-5
-returns-5 c = rw interval-words (simp (le-ltb _ _ c.before.before.before.before.if1.false, le-ltb _ _ c.before.before.before.if2.false, le-ltb _ _ c.before.before.if3.false, le-ltb _ _ c.before.if4.false, lt-ltb _ _ c.if5.true))
+returns-5 c = rw interval_words (simp (le-ltb _ _ c.before.before.before.before.if1.false, le-ltb _ _ c.before.before.before.if2.false, le-ltb _ _ c.before.before.if3.false, le-ltb _ _ c.before.if4.false, lt-ltb _ _ c.if5.true))
 
 returns-6 : tie.Need-returns-6
-returns-6 c = rw interval-words (simp (le-ltb _ _ c.before.before.before.before.if1.false, le-ltb _ _ c.before.before.before.if2.false, le-ltb _ _ c.before.before.if3.false, le-ltb _ _ c.before.if4.false, le-ltb _ _ c.if5.false))
+returns-6 c = rw interval_words (simp (le-ltb _ _ c.before.before.before.before.if1.false, le-ltb _ _ c.before.before.before.if2.false, le-ltb _ _ c.before.before.if3.false, le-ltb _ _ c.before.if4.false, le-ltb _ _ c.if5.false))
 
 pub generator-rule-spec : {M : Type 1} → statement M
 generator-rule-spec = tie.close (tie.spec returns returns-2 returns-3 returns-4 returns-5 returns-6)

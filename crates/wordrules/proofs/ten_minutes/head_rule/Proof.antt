@@ -2,13 +2,13 @@
 use mathlib.Core.Path.{◌∙◌}
 use borrow.Author.Rules.{rules}
 use borrow.Author.Tests.{lt-ltb, le-ltb}
-use Rattle.rules.specs.Ranges.{tenMinutesHeadRule}
+use Rattle.rules.specs.Ranges.{ten_minutes_head_rule}
 use Rattle.wordrules.proofs.ten_minutes.head_rule.Statement.{statement}
 use Rattle.wordrules.proofs.ten_minutes.head_rule.Tie as tie
 
 -- return Rule::Any
 returns : tie.Need-returns
-unfolding tenMinutesHeadRule
+unfolding ten_minutes_head_rule
 returns c = simp (lt-ltb _ _ c.if1.true)
 
 counts-rule-requires : tie.Need-counts-rule-requires
@@ -16,12 +16,12 @@ counts-rule-requires c κs = search rules
 
 -- return counts_rule(w)
 returns-2 : tie.Need-returns-2
-unfolding tenMinutesHeadRule
-returns-2 c = c.counts-rule.ensures ∙ simp (le-ltb _ _ c.before.before.if1.false, lt-ltb _ _ c.before.if2.true)
+unfolding ten_minutes_head_rule
+returns-2 c = c.counts_rule.ensures ∙ simp (le-ltb _ _ c.before.before.if1.false, lt-ltb _ _ c.before.if2.true)
 
 -- return ZERO, where w < 16
 returns-3 : tie.Need-returns-3
-unfolding tenMinutesHeadRule
+unfolding ten_minutes_head_rule
 returns-3 c = simp (le-ltb _ _ c.before.before.if1.false, le-ltb _ _ c.before.if2.false, lt-ltb _ _ c.if3.true)
 
 zone-rule-requires : tie.Need-zone-rule-requires
@@ -29,10 +29,10 @@ zone-rule-requires c κs = search rules
 
 -- return zone_rule(zones, areas, w - 16)
 returns-4 : tie.Need-returns-4
-unfolding tenMinutesHeadRule
+unfolding ten_minutes_head_rule
 returns-4 c =
     let at = c.before in
-    c.zone-rule.ensures
+    c.zone_rule.ensures
     ∙ simp (
       le-ltb _ _ at.before.before.before.if1.false,
       le-ltb _ _ at.before.before.if2.false,
@@ -42,7 +42,7 @@ returns-4 c =
 
 -- return Rule::AtMostInSize(100000)
 returns-5 : tie.Need-returns-5
-unfolding tenMinutesHeadRule
+unfolding ten_minutes_head_rule
 returns-5 c = simp (
   le-ltb _ _ c.before.before.before.before.before.if1.false,
   le-ltb _ _ c.before.before.before.before.if2.false,
@@ -54,7 +54,7 @@ returns-5 c = simp (
 
 -- ZERO, past the zones
 returns-6 : tie.Need-returns-6
-unfolding tenMinutesHeadRule
+unfolding ten_minutes_head_rule
 returns-6 c = simp (
   le-ltb _ _ c.before.before.before.before.before.if1.false,
   le-ltb _ _ c.before.before.before.before.if2.false,
@@ -66,7 +66,7 @@ returns-6 c = simp (
 
 -- ZERO, where 96 <= w
 returns-7 : tie.Need-returns-7
-unfolding tenMinutesHeadRule
+unfolding ten_minutes_head_rule
 returns-7 c = simp (
   le-ltb _ _ c.before.before.before.before.if1.false,
   le-ltb _ _ c.before.before.before.if2.false,

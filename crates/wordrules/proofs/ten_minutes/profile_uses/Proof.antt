@@ -1,20 +1,20 @@
 -- `wordrules::ten_minutes::profile_uses` meets its contract: the row by its tests.
 use borrow.Author.Tests.{lt-ltb, le-ltb, eq-eqb, ne_eqb}
-use Rattle.rules.proofs.IntervalTables.{profile-uses}
+use Rattle.rules.proofs.IntervalTables.{profile_uses}
 use Rattle.wordrules.proofs.ten_minutes.profile_uses.Statement.{statement}
 use Rattle.wordrules.proofs.ten_minutes.profile_uses.Tie as tie
 
 returns : tie.Need-returns
-returns c = rw profile-uses (simp (lt-ltb _ _ c.if1.true))
+returns c = rw profile_uses (simp (lt-ltb _ _ c.if1.true))
 
 returns-2 : tie.Need-returns-2
-returns-2 c = rw profile-uses (simp (le-ltb _ _ c.before.if1.false, eq-eqb _ _ c.if2.true))
+returns-2 c = rw profile_uses (simp (le-ltb _ _ c.before.if1.false, eq-eqb _ _ c.if2.true))
 
 returns-3 : tie.Need-returns-3
-returns-3 c = rw profile-uses (simp (le-ltb _ _ c.before.before.if1.false, ne_eqb _ _ c.before.if2.false, lt-ltb _ _ c.if3.true))
+returns-3 c = rw profile_uses (simp (le-ltb _ _ c.before.before.if1.false, ne_eqb _ _ c.before.if2.false, lt-ltb _ _ c.if3.true))
 
 returns-4 : tie.Need-returns-4
-returns-4 c = rw profile-uses (simp (le-ltb _ _ c.before.before.if1.false, ne_eqb _ _ c.before.if2.false, le-ltb _ _ c.if3.false))
+returns-4 c = rw profile_uses (simp (le-ltb _ _ c.before.before.if1.false, ne_eqb _ _ c.before.if2.false, le-ltb _ _ c.if3.false))
 
 pub profile-uses-spec : {M : Type 1} → statement M
 profile-uses-spec = tie.close (tie.spec returns returns-2 returns-3 returns-4)

@@ -1,6 +1,6 @@
 -- `writer::block::closing_word` meets its contract: the words of the front and of the body add up to the block's sum.
 use Rattle.std.proofs.Common.{ℕ, ◌%◌, sym, ap, ◌∙◌, arith}
-use Rattle.writer.proofs.Sums.{open-sum, closes, kept_on}
+use Rattle.writer.proofs.Sums.{open_sum, closes, kept_on}
 use Rattle.writer.proofs.block.closing_word.Statement.{statement}
 use Rattle.writer.proofs.block.closing_word.Tie as tie
 
@@ -29,7 +29,7 @@ returns c =
     let first = second.before in
     let summed = first.before in
     let given = summed.before.before in
-    let sum = open-sum _ _ _ given.args.body.now given.requires in
+    let sum = open_sum _ _ _ given.args.body.now given.requires in
     let with-mark = kept_on _ _ _ _ _ summed.sum_of.ensures first.wrapping-add-u32.ensures in
     let with-position = kept_on _ _ _ _ _ with-mark second.wrapping-add-u322.ensures in
     let kept = kept_on _ _ _ _ _ with-position third.wrapping-add-u323.ensures in

@@ -1,10 +1,10 @@
 -- `writer::block::put_block` meets its contract: each call stores the words that come next, and the last ends where the block does.
 use Rattle.std.proofs.Common.{◌≡◌, ℕ, ◌+◌, ◌-◌, ◌*◌, length, get_or, sym, ap, ◌∙◌, arith}
 use Rattle.whole.specs.Below.{replacingFirst}
-use Rattle.whole.proofs.Buffers.{replacing-all}
-use Rattle.writer.specs.Stored.{bytes_of, closedBlock, blockBytes}
-use Rattle.writer.proofs.Storing.{Begun, begun-none, begun-word, begun-words}
-use Rattle.writer.proofs.Sums.{closed-front, closed-gap, closed-sum, closed-body, closed-past}
+use Rattle.whole.proofs.Buffers.{replacing_all}
+use Rattle.writer.specs.Stored.{bytes_of, closed_block, block_bytes}
+use Rattle.writer.proofs.Storing.{Begun, begun_none, begun_word, begun_words}
+use Rattle.writer.proofs.Sums.{closed_front, closed_gap, closed_sum, closed_body, closed_past}
 use Rattle.writer.proofs.block.put_block.Statement.{statement}
 use Rattle.writer.proofs.block.put_block.Tie as tie
 
@@ -45,7 +45,7 @@ same_length : tie.Need-same-length
 same_length c = omega arith
 
 returns : tie.Need-returns
-unfolding blockBytes
+unfolding block_bytes
 returns c =
     let past = c.before.before in
     let words = past.before.before.before.before in
@@ -61,20 +61,20 @@ returns c =
     let body = given.body.now in
     let room = start.requires.0 in
     let few = start.requires.1 in
-    let front = closed-front given.mark given.position given.count body in
-    let f = closedBlock given.mark given.position given.count body in
-    let b1 : Begun f old 1 _ = begun-word begun-none (omega arith) (sym front.0) first.put_word.ensures in
-    let b2 : Begun f old 2 _ = begun-word b1 (omega arith) (sym front.1) second.put-word2.ensures in
-    let b3 : Begun f old 3 _ = begun-word b2 (omega arith) (sym front.2) third.put-word3.ensures in
-    let b7 : Begun f old 7 _ = begun-words b3 (λ k. 0) 4 (omega arith) (λ i l. sym (closed-gap _ _ _ body i l)) gap.put-zeros.ensures in
-    let b8 : Begun f old 8 _ = begun-word b7 (omega arith) (closing.closing-word.ensures ∙ sym (closed-sum _ _ _ body))
+    let front = closed_front given.mark given.position given.count body in
+    let f = closed_block given.mark given.position given.count body in
+    let b1 : Begun f old 1 _ = begun_word begun_none (omega arith) (sym front.0) first.put_word.ensures in
+    let b2 : Begun f old 2 _ = begun_word b1 (omega arith) (sym front.1) second.put-word2.ensures in
+    let b3 : Begun f old 3 _ = begun_word b2 (omega arith) (sym front.2) third.put-word3.ensures in
+    let b7 : Begun f old 7 _ = begun_words b3 (λ k. 0) 4 (omega arith) (λ i l. sym (closed_gap _ _ _ body i l)) gap.put_zeros.ensures in
+    let b8 : Begun f old 8 _ = begun_word b7 (omega arith) (closing.closing_word.ensures ∙ sym (closed_sum _ _ _ body))
     sum.put-word4.ensures in
-    let b : Begun f old (8 + length body) _ = begun-words b8 (λ k. get_or body k 0) (length body) (omega arith)
-    (λ i l. sym (closed-body _ _ _ body i)) words.put-words.ensures in
-    let all = begun-words b (λ k. 0) (120 - length body) (omega arith) (λ i l. sym (closed-past _ _ _ body _ (omega arith)))
+    let b : Begun f old (8 + length body) _ = begun_words b8 (λ k. get_or body k 0) (length body) (omega arith)
+    (λ i l. sym (closed_body _ _ _ body i)) words.put_words.ensures in
+    let all = begun_words b (λ k. 0) (120 - length body) (omega arith) (λ i l. sym (closed_past _ _ _ body _ (omega arith)))
     past.put-zeros2.ensures in
     let end : 4 * (8 + length body + (120 - length body)) ≡ 512 = omega arith in
-    all.first ∙ ap (λ (n : ℕ). replacingFirst (bytes_of f) n old) end ∙ replacing-all (bytes_of f) 512 old room
+    all.first ∙ ap (λ (n : ℕ). replacingFirst (bytes_of f) n old) end ∙ replacing_all (bytes_of f) 512 old room
 
 pub put-block-spec : {M : Type 1} → statement M
 put-block-spec =

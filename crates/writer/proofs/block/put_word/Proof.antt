@@ -1,7 +1,7 @@
 -- `writer::block::put_word` meets its contract: four bytes, each a remainder by 256, stored where the definition has them.
 use Rattle.std.proofs.Common.{refl, arith, length-set}
 use Rattle.rules.specs.HourWords.{byte_of}
-use Rattle.writer.specs.Stored.{wordStored}
+use Rattle.writer.specs.Stored.{word_stored}
 use Rattle.writer.proofs.block.put_word.Statement.{statement}
 use Rattle.writer.proofs.block.put_word.Tie as tie
 
@@ -58,7 +58,7 @@ same_length : tie.Need-same-length
 same_length c = simp length-set
 
 returns : tie.Need-returns
-unfolding wordStored byte_of
+unfolding word_stored byte_of
 returns c = refl
 
 pub put-word-spec : {M : Type 1} → statement M

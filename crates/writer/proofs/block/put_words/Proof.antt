@@ -1,6 +1,6 @@
 -- `writer::block::put_words` meets its contract. The loop's invariant: the words stored so far.
 use Rattle.std.proofs.Common.{◌-◌, length, get_or, refl, arith}
-use Rattle.writer.proofs.Storing.{Storing, none-stored, stored-length, stored_next, all-stored}
+use Rattle.writer.proofs.Storing.{Storing, none_stored, stored_length, stored_next, all_stored}
 use Rattle.writer.proofs.block.put_words.Statement.{statement}
 use Rattle.writer.proofs.block.put_words.Tie as tie
 
@@ -11,7 +11,7 @@ abbrev decreases-loop : tie.decreases-loop
 decreases-loop block₀ from words k₀ block k = length words - k
 
 loop-holds : tie.Need-loop-init invariant-loop decreases-loop
-loop-holds c = none-stored
+loop-holds c = none_stored
 
 -- from + k
 add-put-word : tie.Need-overflow-add-put-word invariant-loop decreases-loop
@@ -26,7 +26,7 @@ shared-slice-read-put-word : tie.Need-shared-slice-read-put-word invariant-loop 
 shared-slice-read-put-word c = omega arith
 
 put-word-requires : tie.Need-put-word-requires invariant-loop decreases-loop
-put-word-requires c κs = omega (arith, stored-length c.before.before.before.loop.invariant)
+put-word-requires c κs = omega (arith, stored_length c.before.before.before.loop.invariant)
 
 -- k += 1
 add-k : tie.Need-overflow-add-k invariant-loop decreases-loop
@@ -42,10 +42,10 @@ loop-again c =
 
 -- block: &mut [u8]
 same_length : tie.Need-same-length invariant-loop decreases-loop
-same_length c = stored-length c.before.loop.invariant
+same_length c = stored_length c.before.loop.invariant
 
 returns : tie.Need-returns invariant-loop decreases-loop
-returns c = all-stored c.before.loop.invariant c.loop-test.false
+returns c = all_stored c.before.loop.invariant c.loop-test.false
 
 pub put-words-spec : {M : Type 1} → statement M
 put-words-spec =

@@ -1,6 +1,6 @@
 -- `writer::block::put_zeros` meets its contract. The loop's invariant: the zeros stored so far.
 use Rattle.std.proofs.Common.{◌-◌, refl, arith}
-use Rattle.writer.proofs.Storing.{Storing, none-stored, stored-length, stored_next, all-stored}
+use Rattle.writer.proofs.Storing.{Storing, none_stored, stored_length, stored_next, all_stored}
 use Rattle.writer.proofs.block.put_zeros.Statement.{statement}
 use Rattle.writer.proofs.block.put_zeros.Tie as tie
 
@@ -11,14 +11,14 @@ abbrev decreases-loop : tie.decreases-loop
 decreases-loop block₀ from n k₀ block k = n - k
 
 loop-holds : tie.Need-loop-init invariant-loop decreases-loop
-loop-holds c = none-stored
+loop-holds c = none_stored
 
 -- from + k
 add-put-word : tie.Need-overflow-add-put-word invariant-loop decreases-loop
 add-put-word c = omega arith
 
 put-word-requires : tie.Need-put-word-requires invariant-loop decreases-loop
-put-word-requires c κs = omega (arith, stored-length c.before.before.loop.invariant)
+put-word-requires c κs = omega (arith, stored_length c.before.before.loop.invariant)
 
 -- k += 1
 add-k : tie.Need-overflow-add-k invariant-loop decreases-loop
@@ -34,10 +34,10 @@ loop-again c =
 
 -- block: &mut [u8]
 same_length : tie.Need-same-length invariant-loop decreases-loop
-same_length c = stored-length c.before.loop.invariant
+same_length c = stored_length c.before.loop.invariant
 
 returns : tie.Need-returns invariant-loop decreases-loop
-returns c = all-stored c.before.loop.invariant c.loop-test.false
+returns c = all_stored c.before.loop.invariant c.loop-test.false
 
 pub put-zeros-spec : {M : Type 1} → statement M
 put-zeros-spec =

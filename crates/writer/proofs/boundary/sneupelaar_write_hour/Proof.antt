@@ -1,7 +1,7 @@
 -- What was answered and written goes out as it is.
 use Rattle.std.proofs.Common.{◌∙◌, ap₂, rules}
 use Rattle.rules.proofs.Writing.{as_written}
-use Rattle.rules.specs.Refusals.{refusedAt}
+use Rattle.rules.specs.Refusals.{refused_at}
 use Rattle.writer.proofs.boundary.sneupelaar_write_hour.Statement.{statement}
 use Rattle.writer.proofs.boundary.sneupelaar_write_hour.Tie as tie
 
@@ -20,9 +20,9 @@ same_length c = search rules
 
 returns : tie.Need-returns
 returns c =
-    let wrote = c.before.before.before.before.write-hour in
+    let wrote = c.before.before.before.before.write_hour in
     let e = wrote.ensures in (
-      as_written _ _ _ (ap₂ refusedAt c.before.number_of_lem.ensures c.place_of.ensures ∙ e.0)
+      as_written _ _ _ (ap₂ refused_at c.before.number_of_lem.ensures c.place_of.ensures ∙ e.0)
           e.1.0 e.1.1.0,
       e.1.1.1,
     )

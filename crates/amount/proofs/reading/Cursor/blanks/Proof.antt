@@ -4,14 +4,14 @@ use mathlib.Core.Path.{◌≡◌, refl, sym, ◌∙◌}
 use native.Mathlib.Omega.{arith}
 use lib.ListN.{length, get_or}
 use borrow.Author.Tests.{ne_eqb}
-use Rattle.rules.specs.Text.{pastBlanks}
+use Rattle.rules.specs.Text.{past_blanks}
 use Rattle.rules.proofs.Digits.{stands}
-use Rattle.rules.proofs.Parts.{blanks-from}
+use Rattle.rules.proofs.Parts.{blanks_from}
 use Rattle.amount.proofs.reading.Cursor.blanks.Statement.{statement}
 use Rattle.amount.proofs.reading.Cursor.blanks.Tie as tie
 
 abbrev invariant-loop : tie.invariant-loop
-invariant-loop field at₀ at = pastBlanks field at ≡ pastBlanks field at₀
+invariant-loop field at₀ at = past_blanks field at ≡ past_blanks field at₀
 
 abbrev decreases-loop : tie.decreases-loop
 decreases-loop field at₀ at = length field - at
@@ -43,14 +43,14 @@ loop-again : tie.Need-loop-preserved invariant-loop decreases-loop
 loop-again c =
     let at = c.before.before.loop.at in
     let s = c.before.before.before.before.args.field.now in
-    let on : pastBlanks s at ≡ pastBlanks s (at + 1) = blanks-from s at ∙ rw (blank c).0 in
+    let on : past_blanks s at ≡ past_blanks s (at + 1) = blanks_from s at ∙ rw (blank c).0 in
     sym on ∙ c.before.before.loop.invariant
 
 returns : tie.Need-returns invariant-loop decreases-loop
 returns c =
     let at = c.before.before.loop.at in
     let s = c.before.before.before.before.args.field.now in
-    let here : pastBlanks s at ≡ at = blanks-from s at
+    let here : past_blanks s at ≡ at = blanks_from s at
     ∙ rw (ne_eqb (get_or s at 0) 32 (λ e. c.if1.false (c.before.byte_at.ensures ∙ e))) in
     sym here ∙ c.before.before.loop.invariant
 

@@ -9,37 +9,37 @@ use borrow.Author.Rules.{rules}
 use borrow.Author.Tests.{not-true, not-false, ne_eqb}
 use lib.ListN.{length, drop, get_or}
 use lib.Seq.{get_or-drop}
-use Rattle.rules.specs.Text.{isDigit, digitsValue, centsAt}
-use Rattle.rules.proofs.Digits.{first_byte, digit-range, stands}
+use Rattle.rules.specs.Text.{is_digit, digits_value, cents_at}
+use Rattle.rules.proofs.Digits.{first_byte, digit_range, stands}
 use Rattle.amount.proofs.reading.Cursor.cents.Statement.{statement}
 use Rattle.amount.proofs.reading.Cursor.cents.Tie as tie
 
-digit-stands : (s : List ℕ) (at : ℕ) → isDigit (get_or s at 0) ≡ true → at < length s
-digit-stands s at d = let r = digit-range (get_or s at 0) d in stands s at (λ z. omega arith)
+digit-stands : (s : List ℕ) (at : ℕ) → is_digit (get_or s at 0) ≡ true → at < length s
+digit-stands s at d = let r = digit_range (get_or s at 0) d in stands s at (λ z. omega arith)
 
-two_digits : (s : List ℕ) (at : ℕ) → digitsValue (drop (at + 1) s) 2 ≡ 10 * (get_or s (at + 1) 0 - 48) + (get_or s (at + 2) 0 - 48)
-unfolding digitsValue
+two_digits : (s : List ℕ) (at : ℕ) → digits_value (drop (at + 1) s) 2 ≡ 10 * (get_or s (at + 1) 0 - 48) + (get_or s (at + 2) 0 - 48)
+unfolding digits_value
 two_digits s at = rw (first_byte s (at + 1), get_or-drop (at + 1) s 1 0, along) (omega arith)
   where
     along : at + 1 + 1 ≡ at + 2
     along = omega arith
 
 -- what the code's test says of the byte that it read
-a-digit : {b byte : ℕ} {t : Bool} → t ≡ isDigit b → not t ≡ false → b ≡ byte → isDigit byte ≡ true
+a-digit : {b byte : ℕ} {t : Bool} → t ≡ is_digit b → not t ≡ false → b ≡ byte → is_digit byte ≡ true
 a-digit {t = t} e f g = rw g at (sym e ∙ not-false t f)
 
-no_digit : {b byte : ℕ} {t : Bool} → t ≡ isDigit b → not t ≡ true → b ≡ byte → isDigit byte ≡ false
+no_digit : {b byte : ℕ} {t : Bool} → t ≡ is_digit b → not t ≡ true → b ≡ byte → is_digit byte ≡ false
 no_digit {t = t} e f g = rw g at (sym e ∙ not-true t f)
 
 point : (c : tie.Else1) → get_or c.before.before.before.args.field.now c.before.before.before.args.self.at 0 ≡ 46
 point c = sym c.before.byte_at.ensures ∙ c.if1.false
 
 ones : (c : tie.Else2) → let s = c.before.before.before.before.before.before in
-    isDigit (get_or s.args.field.now (s.args.self.at + 2) 0) ≡ true
+    is_digit (get_or s.args.field.now (s.args.self.at + 2) 0) ≡ true
 ones c = a-digit c.before.is_digit.ensures c.if2.false c.before.before.byte-at2.ensures
 
 tens : (c : tie.Else3) → let s = c.before.before.before.before.before.before.before.before.before in
-    isDigit (get_or s.args.field.now (s.args.self.at + 1) 0) ≡ true
+    is_digit (get_or s.args.field.now (s.args.self.at + 1) 0) ≡ true
 tens c = a-digit c.before.is-digit2.ensures c.if3.false c.before.before.byte-at3.ensures
 
 -- byte_at(field, at)
@@ -48,7 +48,7 @@ byte-at-requires c κs = tt
 
 -- the first return: no b'.'
 returns : tie.Need-returns
-unfolding centsAt
+unfolding cents_at
 returns c = let s = c.before.before.before in
     rw (ne_eqb (get_or s.args.field.now s.args.self.at 0) 46 (λ e. c.if1.true (c.before.byte_at.ensures ∙ e)))
 
@@ -67,12 +67,12 @@ is-digit-requires c κs = tt
 
 -- the second return: !is_digit(ones)
 returns-2 : tie.Need-returns-2
-unfolding centsAt
+unfolding cents_at
 returns-2 c = let s = c.before.before.before.before.before.before in
     rw (
       point c.before.before.before,
       no_digit c.before.is_digit.ensures c.if2.true c.before.before.byte-at2.ensures,
-      and-false (isDigit (get_or s.args.field.now (s.args.self.at + 1) 0)),
+      and-false (is_digit (get_or s.args.field.now (s.args.self.at + 1) 0)),
     )
 
 -- at + 1
@@ -90,7 +90,7 @@ is-digit-requires-2 c κs = tt
 
 -- the third return: !is_digit(tens)
 returns-3 : tie.Need-returns-3
-unfolding centsAt
+unfolding cents_at
 returns-3 c = rw (
   point c.before.before.before.before.before.before,
   ones c.before.before.before,
@@ -99,7 +99,7 @@ returns-3 c = rw (
 
 -- tens - 48
 sub-value : tie.Need-overflow-sub-value
-sub-value c = (digit-range c.before.before.byte-at3.result (rw (← c.before.before.byte-at3.ensures) at (tens c))).0
+sub-value c = (digit_range c.before.before.byte-at3.result (rw (← c.before.before.byte-at3.ensures) at (tens c))).0
 
 -- (tens - 48) as u64
 cast-value : tie.Need-overflow-cast-value
@@ -111,7 +111,7 @@ mul-value c = search rules
 
 -- ones - 48
 sub-value-2 : tie.Need-overflow-sub-value-2
-sub-value-2 c = (digit-range c.before.before.before.before.before.byte-at2.result
+sub-value-2 c = (digit_range c.before.before.before.before.before.byte-at2.result
     (rw (← c.before.before.before.before.before.byte-at2.ensures) at (ones c.before.before.before))).0
 
 -- (ones - 48) as u64
@@ -129,7 +129,7 @@ add-t9 c = let s = c.before.before.before.before.before.before.before.before.bef
 
 -- Number::Found(value, ..)
 returns-4 : tie.Need-returns-4
-unfolding centsAt
+unfolding cents_at
 returns-4 c = let s = c.before.before.before.before.before.before.before.before.before in
     rw (
       point c.before.before.before.before.before.before,

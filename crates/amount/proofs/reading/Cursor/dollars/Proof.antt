@@ -9,30 +9,30 @@ use native.Mathlib.Omega.{arith}
 use borrow.Author.Tests.{le-leb, lt-leb, eq-eqb, ne_eqb}
 use lib.Dec.{eqb}
 use lib.ListN.{drop, get_or}
-use Rattle.rules.specs.Text.{digitCount, digitsValue, dollarsAt}
+use Rattle.rules.specs.Text.{digit_count, digits_value, dollars_at}
 use Rattle.amount.proofs.reading.Cursor.dollars.Statement.{statement}
 use Rattle.amount.proofs.reading.Cursor.dollars.Tie as tie
 
-module _ (s : List ℕ) (at count : ℕ) (counted : count ≡ min 11 (digitCount (drop at s))) where
-  no_digit : count ≡ 0 → none ≡ dollarsAt s at
-  unfolding dollarsAt
-  no_digit e = let all : digitCount (drop at s) ≡ 0 = omega arith in rw all
+module _ (s : List ℕ) (at count : ℕ) (counted : count ≡ min 11 (digit_count (drop at s))) where
+  no_digit : count ≡ 0 → none ≡ dollars_at s at
+  unfolding dollars_at
+  no_digit e = let all : digit_count (drop at s) ≡ 0 = omega arith in rw all
 
-  too_many : 10 < count → none ≡ dollarsAt s at
-  unfolding dollarsAt
-  too_many h = rw (le-leb 1 (digitCount (drop at s)) (omega arith), lt-leb (digitCount (drop at s)) 10 (omega arith))
+  too_many : 10 < count → none ≡ dollars_at s at
+  unfolding dollars_at
+  too_many h = rw (le-leb 1 (digit_count (drop at s)) (omega arith), lt-leb (digit_count (drop at s)) 10 (omega arith))
 
   module _ (most : count ≤ 10) where
-    all : digitCount (drop at s) ≡ count
+    all : digit_count (drop at s) ≡ count
     all = omega arith
 
-    zero-first : 1 < count → get_or s at 0 ≡ 48 → none ≡ dollarsAt s at
-    unfolding dollarsAt
+    zero-first : 1 < count → get_or s at 0 ≡ 48 → none ≡ dollars_at s at
+    unfolding dollars_at
     zero-first h z = rw (all, le-leb 1 count (omega arith), le-leb count 10 most, ne_eqb count 1 (λ e. omega arith), z)
 
     found : (count ≡ 0 → ⊥) → (eqb count 1 || not (eqb (get_or s at 0) 48)) ≡ true →
-        some (record { value = digitsValue (drop at s) count; next = at + count }) ≡ dollarsAt s at
-    unfolding dollarsAt
+        some (record { value = digits_value (drop at s) count; next = at + count }) ≡ dollars_at s at
+    unfolding dollars_at
     found h front = rw (all, le-leb 1 count (omega arith), le-leb count 10 most, front)
 
 digits-from-requires : tie.Need-digits-from-requires

@@ -3,7 +3,7 @@ use mathlib.Core.Path.{◌≡◌, sym, ◌∙◌}
 use native.Mathlib.Omega.{arith}
 use borrow.Author.Tests.{ne_eqb}
 use lib.ListN.{get_or}
-use Rattle.rules.specs.Text.{signAt}
+use Rattle.rules.specs.Text.{sign_at}
 use Rattle.rules.proofs.Digits.{stands}
 use Rattle.amount.proofs.reading.Cursor.sign.Statement.{statement}
 use Rattle.amount.proofs.reading.Cursor.sign.Tie as tie
@@ -25,7 +25,7 @@ add-t6 c = let e = plus c in
 
 -- Sign::Found(false, ..)
 returns : tie.Need-returns
-unfolding signAt
+unfolding sign_at
 returns c = rw (plus c)
 
 -- at + 1, after b'-'
@@ -37,12 +37,12 @@ add-t8 c = let e = minus c in omega (
 
 -- Sign::Found(true, ..)
 returns-2 : tie.Need-returns-2
-unfolding signAt
+unfolding sign_at
 returns-2 c = rw (minus c)
 
 -- Sign::Missing
 returns-3 : tie.Need-returns-3
-unfolding signAt
+unfolding sign_at
 returns-3 c =
     let b = c.before.before.byte_at in
     rw (← b.ensures, ne_eqb b.result 43 c.before.if1.false, ne_eqb b.result 45 c.if2.false)
