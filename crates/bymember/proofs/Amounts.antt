@@ -8,7 +8,7 @@ use lib.IntN.{ℤ, pos, ◌+ℤ◌}
 use lib.ListN.{length, get_or, set}
 use mir.Syntax.{w64}
 use mir.Val.{SFits}
-use Rattle.whole.specs.Below.{total_below, replacingFirst}
+use Rattle.whole.specs.Below.{total_below, replacing_first}
 use Rattle.whole.proofs.Totals.{total_ext}
 use Rattle.whole.proofs.Ranges.{u_le}
 use Rattle.whole.proofs.Buffers.{get_or_replacing, length_replacing}
@@ -53,13 +53,13 @@ module _ {h : Hour} (kept : HourKept h) where
     grains_added = next_total (member_of h) (grains h) added there member_there member_is (stored more tt)
 
   pub amounts_are : {i : ℕ} {old out : List ℤ} → Added amounts_after (members h) h.count i old out → h.count ≤ i →
-      out ≡ replacingFirst (amount h) (members h) old
+      out ≡ replacing_first (amount h) (members h) old
   unfolding amount
   amounts_are added ended = all_added added ended
 
 -- the deviations are put where there is room for them
 pub deviations_ready : {s : List ℕ} (lent : List ℤ) {deviations : List ℤ} → (hour_in s).count ≤ length lent →
-    deviations ≡ replacingFirst (λ i. deviation (entry_of (hour_in s) i)) (hour_in s).count lent → Deviated s deviations
+    deviations ≡ replacing_first (λ i. deviation (entry_of (hour_in s) i)) (hour_in s).count lent → Deviated s deviations
 deviations_ready {s} lent room put = record {
   room = rw (put, length_replacing (λ i. deviation (entry_of (hour_in s) i)) (hour_in s).count lent room) room;
   deviations_are = λ i l. rw put (get_or_replacing (λ i. deviation (entry_of (hour_in s) i)) (hour_in s).count lent i (pos 0) l);
@@ -67,7 +67,7 @@ deviations_ready {s} lent room put = record {
 
 -- the amounts are added up where nothing stood
 pub amounts_ready : {s : List ℕ} {lent amounts : List ℤ} → FileKept s → Empty (pos 0) (hour_in s) lent →
-    amounts ≡ replacingFirst (amount (hour_in s)) (members (hour_in s)) lent → Amounts s amounts
+    amounts ≡ replacing_first (amount (hour_in s)) (members (hour_in s)) lent → Amounts s amounts
 amounts_ready {s} {lent} kept empty put = record {
   kept = kept;
   as_many = ap length put ∙ length_replacing (amount (hour_in s)) (members (hour_in s)) lent (omega (arith, empty.as_many)) ∙ empty.as_many;

@@ -10,7 +10,7 @@ use lib.IntN.{ℤ, pos, nat_abs, ◌+ℤ◌, ◌-ℤ◌}
 use lib.ListN.{length, get_or}
 use mir.Syntax.{w64}
 use mir.Val.{SFits, to_z}
-use Rattle.whole.specs.Below.{sum_below, total_below, replacingFirst}
+use Rattle.whole.specs.Below.{sum_below, total_below, replacing_first}
 use Rattle.whole.specs.Signed.{with_sign_of, Under}
 use Rattle.whole.proofs.Sums.{all_count, sum_ext, sum_prefix, sum_at}
 use Rattle.whole.proofs.Totals.{total_ext, total_add_one, total_under}
@@ -78,7 +78,7 @@ module _ {h : Hour} (kept : HourKept h) where
   )
 
   pub demands_are : {i : ℕ} {old out : List ℕ} → Added demands_after (members h) h.count i old out → h.count ≤ i →
-      out ≡ replacingFirst (member_demand h) (members h) old
+      out ≡ replacing_first (member_demand h) (members h) old
   demands_are {i} {old} added ended =
       all_added added ended ∙ replacing_ext _ (member_demand h) (members h) old (λ m l. sym (member_demand_by_record h m))
 
@@ -87,7 +87,7 @@ module _ {h : Hour} (kept : HourKept h) where
 pub record Asked (h : Hour) (lent demands : List ℕ) : Type 0 where
   pub kept : HourKept h
   pub room : length lent ≡ members h
-  pub put : demands ≡ replacingFirst (member_demand h) (members h) lent
+  pub put : demands ≡ replacing_first (member_demand h) (members h) lent
 
 module _ {h : Hour} {lent demands : List ℕ} (q : Asked h lent demands) where
   abbrev n : ℕ
@@ -147,10 +147,10 @@ module _ {s : List ℕ} {charges : List ℤ} (c : Charged s charges) {all : ℤ}
         (neutrality_under c.kept.hour_kept).under,
       )
 
-  pub taken_off : (before : List ℤ) {after : List ℤ} → after ≡ replacingFirst (less_share charges all sizes) (length sizes) before →
-      after ≡ replacingFirst (final (hour_in s)) (members (hour_in s)) before
+  pub taken_off : (before : List ℤ) {after : List ℤ} → after ≡ replacing_first (less_share charges all sizes) (length sizes) before →
+      after ≡ replacing_first (final (hour_in s)) (members (hour_in s)) before
   unfolding final neutrality_share share size_of
   taken_off before e = e
-      ∙ ap (λ k. replacingFirst (less_share charges all sizes) k before) z.as_many
+      ∙ ap (λ k. replacing_first (less_share charges all sizes) k before) z.as_many
       ∙ replacing_ext _ (final (hour_in s)) (members (hour_in s)) before (λ m l. ap₂ ◌-ℤ◌ (c.charges_are m l)
       (ap₂ with_sign_of z.all_is (z.sizes_are m l)))

@@ -5,7 +5,7 @@ use Prim.Native.Nat.{ℕ, ◌≤◌}
 use native.Mathlib.Omega.{arith}
 use lib.IntN.{ℤ, pos}
 use lib.ListN.{length}
-use Rattle.whole.specs.Below.{replacingFirst}
+use Rattle.whole.specs.Below.{replacing_first}
 use Rattle.whole.proofs.Buffers.{get_or_replacing, length_replacing}
 use Rattle.rules.specs.Record.{Hour, entry_of}
 use Rattle.rules.specs.Deviation.{deviation}
@@ -20,8 +20,8 @@ module _ {s : List ℕ} (kept : FileKept s) where
 
   pub all_worked : (old-deviations old-shares : List ℤ) {deviations shares : List ℤ} →
       h.count ≤ length old-deviations → h.count ≤ length old-shares →
-      deviations ≡ replacingFirst (λ i. deviation (entry_of h i)) h.count old-deviations →
-      shares ≡ replacingFirst (share_of h) h.count old-shares → AllWorked s deviations shares
+      deviations ≡ replacing_first (λ i. deviation (entry_of h i)) h.count old-deviations →
+      shares ≡ replacing_first (share_of h) h.count old-shares → AllWorked s deviations shares
   all_worked old-deviations old-shares deviations_room shares_room put-deviations put-shares = record {
     kept = kept;
     deviations_room =

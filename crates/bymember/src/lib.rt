@@ -2,7 +2,7 @@
 // charge from its line. No deviation and no share is worked here: the caller has them. A line is moved whole; its sums are `formula`'s.
 // The module `neutrality` goes on from the charges. What lends a line stands here, at the root, as tools/walk needs it.
 ghost use Rattle.std.specs.Prelude.{◌≡◌, ◌≤◌, ◌<◌, length, get_or};
-ghost use Rattle.whole.specs.Below.{replacingFirst};
+ghost use Rattle.whole.specs.Below.{replacing_first};
 ghost use Rattle.rules.specs.Record as Record;
 ghost use Rattle.rules.specs.Charge as Charge;
 ghost use Rattle.rules.specs.Settling as Settling;
@@ -39,7 +39,7 @@ fn post_line(lines: &mut [Line], member: usize, grains: i64)
 // The first `n` lines empty.
 fn clear_lines(lines: &mut [Line], n: usize)
     requires { n ≤ length lines.old }
-    ensures { lines.new ≡ replacingFirst (λ m. Settling.empty_line) n lines.old }
+    ensures { lines.new ≡ replacing_first (λ m. Settling.empty_line) n lines.old }
 {
     let mut m = 0;
     while m < n {
@@ -71,7 +71,7 @@ pub fn put_lines(file: &[u8], head: Head, deviations: &[i64], shares: &[i64], li
 pub fn put_charges(lines: &[Line], n: usize, charges: &mut [i64])
     requires { (n ≤ length lines.now) × (n ≤ length charges.old) }
     ensures { charges.new
-        ≡ replacingFirst (λ m. Charge.cents (get_or lines.now m Settling.empty_line).amount) n charges.old }
+        ≡ replacing_first (λ m. Charge.cents (get_or lines.now m Settling.empty_line).amount) n charges.old }
 {
     let mut m = 0;
     while m < n {

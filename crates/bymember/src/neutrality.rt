@@ -2,7 +2,7 @@
 // minus its share (document 02, A1). The sharing itself is the engine's, `share::share_in_place`. And refusal 12, which settling asks for
 // before it writes to any buffer.
 ghost use Rattle.std.specs.Prelude.{◌≡◌, not, ℕ, ◌≤◌, ◌<◌, eqb, pos, nat_abs, length, get_or};
-ghost use Rattle.whole.specs.Below.{total_below, replacingFirst};
+ghost use Rattle.whole.specs.Below.{total_below, replacing_first};
 ghost use Rattle.rules.specs.Record as Record;
 ghost use Rattle.rules.specs.Charge as Charge;
 ghost use Rattle.rules.specs.Neutrality.{member_demand, hour_demand, neutrality, final};
@@ -36,7 +36,7 @@ fn sum_of(charges: &[i64], n: usize) -> i64
 fn put_demands(file: &[u8], records: usize, demands: &mut [u64])
     requires { FileKept file.now × (records ≡ (hour_in file.now).count) × Empty 0 (hour_in file.now) demands.old }
     ensures { demands.new
-        ≡ replacingFirst (member_demand (hour_in file.now)) (Record.members (hour_in file.now))
+        ≡ replacing_first (member_demand (hour_in file.now)) (Record.members (hour_in file.now))
         demands.old }
 {
     let mut i = 0;
@@ -52,7 +52,7 @@ fn take_off(charges: &[i64], all: i64, sizes: &[u64], finals: &mut [i64])
     requires { Bounded charges.now (length sizes.now) 400000000000 × (length sizes.now ≤ length finals.old)
         × ((m : ℕ) → m < length sizes.now → get_or sizes.now m 0 ≤ 400000000000) }
     ensures { finals.new
-        ≡ replacingFirst (less_share charges.now all sizes.now) (length sizes.now) finals.old }
+        ≡ replacing_first (less_share charges.now all sizes.now) (length sizes.now) finals.old }
 {
     let mut m = 0;
     while m < sizes.len() {
@@ -66,7 +66,7 @@ fn share_out(file: &[u8], records: usize, charges: &[i64], room: &mut [u64], fin
     requires { Charged file.now charges.now × (records ≡ (hour_in file.now).count) × Empty 0 (hour_in file.now) room.old
         × (Record.members (hour_in file.now) ≤ length finals.old) }
     ensures { finals.new
-        ≡ replacingFirst (final (hour_in file.now)) (Record.members (hour_in file.now)) finals.old }
+        ≡ replacing_first (final (hour_in file.now)) (Record.members (hour_in file.now)) finals.old }
 {
     let all = sum_of(charges, room.len());
     put_demands(file, records, room);
@@ -79,7 +79,7 @@ pub fn put_finals(file: &[u8], head: Head, charges: &[i64], finals: &mut [i64])
     requires { Headed file.now head × Charged file.now charges.now
         × (Record.members (hour_in file.now) ≤ length finals.old) }
     ensures { finals.new
-        ≡ replacingFirst (final (hour_in file.now)) (Record.members (hour_in file.now)) finals.old }
+        ≡ replacing_first (final (hour_in file.now)) (Record.members (hour_in file.now)) finals.old }
 {
     let n = head.members;
     let mut room = [0u64; 32];
@@ -100,7 +100,7 @@ fn put_amounts(
     requires { FileKept file.now × (records ≡ (hour_in file.now).count) × (prices ≡ prices_of (hour_in file.now))
         × (hour_demand (hour_in file.now) ≡ 0) × Deviated file.now deviations.now × Empty (pos 0) (hour_in file.now) amounts.old }
     ensures { amounts.new
-        ≡ replacingFirst (Charge.amount (hour_in file.now)) (Record.members (hour_in file.now))
+        ≡ replacing_first (Charge.amount (hour_in file.now)) (Record.members (hour_in file.now))
         amounts.old }
 {
     let mut i = 0;

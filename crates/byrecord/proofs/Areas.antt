@@ -12,13 +12,13 @@ use lib.Seq.{length-take-le, get_or-take}
 use mir.Syntax.{w64}
 use mir.Val.{of_z}
 use borrow.Author.Tests.{lt-ltb, le-ltb, eq-eqb, eqb-true, eqb-false, ltb-true, ltb-false}
-use Rattle.whole.specs.Below.{replacingFirst, gatheredBelow}
+use Rattle.whole.specs.Below.{replacing_first, gathered_below}
 use Rattle.whole.specs.Signed.{with_sign_of}
 use Rattle.whole.proofs.Tests.{split, both}
 use Rattle.whole.proofs.Ranges.{u_fits}
 use Rattle.whole.proofs.Machine.{zero_bits}
 use Rattle.whole.proofs.Sums.{count_most}
-use Rattle.whole.proofs.Gathering.{passer_before, passer-at, gathered_length, gathered_at}
+use Rattle.whole.proofs.Gathering.{passer_before, passer_at, gathered_length, gathered_at}
 use Rattle.whole.proofs.Buffers.{get_or_replacing, length_replacing, replacing_ext, replacing_same}
 use Rattle.rules.specs.Record.{Hour, area_of, entry_of, is_load}
 use Rattle.rules.specs.Ufe.{in_area, ufe, demand}
@@ -90,7 +90,7 @@ module _ {s : List ℕ} {a : ℕ} {figure : ℤ} {room : List ℕ} {out : List �
           let none = ap nat_abs z in
           omega (arith, size_at_most (in_area hour a is_load) (demand hour) hour.count (nat_abs (ufe hour a)) i l)
 
-  pub nothing_to_write : of_z w64 figure ≡ 0 → out ≡ replacingFirst (shares_below hour (a + 1)) hour.count out
+  pub nothing_to_write : of_z w64 figure ≡ 0 → out ≡ replacing_first (shares_below hour (a + 1)) hour.count out
   nothing_to_write z = sym (replacing_same _ hour.count out (pos 0) p.room_out (λ i l.
       sym (p.shared i l ∙ unshared hour a i (no_ufe_no_share none i l))))
     where
@@ -103,7 +103,7 @@ module _ {s : List ℕ} {a : ℕ} {figure : ℤ} {room : List ℕ} {out : List �
 pub record Asked (s : List ℕ) (a : ℕ) (figure : ℤ) (lent : List ℕ) (out : List ℤ) (loads : ℕ) (room : List ℕ) : Type 0 where
   pub up_to : SharedUpTo s a figure lent out
   pub counted : loads ≡ loads_before (hour_in s) a (hour_in s).count
-  pub holds : room ≡ gatheredBelow (in_area (hour_in s) a is_load) (demand (hour_in s)) (hour_in s).count lent
+  pub holds : room ≡ gathered_below (in_area (hour_in s) a is_load) (demand (hour_in s)) (hour_in s).count lent
 
 module _ {s : List ℕ} {a : ℕ} {figure : ℤ} {lent : List ℕ} {out : List ℤ} {loads : ℕ} {room : List ℕ}
     (q : Asked s a figure lent out loads room) where
@@ -143,7 +143,7 @@ module _ {s : List ℕ} {a : ℕ} {figure : ℤ} {lent : List ℕ} {out : List �
       ∙ rw q.holds (gathered_at load (demand h) lent n (omega (arith, q.up_to.places)) j 0 l t)
 
   demand_small : (k : ℕ) → k < length demands → at demands k ≤ 100000
-  demand_small k m = passer-at load n k (omega (arith, as_many, q.counted)) (λ j l t e.
+  demand_small k m = passer_at load n k (omega (arith, as_many, q.counted)) (λ j l t e.
       rw (← e) (rw (demand_at j l t) ((ranges q.up_to).record_kept j l).demand_most))
 
   U_most : U ≤ 1000000000000
@@ -187,6 +187,6 @@ module _ {s : List ℕ} {a : ℕ} {figure : ℤ} {lent : List ℕ} {out : List �
         (λ t. let e = load_there h a i t in rw (t, got_at i l t) (sym (own_after h a i e ∙ own_share h a i e)))
         (λ f. rw f (q.up_to.shared i l ∙ unshared h a i (no_load_no_share h a i f)))
 
-    pub area_shared : {next : List ℤ} → next ≡ replacingFirst (with_sizes h a figure got out) n out →
-        next ≡ replacingFirst (shares_below h (a + 1)) n out
+    pub area_shared : {next : List ℤ} → next ≡ replacing_first (with_sizes h a figure got out) n out →
+        next ≡ replacing_first (shares_below h (a + 1)) n out
     area_shared put = put ∙ rw q.up_to.figure_of (replacing_ext _ _ n out one_more)

@@ -6,7 +6,7 @@ use native.Mathlib.Omega.{arith}
 use lib.IntN.{ℤ, pos}
 use lib.ListN.{length, get_or}
 use borrow.Author.Tests.{lt-ltb, le-ltb}
-use Rattle.whole.specs.Below.{valuesBelow, replacingFirst}
+use Rattle.whole.specs.Below.{values_below, replacing_first}
 use Rattle.whole.proofs.Buffers.{get_or_replacing, length_replacing, replacing_all, replacing_ext, replacing_same, replacing_twice}
 use Rattle.rules.specs.Record.{Hour, areas, area_of}
 use Rattle.rules.specs.Charge.{share_of}
@@ -17,9 +17,9 @@ use Rattle.byrecord.specs.Shared.{shares_below, Sharing, Cleared, SharedUpTo}
 -- ---- the buffer as it was lent, and once the first places, so many as there are records, are 0
 
 module _ {s : List ℕ} {figures lent cleared : List ℤ} {room : List ℕ} {n : ℕ} (sharing : Sharing s figures room lent)
-    (counted : n ≡ (hour_in s).count) (zeros : cleared ≡ replacingFirst (λ i. pos 0) n lent) where
-  zeros_first : cleared ≡ replacingFirst (λ i. pos 0) (hour_in s).count lent
-  zeros_first = zeros ∙ ap (λ m. replacingFirst (λ i. pos 0) m lent) counted
+    (counted : n ≡ (hour_in s).count) (zeros : cleared ≡ replacing_first (λ i. pos 0) n lent) where
+  zeros_first : cleared ≡ replacing_first (λ i. pos 0) (hour_in s).count lent
+  zeros_first = zeros ∙ ap (λ m. replacing_first (λ i. pos 0) m lent) counted
 
   pub ready : Cleared s figures room cleared
   ready =
@@ -35,17 +35,17 @@ module _ {s : List ℕ} {figures lent cleared : List ℤ} {room : List ℕ} {n :
       }
 
   -- nothing of the zeros is left
-  pub shared_over : {out : List ℤ} → out ≡ replacingFirst (share_of (hour_in s)) (hour_in s).count cleared →
-      out ≡ replacingFirst (share_of (hour_in s)) (hour_in s).count lent
+  pub shared_over : {out : List ℤ} → out ≡ replacing_first (share_of (hour_in s)) (hour_in s).count cleared →
+      out ≡ replacing_first (share_of (hour_in s)) (hour_in s).count lent
   shared_over e = e ∙ rw zeros_first (replacing_twice (λ i. pos 0) (share_of (hour_in s)) (hour_in s).count lent)
 
   -- the room is cleared after the last area, whatever it then held
-  pub room_cleared : (used : List ℕ) {left : List ℕ} → length used ≡ length room → left ≡ replacingFirst (λ i. 0) (length used) used →
-      left ≡ replacingFirst (λ i. 0) (hour_in s).count room
+  pub room_cleared : (used : List ℕ) {left : List ℕ} → length used ≡ length room → left ≡ replacing_first (λ i. 0) (length used) used →
+      left ≡ replacing_first (λ i. 0) (hour_in s).count room
   room_cleared used kept e =
       e
       ∙ replacing_all (λ i. 0) (length used) used refl
-      ∙ ap (valuesBelow (λ i. 0)) (kept ∙ sharing.places)
+      ∙ ap (values_below (λ i. 0)) (kept ∙ sharing.places)
       ∙ sym (replacing_all (λ i. 0) (hour_in s).count room sharing.places)
 
 -- ---- area by area
@@ -54,7 +54,7 @@ module _ {s : List ℕ} {figures lent cleared : List ℤ} {room : List ℕ} {n :
 pub record AreasShared (s : List ℕ) (a : ℕ) (cleared : List ℤ) (room : List ℕ) (out : List ℤ) : Type 0 where
   pub reached : a ≤ areas (hour_in s)
   pub places : length room ≡ (hour_in s).count
-  pub holds : out ≡ replacingFirst (shares_below (hour_in s) a) (hour_in s).count cleared
+  pub holds : out ≡ replacing_first (shares_below (hour_in s) a) (hour_in s).count cleared
 
 module _ {s : List ℕ} {figures : List ℤ} {room₀ : List ℕ} {cleared : List ℤ} (z : Cleared s figures room₀ cleared) where
   abbrev h : Hour
@@ -90,7 +90,7 @@ module _ {s : List ℕ} {figures : List ℤ} {room₀ : List ℕ} {cleared : Lis
       shared = λ i l. rw w.holds (get_or_replacing (shares_below h a) count cleared i (pos 0) l);
     }
 
-    pub next_area : {room' : List ℕ} {out' : List ℤ} → a < areas h → out' ≡ replacingFirst (shares_below h (a + 1)) count out →
+    pub next_area : {room' : List ℕ} {out' : List ℤ} → a < areas h → out' ≡ replacing_first (shares_below h (a + 1)) count out →
         length room' ≡ length room → AreasShared s (a + 1) cleared room' out'
     next_area there e l = record {
       reached = omega arith;
@@ -98,7 +98,7 @@ module _ {s : List ℕ} {figures : List ℤ} {room₀ : List ℕ} {cleared : Lis
       holds = e ∙ rw w.holds (replacing_twice (shares_below h a) (shares_below h (a + 1)) count cleared);
     }
 
-    pub all_shared : areas h ≤ a → out ≡ replacingFirst (share_of h) count cleared
+    pub all_shared : areas h ≤ a → out ≡ replacing_first (share_of h) count cleared
     unfolding shares_below
     all_shared ended =
         w.holds

@@ -8,7 +8,7 @@ use lib.Dec.{eqb}
 use lib.IntN.{ℤ, pos}
 use lib.ListN.{length, get_or, set}
 use borrow.Author.Tests.{eq-eqb, ne_eqb}
-use Rattle.whole.specs.Below.{one_if, gatheredBelow}
+use Rattle.whole.specs.Below.{one_if, gathered_below}
 use Rattle.whole.specs.Signed.{with_sign_of}
 use Rattle.whole.proofs.Tests.{split, both}
 use Rattle.whole.proofs.Sums.{count_most}
@@ -45,7 +45,7 @@ counted_on h a i counted one =
 pub record DemandsPut (h : Hour) (a i loads : ℕ) (lent room : List ℕ) : Type 0 where
   pub reached : i ≤ h.count
   pub counted : loads ≡ loads_before h a i
-  pub holds : room ≡ gatheredBelow (in_area h a is_load) (demand h) i lent
+  pub holds : room ≡ gathered_below (in_area h a is_load) (demand h) i lent
 
 module _ {h : Hour} {a : ℕ} {lent : List ℕ} where
   pub no_demand_put : DemandsPut h a 0 0 lent lent
@@ -74,10 +74,10 @@ module _ {h : Hour} {a : ℕ} {lent : List ℕ} where
     }
 
     pub all_demands_put : h.count ≤ i →
-        (loads ≡ loads_before h a h.count) × (room ≡ gatheredBelow (in_area h a is_load) (demand h) h.count lent)
+        (loads ≡ loads_before h a h.count) × (room ≡ gathered_below (in_area h a is_load) (demand h) h.count lent)
     all_demands_put ended =
         let e : i ≡ h.count = omega (arith, put.reached) in
-        (put.counted ∙ ap (loads_before h a) e, put.holds ∙ ap (λ n. gatheredBelow (in_area h a is_load) (demand h) n lent) e)
+        (put.counted ∙ ap (loads_before h a) e, put.holds ∙ ap (λ n. gathered_below (in_area h a is_load) (demand h) n lent) e)
 
 -- ---- the shares of an area's loads are put, those of the first i records
 

@@ -1,7 +1,7 @@
 // The deviation of each record, by document 01's formula for its kind. Each is worked once: `bymember` takes it from the buffer that is filled
 // here. No area and no price is looked at, and nothing is refused.
 ghost use Rattle.std.specs.Prelude.{◌≡◌, ◌≤◌, ◌<◌, length};
-ghost use Rattle.whole.specs.Below.{replacingFirst};
+ghost use Rattle.whole.specs.Below.{replacing_first};
 ghost use Rattle.rules.specs.Record.{entry_of};
 ghost use Rattle.rules.specs.Deviation.{deviation};
 ghost use Rattle.rules.specs.Inner.Kept.{FileKept};
@@ -22,7 +22,7 @@ fn deviation_of(file: &[u8], i: usize) -> i64
 pub fn put_deviations(file: &[u8], head: Head, out: &mut [i64])
     requires { Headed file.now head × ((hour_in file.now).count ≤ length out.old) }
     ensures { out.new
-        ≡ replacingFirst (λ i. deviation (entry_of (hour_in file.now) i)) (hour_in file.now).count
+        ≡ replacing_first (λ i. deviation (entry_of (hour_in file.now) i)) (hour_in file.now).count
         out.old }
 {
     let n = head.records;

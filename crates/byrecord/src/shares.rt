@@ -3,7 +3,7 @@
 // room that the caller lends, and the sizes that then stand there are put back with the UFE's sign. The UFE figures come from the caller
 // and are not worked again, and refusal 6 was checked before. An area without UFE costs nothing.
 ghost use Rattle.std.specs.Prelude.{◌≡◌, true, cond, ◌+◌, ◌≤◌, ◌<◌, pos, length, get_or, set};
-ghost use Rattle.whole.specs.Below.{one_if, replacingFirst, gatheredBelow};
+ghost use Rattle.whole.specs.Below.{one_if, replacing_first, gathered_below};
 ghost use Rattle.whole.specs.Signed.{with_sign_of};
 ghost use Rattle.rules.specs.Record as Record;
 ghost use Rattle.rules.specs.Record.{is_load};
@@ -46,7 +46,7 @@ fn put_demand(file: &[u8], a: usize, i: usize, loads: usize, demands: &mut [u64]
 fn put_demands(file: &[u8], a: usize, demands: &mut [u64]) -> usize
     requires { FileKept file.now × (length demands.old ≡ (hour_in file.now).count) }
     ensures { (result ≡ loads_before (hour_in file.now) a (hour_in file.now).count)
-        × (demands.new ≡ gatheredBelow (in_area (hour_in file.now) a is_load) (demand (hour_in file.now))
+        × (demands.new ≡ gathered_below (in_area (hour_in file.now) a is_load) (demand (hour_in file.now))
         (hour_in file.now).count demands.old) }
 {
     let mut loads = 0;
@@ -85,7 +85,7 @@ fn put_share(
 fn put_area(file: &[u8], a: usize, figure: i64, sizes: &[u64], out: &mut [i64])
     requires { Sized file.now a sizes.now out.old }
     ensures { out.new
-        ≡ replacingFirst (with_sizes (hour_in file.now) a figure sizes.now out.old)
+        ≡ replacing_first (with_sizes (hour_in file.now) a figure sizes.now out.old)
         (hour_in file.now).count out.old }
 {
     let mut loads = 0;
@@ -100,7 +100,7 @@ fn put_area(file: &[u8], a: usize, figure: i64, sizes: &[u64], out: &mut [i64])
 fn share_area(file: &[u8], a: usize, figure: i64, room: &mut [u64], out: &mut [i64])
     requires { SharedUpTo file.now a figure room.old out.old }
     ensures { out.new
-        ≡ replacingFirst (shares_below (hour_in file.now) (a + 1)) (hour_in file.now).count out.old }
+        ≡ replacing_first (shares_below (hour_in file.now) (a + 1)) (hour_in file.now).count out.old }
 {
     if figure == 0 {
         return;
@@ -114,7 +114,7 @@ fn share_area(file: &[u8], a: usize, figure: i64, room: &mut [u64], out: &mut [i
 fn share_areas(file: &[u8], areas: usize, figures: [i64; 8], room: &mut [u64], out: &mut [i64])
     requires { Cleared file.now figures room.old out.old × (areas ≡ Record.areas (hour_in file.now)) }
     ensures { out.new
-        ≡ replacingFirst (share_of (hour_in file.now)) (hour_in file.now).count out.old }
+        ≡ replacing_first (share_of (hour_in file.now)) (hour_in file.now).count out.old }
 {
     let mut a = 0;
     while a < areas {
@@ -126,7 +126,7 @@ fn share_areas(file: &[u8], areas: usize, figures: [i64; 8], room: &mut [u64], o
 // The first `n` places 0.
 fn clear(out: &mut [i64], n: usize)
     requires { n ≤ length out.old }
-    ensures { out.new ≡ replacingFirst (λ i. pos 0) n out.old }
+    ensures { out.new ≡ replacing_first (λ i. pos 0) n out.old }
 {
     let mut i = 0;
     while i < n {
@@ -137,7 +137,7 @@ fn clear(out: &mut [i64], n: usize)
 
 // Nothing of the hour stays in the room.
 fn clear_room(room: &mut [u64])
-    ensures { room.new ≡ replacingFirst (λ i. 0) (length room.old) room.old }
+    ensures { room.new ≡ replacing_first (λ i. 0) (length room.old) room.old }
 {
     let mut i = 0;
     while i < room.len() {
@@ -150,8 +150,8 @@ fn clear_room(room: &mut [u64])
 pub fn put_shares(file: &[u8], head: Head, figures: [i64; 8], room: &mut [u64], out: &mut [i64])
     requires { Headed file.now head × Sharing file.now figures room.old out.old }
     ensures shares { out.new
-        ≡ replacingFirst (share_of (hour_in file.now)) (hour_in file.now).count out.old }
-    ensures room { room.new ≡ replacingFirst (λ i. 0) (hour_in file.now).count room.old }
+        ≡ replacing_first (share_of (hour_in file.now)) (hour_in file.now).count out.old }
+    ensures room { room.new ≡ replacing_first (λ i. 0) (hour_in file.now).count room.old }
 {
     clear(out, head.records);
     share_areas(file, head.areas, figures, room, out);

@@ -3,7 +3,7 @@ use mathlib.Core.Path.{◌≡◌, refl, sym, ◌∙◌}
 use mathlib.Core.Option.{none, some}
 use mathlib.Core.List.{◌++◌}
 use Prim.Native.Nat.{ℕ}
-use Rattle.whole.proofs.Tests.{never-some}
+use Rattle.whole.proofs.Tests.{never_some}
 use Rattle.whole.proofs.Search.{none_below}
 use Rattle.rules.specs.declared.Mode.{Mode}
 use Rattle.rules.specs.declared.Mode.TheVariants.{Hourly, TenMinutes}
@@ -20,7 +20,7 @@ module _ (h : Hour) where
       refused_at 14 i ≡ verdict (word_rows (form_of mode) h ++ comparison_by mode h)
   unfolding verdict word_rows above_maximum comparison_rows
   above_told Hourly i head records above = simp (head, records, above)
-  above_told TenMinutes i head records above = absurd (never-some (sym above ∙ none_above))
+  above_told TenMinutes i head records above = absurd (never_some (sym above ∙ none_above))
 
   pub nothing_told : (mode : Mode) → bad_head (form_of mode) h ≡ none → bad_record (form_of mode) h ≡ none → above_in mode h ≡ none →
       accepted ≡ verdict (word_rows (form_of mode) h ++ comparison_by mode h)

@@ -9,7 +9,7 @@ use lib.IntN.{ℤ, pos}
 use lib.ListN.{get_or, replicate, get_or-replicate}
 use lib.Seq.{ext_get_or}
 use borrow.Author.Tests.{lt-ltb, ltb-true, ltb-false}
-use Rattle.whole.specs.Below.{valuesBelow, replacingFirst}
+use Rattle.whole.specs.Below.{values_below, replacing_first}
 use Rattle.whole.proofs.Tests.{split}
 use Rattle.whole.proofs.Buffers.{length_values, get_or_values, length_replacing, get_or_replacing, get_d_kept}
 use Rattle.rules.specs.Record.{Hour, members, areas, price}
@@ -24,10 +24,10 @@ module _ (f : ℕ → ℤ) (n : ℕ) (few : n ≤ 8) where
   zeros = replicate 8 (pos 0)
 
   abbrev figures : List ℤ
-  figures = valuesBelow (λ a. cond (ltb a n) (f a) (pos 0)) 8
+  figures = values_below (λ a. cond (ltb a n) (f a) (pos 0)) 8
 
   -- eight zeros of which the areas' places are written
-  pub eight_filled : replacingFirst f n zeros ≡ figures
+  pub eight_filled : replacing_first f n zeros ≡ figures
   eight_filled = ext_get_or (pos 0) _ _ (length_replacing f n zeros few ∙ sym (length_values _ 8)) (λ a l.
       let m : a < 8 = omega (arith, length_replacing f n zeros few) in
       let figure = get_or_values _ 8 a (pos 0) m in

@@ -1,6 +1,6 @@
 -- The hour that a file holds, and what the stages take from its head.
 use Rattle.std.specs.Prelude.{ℕ, ◌≡◌, cond, List, ℤ, pos, ltb}
-use Rattle.whole.specs.Below.{valuesBelow}
+use Rattle.whole.specs.Below.{values_below}
 use Rattle.rules.specs.Record.{Hour, members, areas, price}
 use Rattle.rules.specs.HourFile.{hour_in}
 use Rattle.rules.specs.Inner.Kept.{FileKept}
@@ -8,7 +8,7 @@ use Rattle.hour.specs.declared.Head.{Head}
 
 -- eight zone prices, 0 for areas past the count
 unfoldable pub prices_of : Hour → List ℤ
-prices_of h = valuesBelow (λ a. cond (ltb a (areas h)) (price h a) (pos 0)) 8
+prices_of h = values_below (λ a. cond (ltb a (areas h)) (price h a) (pos 0)) 8
 
 unfoldable pub head_of : Hour → Head
 head_of h = record { members = members h; areas = areas h; records = h.count; prices = prices_of h }

@@ -9,7 +9,7 @@ use native.Mathlib.Omega.{arith}
 use lib.IntN.{ℤ, pos}
 use lib.ListN.{length, get_or}
 use lib.Dec.{ltb}
-use Rattle.whole.specs.Below.{replacingFirst}
+use Rattle.whole.specs.Below.{replacing_first}
 use Rattle.whole.proofs.Buffers.{replacing_ext, get_or_replacing, length_replacing}
 use Rattle.rules.specs.declared.Answer.{Answer}
 use Rattle.rules.specs.declared.Answer.TheVariants.{Accepted, BadArea, TooShort, NoDemand}
@@ -138,8 +138,8 @@ module _ (s : List ℕ) (b : Buffers) where
 
       -- deviations and shares are put
       module _ {deviations shares : List ℤ}
-          (put-deviations : deviations ≡ replacingFirst (λ i. deviation (entry_of h i)) h.count b.deviations)
-          (put-shares : shares ≡ replacingFirst (share_of h) h.count b.shares) where
+          (put-deviations : deviations ≡ replacing_first (λ i. deviation (entry_of h i)) h.count b.deviations)
+          (put-shares : shares ≡ replacing_first (share_of h) h.count b.shares) where
         pub can-put-lines : AllWorked s deviations shares × (members h ≤ length b.lines)
         can-put-lines = (
           all_worked kept b.deviations b.shares room.deviations_room room.shares_room put-deviations put-shares,
@@ -148,7 +148,7 @@ module _ (s : List ℕ) (b : Buffers) where
 
         -- and the lines
         module _ {lines : List Line} (put-lines : lines ≡ lines_after h b.lines h.count) {n : ℕ} (all : n ≡ members h) where
-          lines-written : lines ≡ replacingFirst (line_of h) (members h) b.lines
+          lines-written : lines ≡ replacing_first (line_of h) (members h) b.lines
           lines-written = put-lines ∙ lines_are h b.lines (λ i l. (kept.hour_kept.record_kept i l).member_there)
 
           line_at : (m : ℕ) → m < members h → get_or lines m empty_line ≡ line_of h m
@@ -171,10 +171,10 @@ module _ (s : List ℕ) (b : Buffers) where
           charge-at m l = ap (λ (x : Line). cents x.amount) (line_at m l)
 
           module _ {charges : List ℤ}
-              (put-charges : charges ≡ replacingFirst (λ m. cents (get_or lines m empty_line).amount) n b.charges) where
-            charges-written : charges ≡ replacingFirst (charge h) (members h) b.charges
+              (put-charges : charges ≡ replacing_first (λ m. cents (get_or lines m empty_line).amount) n b.charges) where
+            charges-written : charges ≡ replacing_first (charge h) (members h) b.charges
             charges-written = put-charges
-                ∙ ap (λ k. replacingFirst (λ m. cents (get_or lines m empty_line).amount) k b.charges) all
+                ∙ ap (λ k. replacing_first (λ m. cents (get_or lines m empty_line).amount) k b.charges) all
                 ∙ replacing_ext _ _ (members h) b.charges charge-at
 
             pub can-put-finals : Charged s charges × (members h ≤ length b.finals)
@@ -187,7 +187,7 @@ module _ (s : List ℕ) (b : Buffers) where
               room.finals_room,
             )
 
-            pub all_filled : {finals : List ℤ} → finals ≡ replacingFirst (final h) (members h) b.finals →
+            pub all_filled : {finals : List ℤ} → finals ≡ replacing_first (final h) (members h) b.finals →
                 Fits s b r (buffers charges finals shares deviations lines)
             unfolding filled
             all_filled put-finals = record {

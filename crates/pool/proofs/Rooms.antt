@@ -6,7 +6,7 @@ use Prim.Native.Nat.{ℕ, ◌≤◌, ◌<◌}
 use native.Mathlib.Omega.{arith}
 use lib.IntN.{ℤ, pos}
 use lib.ListN.{length, get_or}
-use Rattle.whole.specs.Below.{replacingFirst}
+use Rattle.whole.specs.Below.{replacing_first}
 use Rattle.whole.proofs.Buffers.{get_or_replacing, length_replacing}
 use Rattle.rules.specs.declared.Answer.TheVariants.{Accepted}
 use Rattle.rules.specs.declared.Settled.{Settled}
@@ -42,7 +42,7 @@ pub record Figured (s : List ℕ) (after : Unlined) : Type 0 where
   pub shares : StandIn (share_of (hour_in s)) (hour_in s).count after.shares
   pub deviations : StandIn (λ i. deviation (entry_of (hour_in s) i)) (hour_in s).count after.deviations
 
-stand_in : (figure : ℕ → ℤ) (n : ℕ) (old : List ℤ) {new : List ℤ} → n ≤ length old → new ≡ replacingFirst figure n old → StandIn figure n new
+stand_in : (figure : ℕ → ℤ) (n : ℕ) (old : List ℤ) {new : List ℤ} → n ≤ length old → new ≡ replacing_first figure n old → StandIn figure n new
 stand_in figure n old enough put = record {
   room = rw (put, length_replacing figure n old enough) enough;
   figures_are = λ k l. rw put (get_or_replacing figure n old k (pos 0) l);

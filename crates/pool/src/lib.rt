@@ -1,7 +1,7 @@
 // Settling: the tally and the members' lines are lent to each posting, and the figures are written into the caller's own buffers.
 // Structs are moved here, not computed with: the sums are worked by value in `formula`.
 ghost use Rattle.std.specs.Prelude.{◌≡◌, ◌||◌, ◌≤◌, ltb, length};
-ghost use Rattle.whole.specs.Below.{replacingFirst};
+ghost use Rattle.whole.specs.Below.{replacing_first};
 ghost use Rattle.rules.specs.Settling as Settling;
 ghost use Rattle.rules.specs.Charge.{share_of};
 ghost use Rattle.rules.specs.Promised.Demands.{Fits};
@@ -80,7 +80,7 @@ fn put_shares(file: &[u8], head: Head, figures: [i64; 8], shares: &mut [i64])
     requires { Headed file.now head × (figures ≡ Settling.ufe_figures (hour_in file.now))
         × ((hour_in file.now).count ≤ length shares.old) }
     ensures { shares.new
-        ≡ replacingFirst (share_of (hour_in file.now)) (hour_in file.now).count shares.old }
+        ≡ replacing_first (share_of (hour_in file.now)) (hour_in file.now).count shares.old }
 {
     let n = head.records;
     let mut room = [0u64; 250];

@@ -10,7 +10,7 @@ use lib.Seq.{take_all, sets-eq}
 use lib.Dec.{ltb, eqb}
 use borrow.Author.Tests.{ltb-true, ltb-false, eqb-true, eqb-false, eq-eqb, ne_eqb, not-false}
 use Rattle.whole.proofs.Tests.{split, never, neither}
-use Rattle.whole.specs.Below.{valuesBelow, replacingFirst}
+use Rattle.whole.specs.Below.{values_below, replacing_first}
 use Rattle.whole.proofs.Buffers.{length_values}
 use Rattle.rules.specs.declared.Filed.{Filed}
 use Rattle.rules.specs.declared.Answer.TheVariants.{Accepted}
@@ -69,12 +69,12 @@ module _ (s : List ℕ) where
   unfolding raw_written raw_rows words_written verdict
   good_length e = rw (eq-eqb (length s % 4) 0 e) refl
 
-  pub by_words : {words : List ℕ} {n : ℕ} → input_bad (length s) ≡ false → n ≡ length s / 4 → words ≡ valuesBelow (word s) n →
+  pub by_words : {words : List ℕ} {n : ℕ} → input_bad (length s) ≡ false → n ≡ length s / 4 → words ≡ values_below (word s) n →
       (120 ≤ length words) × (words_written words ≡ raw_written s)
   unfolding raw_words
   by_words {words} {n} good n-is are =
       let lengths = length_good good in
-      let words_are : words ≡ raw_words s = are ∙ ap (valuesBelow (word s)) n-is in
+      let words_are : words ≡ raw_words s = are ∙ ap (values_below (word s)) n-is in
       (rw words_are (omega (arith, lengths, words_length)), ap words_written words_are ∙ good_length lengths.0)
 
 -- ---- what the writer answered and left, where the buffer has room for every file
@@ -101,7 +101,7 @@ module _ (words : List ℕ) where
     same_verdict = sym (filed.verdict_is ∙ verdict_is head records out ∙ room_for_file head records (length out) room)
 
     pub file_put : r.answer ≡ Accepted → Put out 0 (words_written words) r.length after
-    unfolding words_written replacingFirst file_of
+    unfolding words_written replacing_first file_of
     file_put e =
         let accepts : (write_hour head records out).verdict ≡ accepted = sym filed.verdict_is ∙ ap verdict_of e in
         let h = hour_from hourly head records in
@@ -110,7 +110,7 @@ module _ (words : List ℕ) where
         rw (same_verdict, e) (record {
           next_is = filed.length_is ∙ rw (written head records out accepts) (omega (arith, length_is));
           after_is = filed.file_is ∙ rw (written head records out accepts) (sym (
-              sets-eq (valuesBelow (file_byte hourly h) (file_length hourly h)) out 0 (omega (arith, length_is, room-for-it))
+              sets-eq (values_below (file_byte hourly h) (file_length hourly h)) out 0 (omega (arith, length_is, room-for-it))
               ∙ rw (length_is, zero-add) refl));
         })
 

@@ -1,7 +1,7 @@
 // What the program write_hour makes of its input (document 02, A2): a head and records as raw words, little-endian, become an hour file, or
 // the line of a refusal, as bytes in the caller's slice: of every byte string, and whole or not at all.
 ghost use Rattle.std.specs.Prelude.{◌≡◌, false, ◌*◌, ◌/◌, ◌≤◌, length};
-ghost use Rattle.whole.specs.Below.{valuesBelow};
+ghost use Rattle.whole.specs.Below.{values_below};
 ghost use Rattle.rules.specs.HourFile as HourFile;
 ghost use Rattle.rules.specs.RawHour as RawHour;
 ghost use Rattle.printing.specs.Put.{Put};
@@ -28,7 +28,7 @@ fn input_bad(bytes: usize) -> bool
 // The first words of the input, as many as `words` has places.
 fn put_words(input: &[u8], words: &mut [u32])
     requires { 4 * length words.old ≤ length input.now }
-    ensures { words.new ≡ valuesBelow (HourFile.word input.now) (length words.old) }
+    ensures { words.new ≡ values_below (HourFile.word input.now) (length words.old) }
 {
     let n = words.len();
     let mut k = 0;

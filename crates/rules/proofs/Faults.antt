@@ -8,7 +8,7 @@ use native.Mathlib.Omega.{arith}
 use lib.ListN.{take, drop}
 use lib.Dec.{leb, eqb}
 use borrow.Author.Tests.{leb-false, eqb-true, lt-ltb, le-ltb, lt-leb, eq-eqb, ne_eqb}
-use Rattle.whole.proofs.Tests.{split, never, never-some}
+use Rattle.whole.proofs.Tests.{split, never, never_some}
 use Rattle.whole.specs.Below.{first_below}
 use Rattle.whole.proofs.Search.{first_some, first_more, first_rest, first_ext, none_below}
 use Rattle.rules.specs.declared.Layout.{Layout}
@@ -122,13 +122,13 @@ in_record i word = bind {B = ℕ × ℕ} word (λ w. some (i, w))
 
 same_record : (j i w : ℕ) (o : Option ℕ) → in_record j o ≡ some (i, w) → j ≡ i
 unfolding bind
-same_record j i w none e = never-some (sym e)
+same_record j i w none e = never_some (sym e)
 same_record j i w (some v) e = ap (λ (fault : ℕ × ℕ). fault.0) (some-injective (j, v) (i, w) e)
 
 has_a_word : (j : ℕ) (o : Option ℕ) → is_broken o ≡ true → in_record j o ≡ none → ⊥
 unfolding bind
 has_a_word j none b e = never b refl
-has_a_word j (some v) b e = never-some e
+has_a_word j (some v) b e = never_some e
 
 -- in any kind of file
 module _ (f : Form) (h : Hour) where
@@ -147,7 +147,7 @@ module _ (f : Form) (h : Hour) where
   fault_record i w e = step (bad_record f h) e
     where
       step : (o : Option ℕ) → bind o (λ j. in_record j (bad_word f h j)) ≡ some (i, w) → o ≡ some i
-      step none e = never-some (sym e)
+      step none e = never_some (sym e)
       step (some j) e = ap some (same_record j i w (bad_word f h j) e)
 
   pub fault_nowhere : first_fault f h ≡ none → bad_record f h ≡ none

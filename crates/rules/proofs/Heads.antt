@@ -10,7 +10,7 @@ use lib.ListN.{length}
 use lib.IntN.{ℤ, pos, neg_ℤ, +ℤ_idl, +ℤ_idr, zero-*ℤ, *ℤ-zero, *ℤ_comm, ◌+ℤ◌, ◌*ℤ◌}
 use Rattle.whole.specs.Below.{total_below}
 use Rattle.whole.specs.Signed.{Under}
-use Rattle.whole.proofs.Tests.{both, cond-ext}
+use Rattle.whole.proofs.Tests.{both, cond_ext}
 use Rattle.whole.proofs.Linear.{zr, all2, all3}
 use Rattle.whole.proofs.Ranges.{u_le, u_neg, u_lit, u_zero}
 use Rattle.whole.proofs.Totals.{total_ext, total_add, total_neg, total_times, total_swap, total_pick}
@@ -137,7 +137,7 @@ module _ (h : Hour) (m : ℕ) where
   priced_ext : (kinds : Kind → Bool) (f g : ℕ → ℤ) → ((i : ℕ) → kinds (entry_of h i).kind ≡ true → f i ≡ g i) →
       priced_sum h m kinds f ≡ priced_sum h m kinds g
   unfolding priced_sum
-  priced_ext kinds f g e = total_ext _ _ h.count (λ i l. cond-ext (eqb (member_of h i) m && kinds (entry_of h i).kind) _ _ _
+  priced_ext kinds f g e = total_ext _ _ h.count (λ i l. cond_ext (eqb (member_of h i) m && kinds (entry_of h i).kind) _ _ _
       (λ t. ap (λ (z : ℤ). price h (area_of h i) *ℤ z) (e i (both (eqb (member_of h i) m) _ t).1)))
 
   priced_neg : (kinds : Kind → Bool) (f : ℕ → ℤ) → priced_sum h m kinds (λ i. neg_ℤ (f i)) ≡ neg_ℤ (priced_sum h m kinds f)

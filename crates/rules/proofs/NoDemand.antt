@@ -10,7 +10,7 @@ use lib.IntN.{ℤ, pos, nat_abs}
 use lib.Dec.{eqb}
 use borrow.Author.Tests.{eqb-true, eqb-false, eq-eqb, ne_eqb, not-true}
 use Rattle.whole.specs.Below.{sum_below, total_below}
-use Rattle.whole.proofs.Tests.{split, both, never-some}
+use Rattle.whole.proofs.Tests.{split, both, never_some}
 use Rattle.whole.proofs.Linear.{abs_zero}
 use Rattle.whole.proofs.Sums.{sum_at, sum_ext, sum_zero}
 use Rattle.rules.specs.Record.{Hour, members, entry_of, is_load}
@@ -38,7 +38,7 @@ use Rattle.rules.proofs.Explaining.{explain_verdict}
 
 is_place : (b : Bool) → place_zero_if b ≡ some 0 → b ≡ true
 is_place true e = refl
-is_place false e = never-some (sym e)
+is_place false e = never_some (sym e)
 
 module _ (h : Hour) where
   demands_nothing : NobodyDemands h → (i : ℕ) → i < h.count → demand_of h i ≡ 0

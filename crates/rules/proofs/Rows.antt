@@ -11,7 +11,7 @@ use lib.IntN.{ℤ}
 use lib.ListN.{length, get_or}
 use lib.Dec.{eqb}
 use borrow.Author.Tests.{eqb-true, eqb-false}
-use Rattle.whole.proofs.Tests.{split, neither, never-some}
+use Rattle.whole.proofs.Tests.{split, neither, never_some}
 use Rattle.rules.specs.declared.Answer.{Answer}
 use Rattle.rules.specs.declared.Answer.TheVariants.{Accepted, BadLength, BadSum, BadBlock, BadHead, BadRecord, BadArea, BadAmount}
 use Rattle.rules.specs.declared.Answer.TheVariants.{OutOfRange, TooNarrow, NotAnAmount, TooShort, NoDemand, NoMember, AboveMaximum}
@@ -157,7 +157,7 @@ whole_parts (row n o ∷ rows) more = let r = whole_parts rows more in
 
 -- a row whose only place is 0 is whole when its test fails
 pub no_place : (b : Bool) → place_zero_if b ≡ none → b ≡ false
-no_place true e = never-some e
+no_place true e = never_some e
 no_place false e = refl
 
 -- ---- the tables of document 01

@@ -11,10 +11,10 @@ use mathlib.Core.Option.{Option, none, some}
 use lib.Dec.{ltb, eqb}
 use borrow.Author.Tests.{ltb-true, ltb-false, eqb-false, not-true, not-false, lt-ltb, le-ltb, ne_eqb}
 use Rattle.whole.specs.Below.{one_if, count_below, sum_below}
-use Rattle.whole.proofs.Tests.{split, never, both, and_mono, cond-ext, last-or-below}
+use Rattle.whole.proofs.Tests.{split, never, both, and_mono, cond_ext, last_or_below}
 use Rattle.whole.proofs.Sums.{count_mono, sum_ext, sum_mono, sum_at, sum_add, sum_mul, sum_one_if, sum_zero}
 use Rattle.whole.proofs.Gathering.{passer_before, same_order, sum_gathered, count_gathered}
-use Rattle.whole.proofs.Rank.{Order, by_key, why-ahead, count_served}
+use Rattle.whole.proofs.Rank.{Order, by_key, why_ahead, count_served}
 use Rattle.whole.proofs.Handing.{Handing, handed}
 use Rattle.rules.specs.Share.{better, first_largest, is_at, handed_out, all_demand, whole_part, remainder, units_left, share_size}
 use Rattle.rules.specs.Share.{ahead, ranked_size}
@@ -34,11 +34,11 @@ module _ (rem : ℕ → ℕ) (waits : ℕ → Bool) where
 
   -- place m doesn't wait
   passed : (o : Option ℕ) (m : ℕ) → waits m ≡ false → Chosen o m → Chosen o (suc m)
-  passed none m f c = λ j l. last-or-below j m l (λ e. rw e f) (c j)
+  passed none m f c = λ j l. last_or_below j m l (λ e. rw e f) (c j)
   passed (some b) m f c = record {
     there = omega (arith, c.there);
     waiting = c.waiting;
-    largest = λ j l w. last-or-below j m l (λ e. never (rw e at w) f) (λ k. c.largest j k w);
+    largest = λ j l w. last_or_below j m l (λ e. never (rw e at w) f) (λ k. c.largest j k w);
     first = c.first;
   }
 
@@ -48,20 +48,20 @@ module _ (rem : ℕ → ℕ) (waits : ℕ → Bool) where
   compared none m t c = record {
     there = le_refl (suc m);
     waiting = t;
-    largest = λ j l w. last-or-below j m l (λ e. rw e (le_refl (rem m))) (λ k. never w (c j k));
+    largest = λ j l w. last_or_below j m l (λ e. rw e (le_refl (rem m))) (λ k. never w (c j k));
     first = λ j l w. never w (c j l);
   }
   compared (some b) m t c = split (ltb (rem b) (rem m))
       (λ s. let more = ltb-true (rem b) (rem m) s in rw s (record {
         there = le_refl (suc m);
         waiting = t;
-        largest = λ j l w. last-or-below j m l (λ e. rw e (le_refl (rem m))) (λ k. omega (arith, c.largest j k w));
+        largest = λ j l w. last_or_below j m l (λ e. rw e (le_refl (rem m))) (λ k. omega (arith, c.largest j k w));
         first = λ j l w. omega (arith, c.largest j l w);
       }))
       (λ s. let less = ltb-false (rem b) (rem m) s in rw s (record {
         there = omega (arith, c.there);
         waiting = c.waiting;
-        largest = λ j l w. last-or-below j m l (λ e. rw e less) (λ k. c.largest j k w);
+        largest = λ j l w. last_or_below j m l (λ e. rw e less) (λ k. c.largest j k w);
         first = c.first;
       }))
 
@@ -90,7 +90,7 @@ larger rem j i l = rw (lt-ltb (rem i) (rem j) l)
 not_ahead : (rem : ℕ → ℕ) (j i : ℕ) → rem j ≤ rem i → (j < i → rem j < rem i) → ahead rem j i ≡ false
 unfolding ahead
 not_ahead rem j i l m =
-    split (ahead rem j i) (λ t. why-ahead rem j i t (λ k. absurd (omega arith)) (λ e k. absurd (let s = m k in omega arith))) (λ f. f)
+    split (ahead rem j i) (λ t. why_ahead rem j i t (λ k. absurd (omega arith)) (λ e k. absurd (let s = m k in omega arith))) (λ f. f)
 
 module _ (rem : ℕ → ℕ) (takes : ℕ → Bool) (n : ℕ) where
   abbrev has : ℕ → ℕ → Bool
@@ -241,7 +241,7 @@ module _ (takes : ℕ → Bool) (D : ℕ → ℕ) (n U i : ℕ) where
   -- The size of a share is that by rank.
   pub ranked : i < n → share_size takes D n U i ≡ ranked_size takes D n U i
   unfolding share_size ranked_size
-  ranked l = cond-ext (takes i && not (eqb (all_demand takes D n) 0)) _ _ 0 (λ t.
+  ranked l = cond_ext (takes i && not (eqb (all_demand takes D n) 0)) _ _ 0 (λ t.
       let c = both (takes i) (not (eqb (all_demand takes D n) 0)) t in
       rw (handed_by_rank takes D n U (demanded (all_demand takes D n) c.1) i l, c.0))
 

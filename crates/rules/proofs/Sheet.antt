@@ -22,7 +22,7 @@ use Rattle.rules.proofs.PartsCut.{lacks}
 use Rattle.rules.proofs.Bounds.{charge_under}
 use Rattle.rules.proofs.Neutral.{final_under}
 use Rattle.rules.proofs.Stated.{accepted_kept, statement_accepted, column_width, hour_number_most}
-use Rattle.rules.proofs.SheetLines.{column_read, column_lacks, stands-behind, member_text, text_cut, charge_in_text, number_in_text}
+use Rattle.rules.proofs.SheetLines.{column_read, column_lacks, stands_behind, member_text, text_cut, charge_in_text, number_in_text}
 use Rattle.rules.proofs.SheetLines.{line_stands, lines_counted, nothing_behind, counts_said}
 
 -- ---- a member's line, without its line feed
@@ -63,7 +63,7 @@ module _ (m : ℕ) (c f : ℤ) where
 
   -- place 17 is the blank after the charge
   blank_between : get_or line_text 17 0 ≡ 32
-  blank_between = stands-behind (digit_byte (m / 10) ∷ digit_byte (m % 10) ∷ bytes " " ++ column c) 32 (column f) 0 {k = 17} (omega (arith, column_width c))
+  blank_between = stands_behind (digit_byte (m / 10) ∷ digit_byte (m % 10) ∷ bytes " " ++ column c) 32 (column f) 0 {k = 17} (omega (arith, column_width c))
 
 -- ---- what an accepted hour's sheet shows
 

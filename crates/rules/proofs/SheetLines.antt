@@ -10,7 +10,7 @@ use lib.IntN.{ℤ, pos, negsuc, nat_abs}
 use lib.Dec.{eqb}
 use lib.ListN.{length, take, drop, get_or, replicate, length-append, get_or-append}
 use lib.Seq.{take_at, get_or-append_seam}
-use Rattle.whole.specs.Below.{valuesBelow}
+use Rattle.whole.specs.Below.{values_below}
 use Rattle.whole.proofs.Tests.{cond_ind}
 use Rattle.whole.proofs.Buffers.{length_values, get_or_values}
 use Rattle.rules.specs.Record.{Hour, hour_number, members}
@@ -55,8 +55,8 @@ column_lacks z = cond_ind (is_accepted (verdict (write_amount_rows 14 z))) (amou
     (λ f. blanks_lack 14)
 
 -- what stands behind the first k
-pub stands-behind {ℓ} : {A : Type ℓ} (l : List A) (x : A) (rest : List A) (d : A) {k : ℕ} → length l ≡ k → get_or (l ++ x ∷ rest) k d ≡ x
-stands-behind l x rest d e = rw (← e) (get_or-append_seam l x rest d)
+pub stands_behind {ℓ} : {A : Type ℓ} (l : List A) (x : A) (rest : List A) (d : A) {k : ℕ} → length l ≡ k → get_or (l ++ x ∷ rest) k d ≡ x
+stands_behind l x rest d e = rw (← e) (get_or-append_seam l x rest d)
 
 -- ---- a member's line, without its line feed: two digits, a blank, the charge, and what stands behind it
 
@@ -111,16 +111,16 @@ module _ (h : Hour) where
 -- ---- all lines: `text` is a member's line without its line feed
 
 module _ (h : Hour) (line text : ℕ → List ℕ) (cut : (m : ℕ) (rest : List ℕ) → lines_of (line m ++ rest) ≡ text m ∷ lines_of rest) where
-  members_cut : (n : ℕ) (rest : List ℕ) → lines_of (member_lines line n ++ rest) ≡ valuesBelow text n ++ lines_of rest
-  unfolding member_lines valuesBelow
+  members_cut : (n : ℕ) (rest : List ℕ) → lines_of (member_lines line n ++ rest) ≡ values_below text n ++ lines_of rest
+  unfolding member_lines values_below
   members_cut zero rest = refl
   members_cut (suc n) rest =
       ap lines_of (append_assoc (member_lines line n) (line n) rest)
       ∙ members_cut n (line n ++ rest)
-      ∙ ap (λ (ls : List (List ℕ)). valuesBelow text n ++ ls) (cut n rest)
-      ∙ sym (append_assoc (valuesBelow text n) (text n ∷ []) (lines_of rest))
+      ∙ ap (λ (ls : List (List ℕ)). values_below text n ++ ls) (cut n rest)
+      ∙ sym (append_assoc (values_below text n) (text n ∷ []) (lines_of rest))
 
-  sheet_cut : lines_of (sheet_of h line) ≡ first_text h ∷ (valuesBelow text (members h) ++ [] ∷ [])
+  sheet_cut : lines_of (sheet_of h line) ≡ first_text h ∷ (values_below text (members h) ++ [] ∷ [])
   unfolding sheet_of first_line parts_at
   sheet_cut = ap lines_of (append_assoc (first_text h) (bytes "\n") (member_lines line (members h)))
       ∙ part_and_rest 10 (first_text h) (member_lines line (members h)) (first_lacks h)
@@ -129,14 +129,14 @@ module _ (h : Hour) (line text : ℕ → List ℕ) (cut : (m : ℕ) (rest : List
 
   pub line_stands : (m : ℕ) → m < members h → member_line_at m (sheet_of h line) ≡ text m
   line_stands m l = rw sheet_cut (
-      get_or-append (valuesBelow text (members h)) ([] ∷ []) [] m (rw (length_values text (members h)) l)
+      get_or-append (values_below text (members h)) ([] ∷ []) [] m (rw (length_values text (members h)) l)
       ∙ get_or_values text (members h) m [] l)
 
   pub lines_counted : length (lines_of (sheet_of h line)) ≡ members h + 2
   lines_counted = rw (sheet_cut, length-append) (omega (arith, length_values text (members h)))
 
   pub nothing_behind : line_at (sheet_of h line) (suc (members h)) ≡ []
-  nothing_behind = rw sheet_cut (stands-behind (valuesBelow text (members h)) [] [] [] (length_values text (members h)))
+  nothing_behind = rw sheet_cut (stands_behind (values_below text (members h)) [] [] [] (length_values text (members h)))
 
   pub counts_said : hour_number h < 10 ^ 20 → members h < 10 ^ 20 → h.count < 10 ^ 20 →
       SaysCounts (line_at (sheet_of h line) 0) (hour_number h) (members h) h.count

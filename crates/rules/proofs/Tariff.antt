@@ -8,7 +8,7 @@ use lib.Dec.{eqb}
 use lib.IntN.{ℤ, pos, +ℤ_idl, +ℤ_idr, *ℤ-zero, ◌+ℤ◌, ◌-ℤ◌, ◌*ℤ◌}
 use borrow.Author.Tests.{eqb-true}
 use Rattle.whole.specs.Below.{total_below}
-use Rattle.whole.proofs.Tests.{both, cond-ext}
+use Rattle.whole.proofs.Tests.{both, cond_ext}
 use Rattle.whole.proofs.Linear.{zr, all3, all4, all5, all6}
 use Rattle.whole.proofs.Totals.{total_ext, total_add, total_neg, total_mul, total_swap, total_pick}
 use Rattle.rules.specs.declared.Kind.{Kind}
@@ -94,7 +94,7 @@ module _ (h : Hour) (a : ℕ) where
   import_losses : area_sum h a is_import (λ r. r.A *ℤ (units_per_kwh -ℤ r.H)) ≡ area_sum h a is_import (λ r. r.S *ℤ (units_per_kwh -ℤ r.H))
   unfolding area_sum in_area entry_of
   import_losses = total_ext _ _ h.count (λ i l. let w = h.rec i in
-      cond-ext (eqb (area_of h i) a && is_import (entry w).kind) _ _ _
+      cond_ext (eqb (area_of h i) a && is_import (entry w).kind) _ _ _
       (λ t. ap (λ (A : ℤ). A *ℤ (units_per_kwh -ℤ (entry w).H)) (import_deemed w (both (eqb (area_of h i) a) _ t).1)))
 
   losses_apart : losses h a ≡ transmission_losses h a

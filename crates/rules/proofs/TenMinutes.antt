@@ -8,7 +8,7 @@ use lib.IntN.{ℤ, pos, neg_ℤ, nat_abs, +ℤ_idl, *ℤ_comm, *ℤ-zero, ◌+�
 use lib.ListN.{length}
 use lib.Dec.{ltb, eqb}
 use borrow.Author.Tests.{ltb-false, eqb-true}
-use Rattle.whole.specs.Below.{count_below, total_below, replacingFirst}
+use Rattle.whole.specs.Below.{count_below, total_below, replacing_first}
 use Rattle.whole.proofs.Tests.{split}
 use Rattle.whole.proofs.Linear.{zr, all1, all2, all6}
 use Rattle.whole.proofs.Sums.{count_zero}
@@ -65,7 +65,7 @@ module _ (s : List ℕ) (c : List ℤ) where
   unfolding ten_minutes_rows
   room a = ltb-false _ _ (no_place _ ((whole_parts (form_rows ten_minutes_form s) length_row).0 (by_the_table.accepts.0 a)).1.0)
 
-  pub fills : AcceptsTenMinutes s c → (settle_ten_minutes s c).charges ≡ replacingFirst (ten_minutes_charge h) (members h) c
+  pub fills : AcceptsTenMinutes s c → (settle_ten_minutes s c).charges ≡ replacing_first (ten_minutes_charge h) (members h) c
   unfolding settle_ten_minutes
   fills a = rw a
 

@@ -12,7 +12,7 @@ use lib.IntN.{ℤ, pos, nat_abs}
 use lib.ListN.{length, drop, replicate, length-append, length-replicate}
 use lib.Seq.{drop_at, drop-append_seam, drop-drop, drop-length}
 use borrow.Author.Tests.{ltb-true, ltb-false, lt-ltb, le-ltb}
-use Rattle.whole.proofs.Tests.{split, never-some}
+use Rattle.whole.proofs.Tests.{split, never_some}
 use Rattle.rules.specs.Text.{sign_byte, decimal, amount_text, amount_field, past_blanks, amount_in}
 use Rattle.rules.specs.Refusals.{row, Verdict, accepted, refused_at, nothing_read, verdict, out_of_range, too_narrow, not_an_amount, write_amount_rows, read_amount_rows}
 use Rattle.rules.specs.Settling.{Written, ReadAmount, or_refused, write, read}
@@ -144,16 +144,16 @@ amount_text_read s z = (λ e. read_is_text s z ((read_by_parts s z).0 e), λ t. 
 
 -- ---- reading answers by it
 
-never-accepted {ℓ} : {X : Type ℓ} (n : ℕ) → refused_at (suc n) 0 ≡ accepted → X
-never-accepted n e = absurd (let z : suc n ≡ 0 = ap (λ (v : Verdict). v.number) e in omega arith)
+never_accepted {ℓ} : {X : Type ℓ} (n : ℕ) → refused_at (suc n) 0 ≡ accepted → X
+never_accepted n e = absurd (let z : suc n ≡ 0 = ap (λ (v : Verdict). v.number) e in omega arith)
 
 answered : (o : Option ℤ) (z : ℤ) → or_refused o ≡ record { verdict = accepted; amount = z } → o ≡ some z
-answered none z e = never-accepted 9 (ap (λ (r : ReadAmount). r.verdict) e)
+answered none z e = never_accepted 9 (ap (λ (r : ReadAmount). r.verdict) e)
 answered (some y) z e = ap some (ap (λ (r : ReadAmount). r.amount) e)
 
 refused : (o : Option ℤ) → or_refused o ≡ record { verdict = refused_at 10 0; amount = pos 0 } → o ≡ none
 refused none e = refl
-refused (some y) e = never-accepted 9 (ap (λ (r : ReadAmount). r.verdict) (sym e))
+refused (some y) e = never_accepted 9 (ap (λ (r : ReadAmount). r.verdict) (sym e))
 
 nothing_found : (o : Option ℤ) → ((z : ℤ) → o ≡ some z → ⊥) → o ≡ none
 nothing_found none f = refl
@@ -177,7 +177,7 @@ read_accepts s z = (λ e. (amount_text_read s z).0 (answered (amount_in s) z e),
 pub read_refuses : (s : List ℕ) → (read s ≡ record { verdict = refused_at 10 0; amount = pos 0 }) ↔ ((z : ℤ) → IsTextOf z s → ⊥)
 unfolding read
 read_refuses s = (
-  λ e z t. never-some (sym ((amount_text_read s z).1 t) ∙ refused (amount_in s) e),
+  λ e z t. never_some (sym ((amount_text_read s z).1 t) ∙ refused (amount_in s) e),
   λ f. ap or_refused (nothing_found (amount_in s) (λ z e. f z ((amount_text_read s z).0 e))),
 )
 
@@ -212,8 +212,8 @@ module _ (f : List ℕ) (z : ℤ) where
 
   pub accepted_in_range : (write f z).verdict ≡ accepted → (nat_abs z ≤ 999999999999) × (length (amount_text z) ≤ length f)
   accepted_in_range = write_ind (λ w. w.verdict ≡ accepted → (nat_abs z ≤ 999999999999) × (length (amount_text z) ≤ length f))
-      (λ o e. never-accepted 7 e)
-      (λ n e. never-accepted 8 e)
+      (λ o e. never_accepted 7 e)
+      (λ n e. never_accepted 8 e)
       (λ h l e. (h, l))
 
   -- accepted or refused, a field keeps its width

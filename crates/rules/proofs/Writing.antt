@@ -9,7 +9,7 @@ use lib.ListN.{length, drop}
 use lib.Seq.{take_at}
 use lib.Dec.{ltb, leb, eqb}
 use borrow.Author.Tests.{ltb-true, ltb-false, leb-true, eqb-true, le-ltb, eq-eqb, not-false}
-use Rattle.whole.specs.Below.{valuesBelow, replacingFirst}
+use Rattle.whole.specs.Below.{values_below, replacing_first}
 use Rattle.whole.proofs.Tests.{split, both, neither}
 use Rattle.whole.proofs.Buffers.{length_values, get_or_values, length_replacing, drop_replacing}
 use Rattle.rules.specs.Record.{Hour}
@@ -93,7 +93,7 @@ module _ (head records : List ℕ) where
         (λ t. rw t (refl, refl))
 
     pub written : w.verdict ≡ accepted →
-        let n = file_length hourly h in w ≡ record { verdict = accepted; length = n; file = replacingFirst (file_byte hourly h) n file }
+        let n = file_length hourly h in w ≡ record { verdict = accepted; length = n; file = replacing_first (file_byte hourly h) n file }
     unfolding write_hour
     written e = let a : rows ≡ accepted = sym verdict_is ∙ e in rw a refl
 
@@ -108,8 +108,8 @@ module _ (head records : List ℕ) where
     )
 
     file_is : w.verdict ≡ accepted → file_in w ≡ file_of hourly h
-    unfolding replacingFirst file_of
-    file_is e = rw (written e) (take_at (valuesBelow (file_byte hourly h) (file_length hourly h)) (drop (file_length hourly h) file)
+    unfolding replacing_first file_of
+    file_is e = rw (written e) (take_at (values_below (file_byte hourly h) (file_length hourly h)) (drop (file_length hourly h) file)
         (file_length hourly h) (length_values (file_byte hourly h) (file_length hourly h)))
 
     length_told : w.verdict ≡ accepted → (w.length ≡ length_for records) × (length (file_in w) ≡ w.length)
@@ -215,7 +215,7 @@ module _ (s : List ℕ) where
     same_bytes : (file : List ℕ) → length s ≤ length file →
         write_hour (head_words s) (record_words hourly s) file
         ≡ record { verdict = accepted; length = length s; file = s ++ drop (length s) file }
-    unfolding replacingFirst file_of
+    unfolding replacing_first file_of
     same_bytes file enough =
         let passed = (by_rows (head_words s) (record_words hourly s) file).accepts.1 (own_lists_pass (length file) enough) in
         let length_is : file_length hourly (hour_in s) ≡ length s = sym (own_hour s bytes (form_whole s whole)).length_is in

@@ -1,7 +1,7 @@
 -- An hour as lists of words, a head and records, and the file that says an hour, byte by byte.
 -- Document 02, A2; the layout is document 01's, "The hour file".
 use Rattle.std.specs.Prelude.{ℕ, ◌+◌, ◌-◌, ◌*◌, ◌/◌, ◌%◌, cond, ◌&&◌, List, [], ◌∷◌, length, get_or, ltb, leb, eqb}
-use Rattle.whole.specs.Below.{sum_below, valuesBelow}
+use Rattle.whole.specs.Below.{sum_below, values_below}
 use Rattle.rules.specs.declared.Layout.{Layout}
 use Rattle.rules.specs.Record.{Hour}
 use Rattle.rules.specs.HourFile.{block_word, record_count, record_word}
@@ -19,10 +19,10 @@ hour_from l head records = let count = length records / l.words in record {
 
 -- a file's own head and records
 unfoldable pub head_words : List ℕ → List ℕ
-head_words s = valuesBelow (λ k. block_word s 0 (8 + k)) 120
+head_words s = values_below (λ k. block_word s 0 (8 + k)) 120
 
 unfoldable pub record_words : Layout → List ℕ → List ℕ
-record_words l s = valuesBelow (λ k. record_word l s (k / l.words) (k % l.words)) (l.words * record_count l s)
+record_words l s = values_below (λ k. record_word l s (k / l.words) (k % l.words)) (l.words * record_count l s)
 
 -- ---- the file that says an hour
 
@@ -68,4 +68,4 @@ module _ (l : Layout) (h : Hour) where
   file_length = 512 * blocks_for
 
   unfoldable pub file_of : List ℕ
-  file_of = valuesBelow file_byte file_length
+  file_of = values_below file_byte file_length

@@ -1,6 +1,6 @@
 -- What the program write_hour prints, byte for byte, of the bytes on standard input: a head and records as words. Document 02, A2.
 use Rattle.std.specs.Prelude.{ℕ, ◌/◌, ◌%◌, not, cond, List, ◌∷◌, length, take, drop, eqb}
-use Rattle.whole.specs.Below.{valuesBelow}
+use Rattle.whole.specs.Below.{values_below}
 use Rattle.rules.specs.HourFile.{hourly, word}
 use Rattle.rules.specs.HourWords.{hour_from, file_of}
 use Rattle.rules.specs.Refusals.{Row, row, verdict, place_zero_if, list_rows}
@@ -9,7 +9,7 @@ use Rattle.rules.specs.Statement.{refused_line}
 
 module _ (s : List ℕ) where
   unfoldable pub raw_words : List ℕ
-  raw_words = valuesBelow (word s) (length s / 4)
+  raw_words = values_below (word s) (length s / 4)
 
   -- the first 120 words are the head, the others the records
   abbrev pub raw_head : List ℕ

@@ -2,7 +2,7 @@
 -- Document 01, "The sums" (last paragraph), "Text amounts", "Refusal numbers and their order"; finals: document 02, A1; hour files: A2.
 use Rattle.std.specs.Prelude.{ℕ, Bool, cond, List, ℤ, pos, length, replicate, ltb, eqb}
 use Rattle.std.proofs.Math.Option.{Option, none, some}
-use Rattle.whole.specs.Below.{valuesBelow, replacingFirst}
+use Rattle.whole.specs.Below.{values_below, replacing_first}
 use Rattle.rules.specs.declared.Line.{Line}
 use Rattle.rules.specs.Record.{Hour, members, areas, entry_of}
 use Rattle.rules.specs.Deviation.{deviation}
@@ -30,16 +30,16 @@ line_of h m = record { amount = amount h m; records = records_of h m }
 -- one charge, one final and one line a member, one share and one deviation a record; places past those are unchanged
 unfoldable pub filled : Hour → Buffers → Buffers
 filled h b = record {
-  charges = replacingFirst (charge h) (members h) b.charges;
-  finals = replacingFirst (final h) (members h) b.finals;
-  shares = replacingFirst (share_of h) h.count b.shares;
-  deviations = replacingFirst (λ i. deviation (entry_of h i)) h.count b.deviations;
-  lines = replacingFirst (line_of h) (members h) b.lines;
+  charges = replacing_first (charge h) (members h) b.charges;
+  finals = replacing_first (final h) (members h) b.finals;
+  shares = replacing_first (share_of h) h.count b.shares;
+  deviations = replacing_first (λ i. deviation (entry_of h i)) h.count b.deviations;
+  lines = replacing_first (line_of h) (members h) b.lines;
 }
 
 -- eight UFE figures, 0 for areas past the count
 unfoldable pub ufe_figures : Hour → List ℤ
-ufe_figures h = valuesBelow (λ a. cond (ltb a (areas h)) (ufe h a) (pos 0)) 8
+ufe_figures h = values_below (λ a. cond (ltb a (areas h)) (ufe h a) (pos 0)) 8
 
 abbrev pub no_figures : List ℤ
 no_figures = replicate 8 (pos 0)
@@ -68,7 +68,7 @@ pub record HourWritten : Type 0 where
 unfoldable pub write_hour : (head records file : List ℕ) → HourWritten
 write_hour head records file = let v = verdict (write_hour_rows head records (length file)) in let h = hour_from hourly head records in
     cond (is_accepted v)
-    (record { verdict = v; length = file_length hourly h; file = replacingFirst (file_byte hourly h) (file_length hourly h) file })
+    (record { verdict = v; length = file_length hourly h; file = replacing_first (file_byte hourly h) (file_length hourly h) file })
     (record { verdict = v; length = 0; file = file })
 
 -- ---- writing an amount into a field, whose length is the width

@@ -3,7 +3,7 @@
 -- Units are a 24th of document 01's, intervals count from 0, and an hour's six are 0 to 5.
 use Rattle.std.specs.Prelude.{ℕ, ◌+◌, ◌*◌, Bool, cond, ◌&&◌, ◌||◌, List, [], ◌∷◌, ◌++◌, ℤ, pos, neg_ℤ, ◌+ℤ◌, ◌-ℤ◌, ◌*ℤ◌, length, ltb, eqb}
 use Rattle.std.specs.Int.Signed.{lt_z}
-use Rattle.whole.specs.Below.{total_below, replacingFirst}
+use Rattle.whole.specs.Below.{total_below, replacing_first}
 use Rattle.rules.specs.declared.Kind.{Kind}
 use Rattle.rules.specs.Record.{Hour, Entry, members, zones, zone_of, member_of, area_of, signed, kind_of, is_generator, is_real_time}
 use Rattle.rules.specs.Record.{is_profile, is_import}
@@ -119,4 +119,4 @@ pub record TenMinutesSettlement : Type 0 where
 -- one charge a member, and the places past those unchanged; a refusal changes none
 unfoldable pub settle_ten_minutes : (file : List ℕ) (charges : List ℤ) → TenMinutesSettlement
 settle_ten_minutes s charges = let v = verdict (ten_minutes_rows s charges) in let h = ten_minutes_in s in
-    record { verdict = v; charges = cond (is_accepted v) (replacingFirst (ten_minutes_charge h) (members h) charges) charges }
+    record { verdict = v; charges = cond (is_accepted v) (replacing_first (ten_minutes_charge h) (members h) charges) charges }

@@ -10,7 +10,7 @@ use borrow.Author.Tests.{ltb-true, ltb-false, eqb-true, eqb-false, lt-ltb, le-lt
 use Rattle.whole.specs.Below.{one_if, count_below}
 use Rattle.whole.proofs.Tests.{split}
 use Rattle.whole.proofs.Sums.{count_mono, count_less, count_or, count_cut, none_pass}
-use Rattle.whole.proofs.Rank.{by_key, why-ahead}
+use Rattle.whole.proofs.Rank.{by_key, why_ahead}
 use Rattle.rules.specs.Share.{ahead}
 
 -- one more on equal numbers, as the code has it
@@ -54,7 +54,7 @@ module _ (rem : ℕ → ℕ) (n : ℕ) where
     rank_most : (x : ℕ) → x < rem i → rank i < above x
     unfolding ahead
     rank_most x h = count_less _ _ n
-        (λ j m t. why-ahead rem j i t (λ k. lt-ltb x (rem j) (omega arith)) (λ e k. lt-ltb x (rem j) (omega arith)))
+        (λ j m t. why_ahead rem j i t (λ k. lt-ltb x (rem j) (omega arith)) (λ e k. lt-ltb x (rem j) (omega arith)))
         i l ((by_key rem).irrefl i) (lt-ltb x (rem i) h)
 
     rank_least : above (rem i) ≤ rank i

@@ -9,7 +9,7 @@ use lib.Dec.{ltb}
 use lib.ListN.{length, take, drop}
 use lib.Seq.{length-take-le}
 use borrow.Author.Tests.{ne_eqb}
-use Rattle.whole.specs.Below.{one_if, count_below, replacingFirst}
+use Rattle.whole.specs.Below.{one_if, count_below, replacing_first}
 use Rattle.whole.proofs.Sums.{sum_at}
 use Rattle.whole.proofs.Buffers.{replacing_all, replacing_ext, replacing_same}
 use Rattle.rules.specs.Share.{share_size, ahead, ranked_size}
@@ -50,7 +50,7 @@ module _ {demands : List ℕ} {size t : ℕ} (d : Dividing demands size t) (unit
 
   -- they suffice down to this bound
   pub sizes_are : {bound spare : ℕ} → Suffices demands size units bound spare → {out : List ℕ} →
-      out ≡ replacingFirst (size_of demands size bound spare) n demands → out ≡ shares_in demands size demands
+      out ≡ replacing_first (size_of demands size bound spare) n demands → out ≡ shares_in demands size demands
   sizes_are {bound} {spare} cut put = put ∙ replacing_ext _ _ n demands (λ i l. sym (size_is i l ∙
       rw (by_threshold (rest_of demands size) n i l units bound spare cut.with_spare cut.enough)))
 
@@ -60,7 +60,7 @@ module _ (places : List ℕ) (n size : ℕ) (l : n ≤ length places) where
   -- past the sizes stands what stood there
   pub shared_first : {sizes : List ℕ} → sizes ≡ shares_in (take n places) size (take n places) →
       sizes ++ drop n places ≡ shares_in (take n places) size places
-  unfolding replacingFirst
+  unfolding replacing_first
   shared_first shared = ap₂ (λ (a b : List ℕ). a ++ b)
       (shared ∙ replacing_all _ (length (take n places)) (take n places) refl)
       (ap (λ (k : ℕ). drop k places) (sym (length-take-le n places l)))

@@ -3,7 +3,7 @@
 // Nothing is held for a demand, neither whole part nor remainder: each is worked out again where it is needed, and the sizes come to stand
 // where the demands stood. The units left over go to the largest remainders down to some bound, which is found by bisection.
 ghost use Rattle.std.specs.Prelude.{◌≡◌, ◌/◌, ◌≤◌, ◌<◌, ltb, eqb, length};
-ghost use Rattle.whole.specs.Below.{one_if, replacingFirst};
+ghost use Rattle.whole.specs.Below.{one_if, replacing_first};
 ghost use Rattle.share.specs.Shareable.{demanded, Shareable, shares_in};
 ghost use Rattle.share.specs.Steps.{Dividing, left_of, count_above, Between, Suffices, size_of};
 
@@ -133,7 +133,7 @@ fn threshold(demands: &[u64], size: u64, t: u64, units: u64, above: u64) -> Cut
 fn put_sizes(places: &mut [u64], size: u64, t: u64, bound: u64, spare: u64)
     requires { Dividing places.old size t }
     ensures { places.new
-        ≡ replacingFirst (size_of places.old size bound spare) (length places.old) places.old }
+        ≡ replacing_first (size_of places.old size bound spare) (length places.old) places.old }
 {
     let mut equal: u64 = 0;
     let mut i = 0;

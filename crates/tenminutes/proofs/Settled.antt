@@ -8,7 +8,7 @@ use lib.IntN.{ℤ}
 use lib.Dec.{ltb}
 use lib.ListN.{length}
 use borrow.Author.Tests.{lt-ltb, le-ltb}
-use Rattle.whole.specs.Below.{replacingFirst}
+use Rattle.whole.specs.Below.{replacing_first}
 use Rattle.rules.specs.declared.Answer.{Answer}
 use Rattle.rules.specs.declared.Answer.TheVariants.{Accepted, TooShort}
 use Rattle.rules.specs.Record.{members}
@@ -67,10 +67,10 @@ module _ (s : List ℕ) (c : List ℤ) where
     whole l = rest ∙ rw (le-ltb (length c) (members (ten_minutes_in s)) l)
 
     written : verdict (ten_minutes_rows s c) ≡ accepted →
-        (settle_ten_minutes s c).charges ≡ replacingFirst (ten_minutes_charge (ten_minutes_in s)) (members (ten_minutes_in s)) c
+        (settle_ten_minutes s c).charges ≡ replacing_first (ten_minutes_charge (ten_minutes_in s)) (members (ten_minutes_in s)) c
     unfolding settle_ten_minutes
     written e = rw e
 
     pub all_charged : members (ten_minutes_in s) ≤ length c → {after : List ℤ} →
-        after ≡ replacingFirst (ten_minutes_charge (ten_minutes_in s)) (members (ten_minutes_in s)) c → Settles s c Accepted after
+        after ≡ replacing_first (ten_minutes_charge (ten_minutes_in s)) (members (ten_minutes_in s)) c → Settles s c Accepted after
     all_charged l put = record { verdict_is = sym (told ∙ whole l); charges_are = put ∙ sym (written (whole l)) }

@@ -1,6 +1,6 @@
 // A member's charge: what its nets cost, over all zones and intervals, rounded once.
 ghost use Rattle.std.specs.Prelude.{◌≡◌, ◌≤◌, ◌<◌, length};
-ghost use Rattle.whole.specs.Below.{total_below, replacingFirst};
+ghost use Rattle.whole.specs.Below.{total_below, replacing_first};
 ghost use Rattle.rules.specs.Record as Record;
 ghost use Rattle.rules.specs.TenMinutes.{ten_minutes_in, ten_minutes_charge};
 ghost use Rattle.rules.specs.Inner.Kept.{TenMinutesFileKept};
@@ -83,7 +83,7 @@ fn put_each(file: &[u8], members: usize, firsts: &[u8], nexts: &[u8], charges: &
         × (Record.members (ten_minutes_in file.now) ≤ length charges.old)
         × Chained (ten_minutes_in file.now) 0 firsts.now nexts.now }
     ensures { charges.new
-        ≡ replacingFirst (ten_minutes_charge (ten_minutes_in file.now)) (Record.members (ten_minutes_in file.now))
+        ≡ replacing_first (ten_minutes_charge (ten_minutes_in file.now)) (Record.members (ten_minutes_in file.now))
         charges.old }
 {
     let zones = crate::words::head_word(file, 10) as usize;
@@ -106,7 +106,7 @@ fn put_charges_in(
         × (Record.members (ten_minutes_in file.now) ≤ length charges.old)
         × Chained (ten_minutes_in file.now) (ten_minutes_in file.now).count firsts.old nexts.old }
     ensures { charges.new
-        ≡ replacingFirst (ten_minutes_charge (ten_minutes_in file.now)) (Record.members (ten_minutes_in file.now))
+        ≡ replacing_first (ten_minutes_charge (ten_minutes_in file.now)) (Record.members (ten_minutes_in file.now))
         charges.old }
 {
     crate::chain::put_chain(file, firsts, nexts);
@@ -118,7 +118,7 @@ pub fn put_charges(file: &[u8], members: usize, charges: &mut [i64])
     requires { TenMinutesFileKept file.now × (members ≡ Record.members (ten_minutes_in file.now))
         × (Record.members (ten_minutes_in file.now) ≤ length charges.old) }
     ensures { charges.new
-        ≡ replacingFirst (ten_minutes_charge (ten_minutes_in file.now)) (Record.members (ten_minutes_in file.now))
+        ≡ replacing_first (ten_minutes_charge (ten_minutes_in file.now)) (Record.members (ten_minutes_in file.now))
         charges.old }
 {
     let mut firsts = [64u8; 32];

@@ -8,7 +8,7 @@ use native.Mathlib.Omega.{arith}
 use lib.Dec.{eqb}
 use lib.IntN.{ℤ, pos, ◌+ℤ◌}
 use lib.ListN.{length, get_or, set}
-use Rattle.whole.specs.Below.{sum_below, total_below, replacingFirst}
+use Rattle.whole.specs.Below.{sum_below, total_below, replacing_first}
 use Rattle.whole.proofs.Sums.{grown_if, sum_none, sum_add_one}
 use Rattle.whole.proofs.Totals.{added_if, total_none, total_add_one}
 use Rattle.whole.proofs.Buffers.{get_or_replacing, length_replacing, replacing_ext, replacing_same, replacing_changed}
@@ -17,7 +17,7 @@ use Rattle.whole.proofs.Buffers.{get_or_replacing, length_replacing, replacing_e
 pub record Added {ℓ} {A : Type ℓ} (after : ℕ → ℕ → A) (k n i : ℕ) (old out : List A) : Type ℓ where
   pub reached : i ≤ n
   pub room : k ≤ length old
-  pub holds : out ≡ replacingFirst (after i) k old
+  pub holds : out ≡ replacing_first (after i) k old
 
 module _ {ℓ} {A : Type ℓ} {after : ℕ → ℕ → A} {k n : ℕ} {old : List A} where
   none_added : (d : A) → k ≤ length old → ((m : ℕ) → m < k → after 0 m ≡ get_or old m d) → Added after k n 0 old old
@@ -40,8 +40,8 @@ module _ {ℓ} {A : Type ℓ} {after : ℕ → ℕ → A} {k n : ℕ} {old : Lis
       holds = rw added.holds (replacing_changed g (after i) k old m d l ∙ replacing_ext _ (after (i + 1)) k old same);
     }
 
-    pub all_added : n ≤ i → out ≡ replacingFirst (after n) k old
-    all_added ended = added.holds ∙ ap (λ t. replacingFirst (after t) k old) all_turns
+    pub all_added : n ≤ i → out ≡ replacing_first (after n) k old
+    all_added ended = added.holds ∙ ap (λ t. replacing_first (after t) k old) all_turns
       where
         all_turns : i ≡ n
         all_turns = omega arith

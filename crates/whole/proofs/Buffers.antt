@@ -11,118 +11,118 @@ use lib.ListN.{length, take, drop, get_or, set, length-append, length-drop, leng
 use lib.Seq.{drop-cons, drop_at, drop-drop, take_at, set_at, get_or_at, get_or-drop, append_snoc, set-append_left}
 use lib.Seq.{get_or-set_same, get_or-set_other, ext_get_or}
 use borrow.Author.Tests.{ltb-true, ltb-false, eqb-true, eqb-false}
-use Rattle.whole.specs.Below.{valuesBelow, replacingFirst}
-use Rattle.whole.proofs.Tests.{split, last-or-below}
+use Rattle.whole.specs.Below.{values_below, replacing_first}
+use Rattle.whole.proofs.Tests.{split, last_or_below}
 
 module _ {ℓ} {A : Type ℓ} where
-  pub values_ext : (f g : ℕ → A) (n : ℕ) → ((i : ℕ) → i < n → f i ≡ g i) → valuesBelow f n ≡ valuesBelow g n
-  unfolding valuesBelow
+  pub values_ext : (f g : ℕ → A) (n : ℕ) → ((i : ℕ) → i < n → f i ≡ g i) → values_below f n ≡ values_below g n
+  unfolding values_below
   values_ext f g zero e = refl
   values_ext f g (suc n) e = ap₂ (λ (l : List A) (a : A). l ++ a ∷ []) (values_ext f g n (λ i l. e i (omega arith))) (e n (omega arith))
 
-  pub replacing_ext : (f g : ℕ → A) (n : ℕ) (old : List A) → ((i : ℕ) → i < n → f i ≡ g i) → replacingFirst f n old ≡ replacingFirst g n old
-  unfolding replacingFirst
+  pub replacing_ext : (f g : ℕ → A) (n : ℕ) (old : List A) → ((i : ℕ) → i < n → f i ≡ g i) → replacing_first f n old ≡ replacing_first g n old
+  unfolding replacing_first
   replacing_ext f g n old e = ap (λ (l : List A). l ++ drop n old) (values_ext f g n e)
 
 module _ {ℓ} {A : Type ℓ} (f : ℕ → A) where
-  pub length_values : (n : ℕ) → length (valuesBelow f n) ≡ n
-  unfolding valuesBelow
+  pub length_values : (n : ℕ) → length (values_below f n) ≡ n
+  unfolding values_below
   length_values zero = refl
-  length_values (suc n) = length-append (valuesBelow f n) (f n ∷ []) ∙ let e = length_values n in omega arith
+  length_values (suc n) = length-append (values_below f n) (f n ∷ []) ∙ let e = length_values n in omega arith
 
-  pub get_or_values : (n i : ℕ) (d : A) → i < n → get_or (valuesBelow f n) i d ≡ f i
-  unfolding valuesBelow
+  pub get_or_values : (n i : ℕ) (d : A) → i < n → get_or (values_below f n) i d ≡ f i
+  unfolding values_below
   get_or_values zero i d l = absurd (not-suc-le-zero l)
-  get_or_values (suc n) i d l = last-or-below i n l
-      (λ e. rw e (get_or_at (valuesBelow f n) (f n) [] d n (length_values n)))
-      (λ m. get_or-append (valuesBelow f n) (f n ∷ []) d i (let e = length_values n in omega arith) ∙ get_or_values n i d m)
+  get_or_values (suc n) i d l = last_or_below i n l
+      (λ e. rw e (get_or_at (values_below f n) (f n) [] d n (length_values n)))
+      (λ m. get_or-append (values_below f n) (f n ∷ []) d i (let e = length_values n in omega arith) ∙ get_or_values n i d m)
 
   -- the first n, then the others
-  values_then : (n m : ℕ) → valuesBelow f (n + m) ≡ valuesBelow f n ++ valuesBelow (λ i. f (n + i)) m
-  unfolding valuesBelow
-  values_then n zero = rw add-zero (sym (append-nil (valuesBelow f n)))
+  values_then : (n m : ℕ) → values_below f (n + m) ≡ values_below f n ++ values_below (λ i. f (n + i)) m
+  unfolding values_below
+  values_then n zero = rw add-zero (sym (append-nil (values_below f n)))
   values_then n (suc m) =
-      ap (valuesBelow f) (add-suc n m)
+      ap (values_below f) (add-suc n m)
       ∙ ap (λ (l : List A). l ++ f (n + m) ∷ []) (values_then n m)
-      ∙ append_assoc (valuesBelow f n) (valuesBelow (λ i. f (n + i)) m) (f (n + m) ∷ [])
+      ∙ append_assoc (values_below f n) (values_below (λ i. f (n + i)) m) (f (n + m) ∷ [])
 
-  pub replacing_none : (old : List A) → replacingFirst f 0 old ≡ old
-  unfolding replacingFirst valuesBelow
+  pub replacing_none : (old : List A) → replacing_first f 0 old ≡ old
+  unfolding replacing_first values_below
   replacing_none old = refl
 
   -- one more place is written, at n + 1 and at the code's n + 1
-  pub replacing_more : (n : ℕ) (old : List A) → n < length old → set (replacingFirst f n old) n (f n) ≡ replacingFirst f (suc n) old
-  unfolding replacingFirst valuesBelow
+  pub replacing_more : (n : ℕ) (old : List A) → n < length old → set (replacing_first f n old) n (f n) ≡ replacing_first f (suc n) old
+  unfolding replacing_first values_below
   replacing_more n old l =
-      ap (λ (t : List A). set (valuesBelow f n ++ t) n (f n)) (drop-cons old n (f n) l)
-      ∙ set_at (valuesBelow f n) (get_or old n (f n)) (drop (suc n) old) (f n) n (length_values n)
-      ∙ sym (append_snoc (valuesBelow f n) (f n) (drop (suc n) old))
+      ap (λ (t : List A). set (values_below f n ++ t) n (f n)) (drop-cons old n (f n) l)
+      ∙ set_at (values_below f n) (get_or old n (f n)) (drop (suc n) old) (f n) n (length_values n)
+      ∙ sym (append_snoc (values_below f n) (f n) (drop (suc n) old))
 
-  pub replacing_next : (n : ℕ) (old : List A) → n < length old → set (replacingFirst f n old) n (f n) ≡ replacingFirst f (n + 1) old
-  replacing_next n old l = replacing_more n old l ∙ sym (ap (λ (m : ℕ). replacingFirst f m old) (add-one n))
+  pub replacing_next : (n : ℕ) (old : List A) → n < length old → set (replacing_first f n old) n (f n) ≡ replacing_first f (n + 1) old
+  replacing_next n old l = replacing_more n old l ∙ sym (ap (λ (m : ℕ). replacing_first f m old) (add-one n))
 
-  pub length_replacing : (n : ℕ) (old : List A) → n ≤ length old → length (replacingFirst f n old) ≡ length old
-  unfolding replacingFirst
+  pub length_replacing : (n : ℕ) (old : List A) → n ≤ length old → length (replacing_first f n old) ≡ length old
+  unfolding replacing_first
   length_replacing n old l =
-      length-append (valuesBelow f n) (drop n old) ∙ let e = length_values n in let d = length-drop n old in omega arith
+      length-append (values_below f n) (drop n old) ∙ let e = length_values n in let d = length-drop n old in omega arith
 
   -- a buffer of just as many places
-  pub replacing_all : (n : ℕ) (old : List A) → length old ≡ n → replacingFirst f n old ≡ valuesBelow f n
-  unfolding replacingFirst
+  pub replacing_all : (n : ℕ) (old : List A) → length old ≡ n → replacing_first f n old ≡ values_below f n
+  unfolding replacing_first
   replacing_all n old e = rw (drop_of_length-le old {i = n} (omega arith), append-nil)
 
-  take_replacing : (n : ℕ) (old : List A) → take n (replacingFirst f n old) ≡ valuesBelow f n
-  unfolding replacingFirst
-  take_replacing n old = take_at (valuesBelow f n) (drop n old) n (length_values n)
+  take_replacing : (n : ℕ) (old : List A) → take n (replacing_first f n old) ≡ values_below f n
+  unfolding replacing_first
+  take_replacing n old = take_at (values_below f n) (drop n old) n (length_values n)
 
-  pub drop_replacing : (n : ℕ) (old : List A) → drop n (replacingFirst f n old) ≡ drop n old
-  unfolding replacingFirst
-  drop_replacing n old = drop_at (valuesBelow f n) (drop n old) n (length_values n)
+  pub drop_replacing : (n : ℕ) (old : List A) → drop n (replacing_first f n old) ≡ drop n old
+  unfolding replacing_first
+  drop_replacing n old = drop_at (values_below f n) (drop n old) n (length_values n)
 
-  pub get_or_replacing : (n : ℕ) (old : List A) (i : ℕ) (d : A) → i < n → get_or (replacingFirst f n old) i d ≡ f i
-  unfolding replacingFirst
+  pub get_or_replacing : (n : ℕ) (old : List A) (i : ℕ) (d : A) → i < n → get_or (replacing_first f n old) i d ≡ f i
+  unfolding replacing_first
   get_or_replacing n old i d l =
-      get_or-append (valuesBelow f n) (drop n old) d i (let e = length_values n in omega arith) ∙ get_or_values n i d l
+      get_or-append (values_below f n) (drop n old) d i (let e = length_values n in omega arith) ∙ get_or_values n i d l
 
-  pub get_d_kept : (n : ℕ) (old : List A) (i : ℕ) (d : A) → n ≤ i → get_or (replacingFirst f n old) i d ≡ get_or old i d
+  pub get_d_kept : (n : ℕ) (old : List A) (i : ℕ) (d : A) → n ≤ i → get_or (replacing_first f n old) i d ≡ get_or old i d
   get_d_kept n old i d l =
       let k : n + (i - n) ≡ i = omega arith in
-      rw (← k) (sym (get_or-drop n (replacingFirst f n old) (i - n) d) ∙ ap (λ (t : List A). get_or t (i - n) d) (drop_replacing n old)
+      rw (← k) (sym (get_or-drop n (replacing_first f n old) (i - n) d) ∙ ap (λ (t : List A). get_or t (i - n) d) (drop_replacing n old)
       ∙ get_or-drop n old (i - n) d)
 
   -- nothing changes where each is replaced by what it holds
   pub replacing_same : (n : ℕ) (old : List A) (d : A) → n ≤ length old → ((i : ℕ) → i < n → f i ≡ get_or old i d) →
-      replacingFirst f n old ≡ old
+      replacing_first f n old ≡ old
   replacing_same n old d h same = ext_get_or d _ _ (length_replacing n old h) (λ i l. split (ltb i n)
       (λ t. let m = ltb-true i n t in get_or_replacing n old i d m ∙ same i m)
       (λ t. get_d_kept n old i d (ltb-false i n t)))
 
   -- what is past the first n is as it was
-  drop_past : (n m : ℕ) (old : List A) → drop (n + m) (replacingFirst f n old) ≡ drop (n + m) old
+  drop_past : (n m : ℕ) (old : List A) → drop (n + m) (replacing_first f n old) ≡ drop (n + m) old
   drop_past n m old =
-      sym (drop-drop m n (replacingFirst f n old)) ∙ ap (λ (l : List A). drop m l) (drop_replacing n old) ∙ drop-drop m n old
+      sym (drop-drop m n (replacing_first f n old)) ∙ ap (λ (l : List A). drop m l) (drop_replacing n old) ∙ drop-drop m n old
 
   -- the next m places replaced too
   pub replacing_then : (g : ℕ → A) (n m : ℕ) (old : List A) → ((i : ℕ) → i < m → g i ≡ f (n + i)) →
-      let out = replacingFirst f n old in take n out ++ (valuesBelow g m ++ drop (n + m) out) ≡ replacingFirst f (n + m) old
-  unfolding replacingFirst
+      let out = replacing_first f n old in take n out ++ (values_below g m ++ drop (n + m) out) ≡ replacing_first f (n + m) old
+  unfolding replacing_first
   replacing_then g n m old same =
-      ap₂ (λ (l r : List A). l ++ (valuesBelow g m ++ r)) (take_replacing n old) (drop_past n m old)
-      ∙ ap (λ (l : List A). valuesBelow f n ++ (l ++ drop (n + m) old)) (values_ext g (λ i. f (n + i)) m same)
-      ∙ sym (append_assoc (valuesBelow f n) (valuesBelow (λ i. f (n + i)) m) (drop (n + m) old))
+      ap₂ (λ (l r : List A). l ++ (values_below g m ++ r)) (take_replacing n old) (drop_past n m old)
+      ∙ ap (λ (l : List A). values_below f n ++ (l ++ drop (n + m) old)) (values_ext g (λ i. f (n + i)) m same)
+      ∙ sym (append_assoc (values_below f n) (values_below (λ i. f (n + i)) m) (drop (n + m) old))
       ∙ ap (λ (l : List A). l ++ drop (n + m) old) (sym (values_then n m))
 
   -- more places than were replaced before
-  pub replacing_longer : (n m : ℕ) (old : List A) → n ≤ m → replacingFirst f m (replacingFirst f n old) ≡ replacingFirst f m old
-  unfolding replacingFirst
+  pub replacing_longer : (n m : ℕ) (old : List A) → n ≤ m → replacing_first f m (replacing_first f n old) ≡ replacing_first f m old
+  unfolding replacing_first
   replacing_longer n m old l =
       let whole : n + (m - n) ≡ m = omega arith in
-      ap (λ (t : List A). valuesBelow f m ++ t) (rw whole at (drop_past n (m - n) old))
+      ap (λ (t : List A). values_below f m ++ t) (rw whole at (drop_past n (m - n) old))
 
   -- the first n places are replaced again
-  pub replacing_twice : (g : ℕ → A) (n : ℕ) (old : List A) → replacingFirst g n (replacingFirst f n old) ≡ replacingFirst g n old
-  unfolding replacingFirst
-  replacing_twice g n old = ap (λ (l : List A). valuesBelow g n ++ l) (drop_replacing n old)
+  pub replacing_twice : (g : ℕ → A) (n : ℕ) (old : List A) → replacing_first g n (replacing_first f n old) ≡ replacing_first g n old
+  unfolding replacing_first
+  replacing_twice g n old = ap (λ (l : List A). values_below g n ++ l) (drop_replacing n old)
 
 -- ---- one place changed to g of what it held: what the places then hold
 module _ {ℓ} {A : Type ℓ} where
@@ -133,27 +133,27 @@ module _ {ℓ} {A : Type ℓ} where
       (λ f. rw f (get_or-set_other l m i (g (get_or l m d)) d (λ e. eqb-false m i f (sym e))))
 
   values_changed : (g : A → A) (f : ℕ → A) (n m : ℕ) (d : A) →
-      set (valuesBelow f n) m (g (get_or (valuesBelow f n) m d)) ≡ valuesBelow (λ i. cond (eqb m i) (g (f i)) (f i)) n
-  values_changed g f n m d = ext_get_or d _ _ (length-set (valuesBelow f n) m _ ∙ length_values f n ∙ sym (length_values _ n)) (λ i l.
-      let k : i < length (valuesBelow f n) = rw length-set at l in
+      set (values_below f n) m (g (get_or (values_below f n) m d)) ≡ values_below (λ i. cond (eqb m i) (g (f i)) (f i)) n
+  values_changed g f n m d = ext_get_or d _ _ (length-set (values_below f n) m _ ∙ length_values f n ∙ sym (length_values _ n)) (λ i l.
+      let k : i < length (values_below f n) = rw length-set at l in
       let j : i < n = omega (arith, length_values f n) in
-      get_or_changed g (valuesBelow f n) m i d k ∙ rw (get_or_values f n i d j) (sym (get_or_values _ n i d j)))
+      get_or_changed g (values_below f n) m i d k ∙ rw (get_or_values f n i d j) (sym (get_or_values _ n i d j)))
 
   pub replacing_changed : (g : A → A) (f : ℕ → A) (n : ℕ) (old : List A) (m : ℕ) (d : A) → m < n →
-      set (replacingFirst f n old) m (g (get_or (replacingFirst f n old) m d)) ≡ replacingFirst (λ i. cond (eqb m i) (g (f i)) (f i)) n old
-  unfolding replacingFirst
+      set (replacing_first f n old) m (g (get_or (replacing_first f n old) m d)) ≡ replacing_first (λ i. cond (eqb m i) (g (f i)) (f i)) n old
+  unfolding replacing_first
   replacing_changed g f n old m d h =
-      let k : m < length (valuesBelow f n) = omega (arith, length_values f n) in
-      rw (get_or-append (valuesBelow f n) (drop n old) d m k) (
-      set-append_left (valuesBelow f n) (drop n old) m (g (get_or (valuesBelow f n) m d)) k
+      let k : m < length (values_below f n) = omega (arith, length_values f n) in
+      rw (get_or-append (values_below f n) (drop n old) d m k) (
+      set-append_left (values_below f n) (drop n old) m (g (get_or (values_below f n) m d)) k
       ∙ ap (λ (l : List A). l ++ drop n old) (values_changed g f n m d))
 
 -- ---- a loop that writes f's values into a buffer, one place a turn: i of them are written
-module _ {ℓ} {A : Type ℓ} (f : ℕ → A) (i : ℕ) (old out : List A) (written : out ≡ replacingFirst f i old) where
+module _ {ℓ} {A : Type ℓ} (f : ℕ → A) (i : ℕ) (old out : List A) (written : out ≡ replacing_first f i old) where
   pub written_length : i ≤ length old → length out ≡ length old
   written_length h = ap length written ∙ length_replacing f i old h
 
-  pub written_next : (v : A) → i < length old → v ≡ f i → set out i v ≡ replacingFirst f (i + 1) old
+  pub written_next : (v : A) → i < length old → v ≡ f i → set out i v ≡ replacing_first f (i + 1) old
   written_next v h e = rw (written, e) (replacing_next f i old h)
 
   -- what is not yet written is as it was

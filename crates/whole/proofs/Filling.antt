@@ -7,14 +7,14 @@ use native.Mathlib.Nat.{le_refl}
 use native.Mathlib.Omega.{arith}
 use lib.ListN.{length, get_or, set}
 use lib.Seq.{set-get_or}
-use Rattle.whole.specs.Below.{valuesBelow, replacingFirst}
+use Rattle.whole.specs.Below.{values_below, replacing_first}
 use Rattle.whole.proofs.Buffers.{replacing_none, replacing_all, written_length, written_next, unwritten}
 
 -- i of the n places are filled, and the others are as they were
 pub record Filled {ℓ} {A : Type ℓ} (f : ℕ → A) (n i : ℕ) (old out : List A) : Type ℓ where
   pub reached : i ≤ n
   pub room : n ≤ length old
-  pub holds : out ≡ replacingFirst f i old
+  pub holds : out ≡ replacing_first f i old
 
 module _ {ℓ} {A : Type ℓ} {f : ℕ → A} {n : ℕ} {old : List A} where
   pub none_filled : n ≤ length old → Filled f n 0 old old
@@ -48,9 +48,9 @@ module _ {ℓ} {A : Type ℓ} {f : ℕ → A} {n : ℕ} {old : List A} where
       all_reached : i ≡ n
       all_reached = omega arith
 
-      pub first_filled : out ≡ replacingFirst f n old
-      first_filled = filled.holds ∙ ap (λ k. replacingFirst f k old) all_reached
+      pub first_filled : out ≡ replacing_first f n old
+      first_filled = filled.holds ∙ ap (λ k. replacing_first f k old) all_reached
 
       -- where there are no other places
-      pub all_filled : length old ≡ n → out ≡ valuesBelow f n
+      pub all_filled : length old ≡ n → out ≡ values_below f n
       all_filled e = first_filled ∙ replacing_all f n old e

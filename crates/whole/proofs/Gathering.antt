@@ -11,8 +11,8 @@ use lib.Dec.{ltb}
 use lib.ListN.{length, get_or, set, length-set}
 use lib.Seq.{get_or-set_same, get_or-set_other}
 use borrow.Author.Tests.{ltb-true, ltb-false, lt-ltb, le-ltb}
-use Rattle.whole.specs.Below.{one_if, count_below, sum_below, gatheredBelow}
-use Rattle.whole.proofs.Tests.{split, last-or-below}
+use Rattle.whole.specs.Below.{one_if, count_below, sum_below, gathered_below}
+use Rattle.whole.proofs.Tests.{split, last_or_below}
 use Rattle.whole.proofs.Sums.{count_most, sum_prefix, sum_add_one, sum_one_if, sum_ext}
 
 module _ (p : ℕ → Bool) where
@@ -43,13 +43,13 @@ module _ (p : ℕ → Bool) where
       (λ s. le-ltb (place j) (place i) (count_prefix i j (ltb-false j i s)) ∙ sym s)
 
   -- every place below the count is a passer's
-  pub passer-at {κ} : {X : Type κ} (n k : ℕ) → k < place n → ((j : ℕ) → j < n → p j ≡ true → place j ≡ k → X) → X
+  pub passer_at {κ} : {X : Type κ} (n k : ℕ) → k < place n → ((j : ℕ) → j < n → p j ≡ true → place j ≡ k → X) → X
   unfolding count_below
-  passer-at zero k l found = absurd (not-suc-le-zero l)
-  passer-at (suc n) k l found =
-      let rest : k < place n → _ = λ m. passer-at n k m (λ j i. found j (omega arith)) in
+  passer_at zero k l found = absurd (not-suc-le-zero l)
+  passer_at (suc n) k l found =
+      let rest : k < place n → _ = λ m. passer_at n k m (λ j i. found j (omega arith)) in
       split (p n)
-      (λ t. last-or-below k (place n) (let m : k < place n + 1 = rw t at l in omega arith) (λ e. found n (omega arith) t (sym e)) rest)
+      (λ t. last_or_below k (place n) (let m : k < place n + 1 = rw t at l in omega arith) (λ e. found n (omega arith) t (sym e)) rest)
       (λ e. rest (simp (e, add-zero) at l))
 
   -- g has at the passers' places what f has at the passers
@@ -79,18 +79,18 @@ module _ (p : ℕ → Bool) where
 
 module _ {ℓ} {A : Type ℓ} (p : ℕ → Bool) (f : ℕ → A) (old : List A) where
   abbrev gathered : ℕ → List A
-  gathered n = gatheredBelow p f n old
+  gathered n = gathered_below p f n old
 
   pub gathered_none : gathered 0 ≡ old
-  unfolding gatheredBelow
+  unfolding gathered_below
   gathered_none = refl
 
   pub gathered_next : (n : ℕ) → gathered (n + 1) ≡ cond (p n) (set (gathered n) (count_below p n) (f n)) (gathered n)
-  unfolding gatheredBelow
+  unfolding gathered_below
   gathered_next n = ap gathered (add-one n)
 
   pub gathered_length : (n : ℕ) → length (gathered n) ≡ length old
-  unfolding gatheredBelow
+  unfolding gathered_below
   gathered_length zero = refl
   gathered_length (suc n) = split (p n)
       (λ t. rw t (length-set (gathered n) (count_below p n) (f n) ∙ gathered_length n))
@@ -98,9 +98,9 @@ module _ {ℓ} {A : Type ℓ} (p : ℕ → Bool) (f : ℕ → A) (old : List A) 
 
   -- Each passer's value stands at its place.
   pub gathered_at : (n : ℕ) → n ≤ length old → (j : ℕ) (d : A) → j < n → p j ≡ true → get_or (gathered n) (count_below p j) d ≡ f j
-  unfolding gatheredBelow
+  unfolding gathered_below
   gathered_at zero room j d l t = absurd (not-suc-le-zero l)
-  gathered_at (suc n) room j d l t = last-or-below j n l
+  gathered_at (suc n) room j d l t = last_or_below j n l
       (λ e. let s : p n ≡ true = rw e at t in rw (e, s) (get_or-set_same (gathered n) (count_below p n) (f n) d
       (omega (arith, count_most p n, gathered_length n))))
       (λ m. let rest = gathered_at n (omega arith) j d m t in split (p n)

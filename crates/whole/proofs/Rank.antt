@@ -88,18 +88,18 @@ module _ (key : ℕ → ℕ) where
   earlier : {j i : ℕ} → key i ≡ key j → j < i → first j i ≡ true
   earlier {j} {i} e h = rw (le-ltb (key i) (key j) (omega arith), eq-eqb (key j) (key i) (sym e), lt-ltb j i h)
 
-  pub why-ahead {ℓ} : {X : Type ℓ} (j i : ℕ) → (ltb (key i) (key j) || (eqb (key j) (key i) && ltb j i)) ≡ true → (key i < key j → X) →
+  pub why_ahead {ℓ} : {X : Type ℓ} (j i : ℕ) → (ltb (key i) (key j) || (eqb (key j) (key i) && ltb j i)) ≡ true → (key i < key j → X) →
       (key i ≡ key j → j < i → X) → X
-  why-ahead j i t f g = split (ltb (key i) (key j))
+  why_ahead j i t f g = split (ltb (key i) (key j))
       (λ e. f (ltb-true _ _ e))
       (λ e. let u = both (eqb (key j) (key i)) (ltb j i) (rw e at t) in g (sym (eqb-true _ _ u.0)) (ltb-true j i u.1))
 
   pub by_key : Order (λ j i. ltb (key i) (key j) || (eqb (key j) (key i) && ltb j i))
   by_key = record {
-    irrefl = λ i. split (first i i) (λ t. why-ahead i i t (λ h. absurd (omega arith)) (λ e h. absurd (omega arith))) (λ f. f);
-    trans = λ i j k s t. why-ahead i j s
-        (λ a. why-ahead j k t (λ b. larger (omega arith)) (λ e b. larger (omega arith)))
-        (λ d a. why-ahead j k t (λ b. larger (omega arith)) (λ e b. earlier (omega arith) (omega arith)));
+    irrefl = λ i. split (first i i) (λ t. why_ahead i i t (λ h. absurd (omega arith)) (λ e h. absurd (omega arith))) (λ f. f);
+    trans = λ i j k s t. why_ahead i j s
+        (λ a. why_ahead j k t (λ b. larger (omega arith)) (λ e b. larger (omega arith)))
+        (λ d a. why_ahead j k t (λ b. larger (omega arith)) (λ e b. earlier (omega arith) (omega arith)));
     total = λ i j l f. split (ltb (key j) (key i))
         (λ t. larger (ltb-true _ _ t))
         (λ u. split (ltb (key i) (key j))

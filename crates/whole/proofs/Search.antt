@@ -10,7 +10,7 @@ use native.Mathlib.Omega.{arith}
 use lib.Dec.{ltb}
 use borrow.Author.Tests.{ltb-true, ltb-false}
 use Rattle.whole.specs.Below.{first_below}
-use Rattle.whole.proofs.Tests.{split, never-some, no_else, last-or-below}
+use Rattle.whole.proofs.Tests.{split, never_some, no_else, last_or_below}
 
 pub first_ext : (p q : ℕ → Bool) (n : ℕ) → ((i : ℕ) → i < n → p i ≡ q i) → first_below p n ≡ first_below q n
 unfolding first_below or_else
@@ -29,7 +29,7 @@ first_next p i e f = ap (first_below p) (add-one i) ∙ first_on p i e f
 pub first_hit : (p : ℕ → Bool) (i n : ℕ) → first_below p i ≡ none → p i ≡ true → i < n → first_below p n ≡ some i
 unfolding first_below or_else
 first_hit p i zero e t l = absurd (not-suc-le-zero l)
-first_hit p i (suc n) e t l = last-or-below i n l (λ k. rw (← k) (rw (e, t))) (λ k. rw (first_hit p i n e t k))
+first_hit p i (suc n) e t l = last_or_below i n l (λ k. rw (← k) (rw (e, t))) (λ k. rw (first_hit p i n e t k))
 
 -- a loop that goes on whatever it has found
 pub first_so_far : (p : ℕ → Bool) (i : ℕ) (o : Option ℕ) (b : Bool) → o ≡ first_below p i → b ≡ p i →
@@ -39,7 +39,7 @@ first_so_far p i o b e f = ap₂ (λ (o : Option ℕ) (b : Bool). or_else o (con
 
 -- ---- what the search answers
 no_pick : (b : Bool) (n : ℕ) → cond b (some n) none ≡ none → b ≡ false
-no_pick true n e = never-some e
+no_pick true n e = never_some e
 no_pick false n e = refl
 
 pub first_none : (p : ℕ → Bool) (n : ℕ) → first_below p n ≡ none → (i : ℕ) → i < n → p i ≡ false
@@ -47,7 +47,7 @@ unfolding first_below or_else
 first_none p zero e i l = absurd (not-suc-le-zero l)
 first_none p (suc n) e i l =
     let f = no_else (first_below p n) (cond (p n) (some n) none) e in
-    last-or-below i n l (λ k. rw k (no_pick (p n) n f.1)) (λ k. first_none p n f.0 i k)
+    last_or_below i n l (λ k. rw k (no_pick (p n) n f.1)) (λ k. first_none p n f.0 i k)
 
 pub none_below : (p : ℕ → Bool) (n : ℕ) → ((i : ℕ) → i < n → p i ≡ false) → first_below p n ≡ none
 unfolding first_below or_else
@@ -60,7 +60,7 @@ FirstAt p n i = (i < n) × (p i ≡ true) × ((j : ℕ) → j < i → p j ≡ fa
 
 found : (p : ℕ → Bool) (n i : ℕ) → first_below p n ≡ some i → FirstAt p n i
 unfolding first_below or_else
-found p zero i e = never-some (sym e)
+found p zero i e = never_some (sym e)
 found p (suc n) i e = step (first_below p n) refl (found p n i) e
   where
     step : (o : Option ℕ) → first_below p n ≡ o → (first_below p n ≡ some i → FirstAt p n i) → or_else o (cond (p n) (some n) none) ≡ some i →
@@ -68,7 +68,7 @@ found p (suc n) i e = step (first_below p n) refl (found p n i) e
     step (some k) q ih e = let f = ih (q ∙ e) in (omega (arith, f.0), f.1, f.2)
     step none q ih e = split (p n)
         (λ t. let k : n ≡ i = some-injective n i (rw t at e) in rw (← k) (omega arith, t, first_none p n q))
-        (λ t. never-some (sym (rw t at e)))
+        (λ t. never_some (sym (rw t at e)))
 
 pub first_some : (p : ℕ → Bool) (n i : ℕ) → (first_below p n ≡ some i) ↔ ((i < n) × (p i ≡ true) × ((j : ℕ) → j < i → p j ≡ false))
 first_some p n i = (found p n i, λ f. first_hit p i n (none_below p i f.2) f.1 f.0)

@@ -8,7 +8,7 @@ use native.Mathlib.Omega.{arith}
 use lib.Dec.{ltb, eqb}
 use borrow.Author.Tests.{eqb-true, eqb-false, lt-ltb, le-ltb, eq-eqb, ne_eqb}
 use Rattle.whole.specs.Below.{one_if, count_below, sum_below, product_below}
-use Rattle.whole.proofs.Tests.{split, never, last-or-below}
+use Rattle.whole.proofs.Tests.{split, never, last_or_below}
 
 -- ---- how many pass a test
 
@@ -34,7 +34,7 @@ unfolding count_below
 count_less p q zero h x l px qx = absurd (not-suc-le-zero l)
 count_less p q (suc n) h x l px qx =
     let rest : (i : ℕ) → i < n → p i ≡ true → q i ≡ true = λ i m. h i (omega arith) in
-    last-or-below x n l
+    last_or_below x n l
     (λ e. let m = count_mono p q n rest in rw (← e) (rw (px, qx) (rw e (omega arith))))
     (λ m. let k = count_less p q n rest x m px qx in let last = one_if_mono (p n) (q n) (h n (omega arith)) in omega arith)
 
@@ -47,7 +47,7 @@ all_count (suc n) = let e = all_count n in omega arith
 pub count_zero : (p : ℕ → Bool) (n : ℕ) → count_below p n ≡ 0 → (i : ℕ) → i < n → p i ≡ false
 unfolding count_below
 count_zero p zero e i l = absurd (not-suc-le-zero l)
-count_zero p (suc n) e i l = last-or-below i n l
+count_zero p (suc n) e i l = last_or_below i n l
     (λ d. split (p n) (λ t. absurd (let k : count_below p n + 1 ≡ 0 = rw t at e in omega arith)) (λ f. rw d f))
     (count_zero p n (omega arith) i)
 
@@ -74,7 +74,7 @@ count_or p q (suc n) h = let e = count_or p q n h in let f = one_or (p n) (q n) 
 pub count_cut : (p : ℕ → Bool) (i n : ℕ) → i ≤ n → count_below (λ j. p j && ltb j i) n ≡ count_below p i
 unfolding count_below
 count_cut p i zero l = let e : i ≡ 0 = omega arith in rw e
-count_cut p i (suc n) l = last-or-below i (suc n) (omega arith)
+count_cut p i (suc n) l = last_or_below i (suc n) (omega arith)
     (λ e. rw e (count_ext (λ j. p j && ltb j (suc n)) p (suc n) (λ j m. rw (lt-ltb j (suc n) m) (and-true (p j)))))
     (λ m. rw (le-ltb n i (omega arith), and-false) (rw add-zero (count_cut p i n (omega arith))))
 
@@ -107,7 +107,7 @@ pub sum_prefix : (f : ℕ → ℕ) (n m : ℕ) → n ≤ m → sum_below f n ≤
 unfolding sum_below
 sum_prefix f zero m l = zero-le
 sum_prefix f (suc n) zero l = absurd (not-suc-le-zero l)
-sum_prefix f (suc n) (suc m) l = last-or-below n m l (λ e. rw e (le_refl _)) (λ h. let k = sum_prefix f (suc n) m h in omega arith)
+sum_prefix f (suc n) (suc m) l = last_or_below n m l (λ e. rw e (le_refl _)) (λ h. let k = sum_prefix f (suc n) m h in omega arith)
 
 pub sum_at : (f : ℕ → ℕ) (n i : ℕ) → i < n → f i ≤ sum_below f n
 unfolding sum_below

@@ -38,17 +38,17 @@ pub cond_ind {ℓ κ} : {A : Type ℓ} (c : Bool) (x y : A) (P : A → Type κ) 
 cond_ind true x y P f g = f tt
 cond_ind false x y P f g = g tt
 
-pub never-some {ℓ κ} : {A : Type ℓ} {X : Type κ} {a : A} → some a ≡ none → X
-never-some {a = a} e = absurd (some-ne-none a e)
+pub never_some {ℓ κ} : {A : Type ℓ} {X : Type κ} {a : A} → some a ≡ none → X
+never_some {a = a} e = absurd (some-ne-none a e)
 
 pub no_else : (a b : Option ℕ) → or_else a b ≡ none → (a ≡ none) × (b ≡ none)
 unfolding or_else
 no_else none b e = (refl, e)
-no_else (some i) b e = never-some e
+no_else (some i) b e = never_some e
 
 -- a number below n + 1 is n or below n
-pub last-or-below {ℓ} : {X : Type ℓ} (i n : ℕ) → i < suc n → (i ≡ n → X) → (i < n → X) → X
-last-or-below i n l f g = split (eqb i n) (λ t. f (eqb-true i n t)) (λ t. g (omega (arith, eqb-false i n t)))
+pub last_or_below {ℓ} : {X : Type ℓ} (i n : ℕ) → i < suc n → (i ≡ n → X) → (i < n → X) → X
+last_or_below i n l f g = split (eqb i n) (λ t. f (eqb-true i n t)) (λ t. g (omega (arith, eqb-false i n t)))
 
 -- two tests, one after the other
 pub cond_both : (b c : Bool) (d : ℕ) → cond (b && c) d 0 ≡ cond b (cond c d 0) 0
@@ -56,14 +56,14 @@ cond_both true c d = refl
 cond_both false c d = refl
 
 -- the first branch, where its test has passed
-pub cond-ext {ℓ} : {A : Type ℓ} (c : Bool) (x y z : A) → (c ≡ true → x ≡ y) → cond c x z ≡ cond c y z
-cond-ext true x y z f = f refl
-cond-ext false x y z f = refl
+pub cond_ext {ℓ} : {A : Type ℓ} (c : Bool) (x y z : A) → (c ≡ true → x ≡ y) → cond c x z ≡ cond c y z
+cond_ext true x y z f = f refl
+cond_ext false x y z f = refl
 
 -- what was found after a test
 pub if_some {ℓ} : {A : Type ℓ} (b : Bool) (o : Option A) (a : A) → cond b o none ≡ some a → (b ≡ true) × (o ≡ some a)
 if_some true o a e = (refl, e)
-if_some false o a e = never-some (sym e)
+if_some false o a e = never_some (sym e)
 
 pub all_three : (a b c : Bool) → (a && b && c) ≡ true → (a ≡ true) × (b ≡ true) × (c ≡ true)
 all_three a b c e = let f = both (a && b) c e in let g = both a b f.0 in (g.0, g.1, f.1)

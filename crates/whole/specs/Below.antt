@@ -24,19 +24,19 @@ unfoldable pub product_below : (ℕ → ℕ) → ℕ → ℕ
 product_below f zero = 1
 product_below f (suc n) = product_below f n * f n
 
-unfoldable pub valuesBelow {ℓ} : {A : Type ℓ} → (ℕ → A) → ℕ → List A
-valuesBelow f zero = []
-valuesBelow f (suc n) = valuesBelow f n ++ f n ∷ []
+unfoldable pub values_below {ℓ} : {A : Type ℓ} → (ℕ → A) → ℕ → List A
+values_below f zero = []
+values_below f (suc n) = values_below f n ++ f n ∷ []
 
 -- n values in a buffer's first places, and what stood past them
-unfoldable pub replacingFirst {ℓ} : {A : Type ℓ} → (ℕ → A) → ℕ → List A → List A
-replacingFirst f n old = valuesBelow f n ++ drop n old
+unfoldable pub replacing_first {ℓ} : {A : Type ℓ} → (ℕ → A) → ℕ → List A → List A
+replacing_first f n old = values_below f n ++ drop n old
 
 unfoldable pub first_below : (ℕ → Bool) → ℕ → Option ℕ
 first_below p zero = none
 first_below p (suc n) = or_else (first_below p n) (cond (p n) (some n) none)
 
 -- the values of those that pass, gathered in a buffer's first places in their order, and what stood past them
-unfoldable pub gatheredBelow {ℓ} : {A : Type ℓ} → (ℕ → Bool) → (ℕ → A) → ℕ → List A → List A
-gatheredBelow p f zero old = old
-gatheredBelow p f (suc n) old = cond (p n) (set (gatheredBelow p f n old) (count_below p n) (f n)) (gatheredBelow p f n old)
+unfoldable pub gathered_below {ℓ} : {A : Type ℓ} → (ℕ → Bool) → (ℕ → A) → ℕ → List A → List A
+gathered_below p f zero old = old
+gathered_below p f (suc n) old = cond (p n) (set (gathered_below p f n old) (count_below p n) (f n)) (gathered_below p f n old)

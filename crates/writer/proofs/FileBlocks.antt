@@ -2,7 +2,7 @@
 -- the file.
 use Rattle.std.proofs.Common.{◌≡◌, ℕ, ◌+◌, ◌-◌, ◌*◌, ◌/◌, ◌%◌, ◌<◌, ◌≤◌, false, cond, eqb, ltb, List, length, get_or, take, drop, sym, refl, ap, ◌∙◌, ap₂, arith, length-drop, length-take, length-take-le, get_or-drop, take_all, get_or-take, ltb-false, ltb-true, ne_eqb}
 use lib.ListN.{get_or-eq_default}
-use Rattle.whole.specs.Below.{replacingFirst}
+use Rattle.whole.specs.Below.{replacing_first}
 use Rattle.whole.proofs.Tests.{split}
 use Rattle.whole.proofs.Sums.{sum_ext}
 use Rattle.whole.proofs.Buffers.{replacing_none, replacing_then}
@@ -38,8 +38,8 @@ module _ (h : Hour) (b mark count : ℕ) (body : List ℕ) (mark-is : mark ≡ c
       rw (block_at, word_at, byte_at, closed_same (k / 4) (omega arith))
 
   next_block : (old : List ℕ) →
-      block_placed b (block_bytes mark b count body) (replacingFirst (file_byte hourly h) (512 * b) old)
-      ≡ replacingFirst (file_byte hourly h) (512 * b + 512) old
+      block_placed b (block_bytes mark b count body) (replacing_first (file_byte hourly h) (512 * b) old)
+      ≡ replacing_first (file_byte hourly h) (512 * b + 512) old
   unfolding block_placed block_bytes
   next_block old = replacing_then (file_byte hourly h) (bytes_of (closed_block mark b count body)) (512 * b) 512 old byte_same
 
@@ -96,8 +96,8 @@ module _ (head records : List ℕ) (whole : ListsWhole head records) where
             ∙ sym (said_word hourly head records i (k % 12) there (omega arith))
 
     pub records_placed : (old : List ℕ) →
-        block_placed b (block_bytes 2 b (length held / 12) held) (replacingFirst (file_byte hourly h) (512 * b) old)
-        ≡ replacingFirst (file_byte hourly h) (512 * b + 512) old
+        block_placed b (block_bytes 2 b (length held / 12) held) (replacing_first (file_byte hourly h) (512 * b) old)
+        ≡ replacing_first (file_byte hourly h) (512 * b + 512) old
     records_placed old = next_block h b 2 (length held / 12) held (rw other) (held_count ∙ rw other) held_word old
       where
         other : eqb b 0 ≡ false
@@ -110,7 +110,7 @@ module _ (head records : List ℕ) (whole : ListsWhole head records) where
   head_word k l = ap (λ (j : ℕ). get_or head j 0) (sym (gap 8 k)) ∙ sym (said_head hourly head records (8 + k) (omega arith) (omega arith))
 
   pub head_placed : (count : ℕ) (old : List ℕ) → count ≡ blocks_for hourly h - 1 →
-      block_placed 0 (block_bytes 1 0 count head) old ≡ replacingFirst (file_byte hourly h) 512 old
+      block_placed 0 (block_bytes 1 0 count head) old ≡ replacing_first (file_byte hourly h) 512 old
   head_placed count old e =
       ap (block_placed 0 (block_bytes 1 0 count head)) (sym (replacing_none (file_byte hourly h) old))
       ∙ next_block h 0 1 count head refl e head_word old

@@ -1,6 +1,6 @@
 -- Words stored one after the other are the buffer's first words replaced.
 use Rattle.std.proofs.Common.{◌≡◌, ℕ, zero, suc, ◌+◌, ◌*◌, ◌/◌, ◌%◌, ◌<◌, ◌≤◌, List, length, set, sym, refl, ap, ◌∙◌, zero-le, add-zero, add-one, arith, length-set}
-use Rattle.whole.specs.Below.{replacingFirst}
+use Rattle.whole.specs.Below.{replacing_first}
 use Rattle.whole.proofs.Buffers.{replacing_none, written_next}
 use Rattle.rules.specs.HourWords.{byte_of}
 use Rattle.writer.specs.Stored.{word_stored, words_stored, bytes_of}
@@ -48,7 +48,7 @@ module _ {f : ℕ → ℕ} {from n : ℕ} {old : List ℕ} where
 -- ---- a buffer whose first n words hold f's values
 
 pub record Begun (f : ℕ → ℕ) (old : List ℕ) (n : ℕ) (out : List ℕ) : Type 0 where
-  pub first : out ≡ replacingFirst (bytes_of f) (4 * n) old
+  pub first : out ≡ replacing_first (bytes_of f) (4 * n) old
 
 module _ (f : ℕ → ℕ) (old : List ℕ) where
   -- byte t of a word that holds f's value
@@ -59,13 +59,13 @@ module _ (f : ℕ → ℕ) (old : List ℕ) where
       let byte_at : k % 4 ≡ t = omega arith in
       rw (w, word_at, byte_at)
 
-  one_more : (i next v : ℕ) (out : List ℕ) → out ≡ replacingFirst (bytes_of f) i old → i < length old → next ≡ i + 1 → v ≡ bytes_of f i →
-      set out i v ≡ replacingFirst (bytes_of f) next old
+  one_more : (i next v : ℕ) (out : List ℕ) → out ≡ replacing_first (bytes_of f) i old → i < length old → next ≡ i + 1 → v ≡ bytes_of f i →
+      set out i v ≡ replacing_first (bytes_of f) next old
   one_more i next v out e l is w =
-      written_next (bytes_of f) i old out e v l w ∙ ap (λ (m : ℕ). replacingFirst (bytes_of f) m old) (sym is)
+      written_next (bytes_of f) i old out e v l w ∙ ap (λ (m : ℕ). replacing_first (bytes_of f) m old) (sym is)
 
-  four_more : (n v : ℕ) (out : List ℕ) → out ≡ replacingFirst (bytes_of f) (4 * n) old → 4 * n + 4 ≤ length old → v ≡ f n →
-      word_stored out n v ≡ replacingFirst (bytes_of f) (4 * (n + 1)) old
+  four_more : (n v : ℕ) (out : List ℕ) → out ≡ replacing_first (bytes_of f) (4 * n) old → 4 * n + 4 ≤ length old → v ≡ f n →
+      word_stored out n v ≡ replacing_first (bytes_of f) (4 * (n + 1)) old
   unfolding word_stored
   four_more n v out e room w =
       let i : ℕ = 4 * n in
@@ -78,14 +78,14 @@ module _ (f : ℕ → ℕ) (old : List ℕ) where
       (omega arith) (omega arith) (byte 2 (i + 2) (omega arith) refl))
       (omega arith) (omega arith) (byte 3 (i + 3) (omega arith) refl)
 
-  run_more : (g : ℕ → ℕ) (n k : ℕ) (out : List ℕ) → out ≡ replacingFirst (bytes_of f) (4 * n) old → 4 * (n + k) ≤ length old →
-      ((i : ℕ) → i < k → g i ≡ f (n + i)) → words_stored g n k out ≡ replacingFirst (bytes_of f) (4 * (n + k)) old
+  run_more : (g : ℕ → ℕ) (n k : ℕ) (out : List ℕ) → out ≡ replacing_first (bytes_of f) (4 * n) old → 4 * (n + k) ≤ length old →
+      ((i : ℕ) → i < k → g i ≡ f (n + i)) → words_stored g n k out ≡ replacing_first (bytes_of f) (4 * (n + k)) old
   unfolding words_stored
-  run_more g n zero out e room same = e ∙ ap (λ (m : ℕ). replacingFirst (bytes_of f) (4 * m) old) (sym (add-zero n))
+  run_more g n zero out e room same = e ∙ ap (λ (m : ℕ). replacing_first (bytes_of f) (4 * m) old) (sym (add-zero n))
   run_more g n (suc k) out e room same =
       four_more (n + k) (g k) (words_stored g n k out) (run_more g n k out e (omega arith) (λ i l. same i (omega arith)))
       (omega arith) (same k (omega arith))
-      ∙ ap (λ (m : ℕ). replacingFirst (bytes_of f) (4 * m) old) more
+      ∙ ap (λ (m : ℕ). replacing_first (bytes_of f) (4 * m) old) more
     where
       more : n + k + 1 ≡ n + suc k
       more = omega arith

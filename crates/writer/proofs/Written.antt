@@ -1,6 +1,6 @@
 -- What the definition of writing says where it refuses and where it accepts, and what acceptance leaves of the lists and the room.
 use Rattle.std.proofs.Common.{◌≡◌, ℕ, ◌≤◌, false, List, length, sym, ap, ◌∙◌}
-use Rattle.whole.specs.Below.{replacingFirst}
+use Rattle.whole.specs.Below.{replacing_first}
 use Rattle.rules.specs.declared.Answer.{Answer}
 use Rattle.rules.specs.declared.Answer.TheVariants.{Accepted}
 use Rattle.rules.specs.Record.{Hour}
@@ -34,7 +34,7 @@ module _ (head records file : List ℕ) where
   pub accepted_fills : verdict rows ≡ accepted → write_hour head records file ≡ record {
     verdict = accepted;
     length = file_length hourly h;
-    file = replacingFirst (file_byte hourly h) (file_length hourly h) file;
+    file = replacing_first (file_byte hourly h) (file_length hourly h) file;
   }
   accepted_fills e = written head records file (passed e)
 

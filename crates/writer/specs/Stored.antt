@@ -1,7 +1,7 @@
 -- Words stored in a buffer of bytes, one block by the numbers that its front says and the words of its body, and a block at its place in a
 -- file.
 use Rattle.std.specs.Prelude.{ℕ, zero, suc, ◌+◌, ◌-◌, ◌*◌, ◌/◌, ◌%◌, cond, List, [], ◌∷◌, ◌++◌, take, drop, ◌==◌, slice_index, slice_set}
-use Rattle.whole.specs.Below.{sum_below, valuesBelow}
+use Rattle.whole.specs.Below.{sum_below, values_below}
 use Rattle.rules.specs.HourWords.{byte_of, closing, open_block}
 
 -- word k: four bytes, the lowest first
@@ -29,7 +29,7 @@ module _ (mark position count : ℕ) (body : List ℕ) where
   closed_block w = cond (w == 7) (closing (sum_below open_list 128)) (open_list w)
 
   unfoldable pub block_bytes : List ℕ
-  block_bytes = valuesBelow (bytes_of closed_block) 512
+  block_bytes = values_below (bytes_of closed_block) 512
 
 -- ---- its place, and the words that it holds
 

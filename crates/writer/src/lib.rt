@@ -2,7 +2,7 @@
 // words of ten records or, in the last, of those that are left; each is written whole, at its place in the caller's buffer. The numbers
 // are those of the hourly layout: blocks of 512 bytes, at most 26, marked 1 and 2, with 120 words of body; twelve words to a record.
 ghost use Rattle.std.specs.Prelude.{◌≡◌, ◌+◌, ◌-◌, ◌*◌, ◌<◌, ◌≤◌, length};
-ghost use Rattle.whole.specs.Below.{replacingFirst};
+ghost use Rattle.whole.specs.Below.{replacing_first};
 ghost use Rattle.rules.specs.HourFile.{hourly};
 ghost use Rattle.rules.specs.HourWords as HourWords;
 ghost use Rattle.rules.specs.Refusals as Refusals;
@@ -46,7 +46,7 @@ fn put_file(head: &[u32], records: &[u32], file: &mut [u8]) -> usize
         × (HourWords.file_length hourly (hour_of_lists head.now records.now) ≤ length file.old) }
     ensures length { result ≡ HourWords.file_length hourly (hour_of_lists head.now records.now) }
     ensures file { file.new
-        ≡ replacingFirst (HourWords.file_byte hourly (hour_of_lists head.now records.now))
+        ≡ replacing_first (HourWords.file_byte hourly (hour_of_lists head.now records.now))
         (HourWords.file_length hourly (hour_of_lists head.now records.now)) file.old }
 {
     let blocks = lists::blocks_for(records);

@@ -4,14 +4,14 @@ mod Tie
 use mathlib.Core.Path.{◌≡◌, sym, ◌∙◌, ap}
 use Prim.Native.Nat.{◌-◌, ◌≤◌}
 use native.Mathlib.Omega.{arith}
-use Rattle.whole.specs.Below.{replacingFirst}
+use Rattle.whole.specs.Below.{replacing_first}
 use Rattle.whole.proofs.Buffers.{replacing_none, written_length, written_next}
 use Rattle.rules.specs.Settling.{empty_line}
 use Rattle.bymember.proofs.clear_lines.Statement.{statement}
 use Rattle.bymember.proofs.clear_lines.Proof.Tie as tie
 
 abbrev invariant-loop : tie.invariant-loop
-invariant-loop lines₀ n m₀ lines m = (m ≤ n) × (lines ≡ replacingFirst (λ k. empty_line) m lines₀)
+invariant-loop lines₀ n m₀ lines m = (m ≤ n) × (lines ≡ replacing_first (λ k. empty_line) m lines₀)
 
 abbrev decreases-loop : tie.decreases-loop
 decreases-loop lines₀ n m₀ lines m = n - m
@@ -48,7 +48,7 @@ returns : tie.Need-returns invariant-loop decreases-loop
 returns c =
     let start = c.before.before in
     let all : c.before.loop.m ≡ start.args.n = omega arith in
-    c.before.loop.invariant.1 ∙ ap (λ k. replacingFirst (λ m. empty_line) k start.args.lines.now) all
+    c.before.loop.invariant.1 ∙ ap (λ k. replacing_first (λ m. empty_line) k start.args.lines.now) all
 
 pub clear-lines-spec : {M : Type 1} → statement M
 clear-lines-spec =

@@ -11,7 +11,7 @@ use mir.Syntax.{w64}
 use mir.Val.{to_z, of_z}
 use mir.ValLaws.{to_z-of_z}
 use borrow.Author.Rules.{sfits_of}
-use Rattle.whole.specs.Below.{replacingFirst}
+use Rattle.whole.specs.Below.{replacing_first}
 use Rattle.rules.specs.declared.Line.{Line}
 use Rattle.rules.specs.Record.{Hour, areas, price, member_of, area_of}
 use Rattle.rules.specs.Charge.{grains}
@@ -62,7 +62,7 @@ module _ (c : tie.At-loop invariant-loop decreases-loop) where
   posted : c.loop.lines ≡ lines_after h old c.loop.i
   unfolding lines_after
   posted = c.loop.invariant.1 old
-      (c.before.before.clear_lines.ensures ∙ ap (λ k. replacingFirst (λ m. empty_line) k old) (head_members start.pre.0))
+      (c.before.before.clear_lines.ensures ∙ ap (λ k. replacing_first (λ m. empty_line) k old) (head_members start.pre.0))
 
   counted : headed.records ≡ h.count
   counted = head_records start.pre.0

@@ -1,7 +1,7 @@
 -- Amounts read and written at each limit and one past it, shares by both engines, columns and lines of a statement, as figures.
 -- Document 01, "Text amounts", "The printed statement", "The sums"; document 02, A14.
 use Rattle.std.specs.Prelude.{ℕ, Bool, true, not, List, [], ◌∷◌, ◌++◌, ℤ, pos, neg_ℤ, length, get_or, replicate, eqb}
-use Rattle.whole.specs.Below.{valuesBelow}
+use Rattle.whole.specs.Below.{values_below}
 use Rattle.rules.specs.HourFile.{hourly}
 use Rattle.rules.specs.HourWords.{hour_from}
 use Rattle.rules.specs.Share.{share, ranked_size}
@@ -83,10 +83,10 @@ abbrev pub but_second : ℕ → Bool
 but_second i = not (eqb i 1)
 
 abbrev pub handed : (U : ℕ) → List ℕ → List ℤ
-handed U ds = valuesBelow (share but_second (λ i. get_or ds i 0) (length ds) (pos U)) (length ds)
+handed U ds = values_below (share but_second (λ i. get_or ds i 0) (length ds) (pos U)) (length ds)
 
 abbrev pub ranked : (U : ℕ) → List ℕ → List ℕ
-ranked U ds = valuesBelow (ranked_size but_second (λ i. get_or ds i 0) (length ds) U) (length ds)
+ranked U ds = values_below (ranked_size but_second (λ i. get_or ds i 0) (length ds) U) (length ds)
 
 unfoldable pub shares : List Case
 shares =

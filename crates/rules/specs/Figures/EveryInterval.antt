@@ -3,7 +3,7 @@
 -- Document 02, A7.
 use Rattle.std.specs.Prelude.{ℕ, ◌+◌, ◌≡◌, true, false, List, [], ◌∷◌, ◌++◌, ℤ, pos, neg_ℤ, replicate}
 use Rattle.std.proofs.Math.Option.{Option, none}
-use Rattle.whole.specs.Below.{valuesBelow}
+use Rattle.whole.specs.Below.{values_below}
 use Rattle.rules.specs.HourFile.{ten_minutes, length_bad}
 use Rattle.rules.specs.HourWords.{hour_from}
 use Rattle.rules.specs.Ranges.{keeps, ten_minutes_head_rule, ten_minutes_form}
@@ -108,20 +108,20 @@ price_limits =
     ∷ prices_break full_prices ((44, 4) ∷ (45, 1) ∷ (46, 1) ∷ (47, 1) ∷ [])
     -- the first price and the last, and all between them
     ∷ prices_break full_prices ((48, 100001) ∷ (48, too_low) ∷ (95, 100001) ∷ (95, too_low) ∷ [])
-    ∷ valuesBelow (λ k. keeps (ten_minutes_head_rule 4 8 (48 + k)) 100001) 48 is replicate 48 false
+    ∷ values_below (λ k. keeps (ten_minutes_head_rule 4 8 (48 + k)) 100001) 48 is replicate 48 false
     -- the words behind them, 96 to 127: none may be 1
     ∷ prices_break full_prices ((96, 1) ∷ (127, 1) ∷ [])
-    ∷ valuesBelow (λ k. keeps (ten_minutes_head_rule 4 8 (96 + k)) 1) 32 is replicate 32 false
+    ∷ values_below (λ k. keeps (ten_minutes_head_rule 4 8 (96 + k)) 1) 32 is replicate 32 false
     ∷ prices_fault least_prices is none
     -- a zone that isn't there, the areas past their count, and the prices of the zones past theirs
     ∷ prices_break least_prices ((16, 1) ∷ (20, 1) ∷ (47, 1) ∷ (60, 1) ∷ (127, 1) ∷ [])
-    ∷ valuesBelow (λ k. keeps (ten_minutes_head_rule 1 1 (17 + k)) 1) 31 is replicate 31 false
-    ∷ valuesBelow (λ k. keeps (ten_minutes_head_rule 1 1 (48 + k)) 1) 12 is replicate 12 true
-    ∷ valuesBelow (λ k. keeps (ten_minutes_head_rule 1 1 (60 + k)) 1) 68 is replicate 68 false
+    ∷ values_below (λ k. keeps (ten_minutes_head_rule 1 1 (17 + k)) 1) 31 is replicate 31 false
+    ∷ values_below (λ k. keeps (ten_minutes_head_rule 1 1 (48 + k)) 1) 12 is replicate 12 true
+    ∷ values_below (λ k. keeps (ten_minutes_head_rule 1 1 (60 + k)) 1) 68 is replicate 68 false
     -- with two zones, the zones of the areas past one, and past seven
-    ∷ valuesBelow (λ k. keeps (ten_minutes_head_rule 2 1 (17 + k)) 1) 31 is replicate 31 false
+    ∷ values_below (λ k. keeps (ten_minutes_head_rule 2 1 (17 + k)) 1) 31 is replicate 31 false
     ∷ keeps (ten_minutes_head_rule 2 7 40) 1 is true
-    ∷ valuesBelow (λ k. keeps (ten_minutes_head_rule 2 7 (41 + k)) 1) 7 is replicate 7 false
+    ∷ values_below (λ k. keeps (ten_minutes_head_rule 2 7 (41 + k)) 1) 7 is replicate 7 false
     -- 17 blocks are a length, 18 aren't
     ∷ length_bad ten_minutes (replicate 8704 0) is false
     ∷ length_bad ten_minutes (replicate 9216 0) is true
@@ -222,7 +222,7 @@ pub record EveryIntervalRight : Type 0 where
   pub settled : settle_ten_minutes every_interval (used_charges 5)
       ≡ record { verdict = accepted; charges = pos 0 ∷ pos 162 ∷ neg_ℤ (pos 1) ∷ pos 0 ∷ pos 9 ∷ [] }
   -- and before they are rounded
-  pub unrounded : valuesBelow (ten_minutes_amount (ten_minutes_in every_interval)) 4 ≡ pos 0 ∷ pos 38976000000 ∷ neg_ℤ (pos 212800000) ∷ pos 0 ∷ []
+  pub unrounded : values_below (ten_minutes_amount (ten_minutes_in every_interval)) 4 ≡ pos 0 ∷ pos 38976000000 ∷ neg_ℤ (pos 212800000) ∷ pos 0 ∷ []
   pub priced : AllRight least_nets
   pub refused : AllRight ten_refusals
   pub stated : AllRight charges_stated

@@ -3,7 +3,7 @@
 -- Document 01, "Units and ranges", "The hour file"; document 02, A3.
 use Rattle.std.specs.Prelude.{ℕ, ◌+◌, ◌-◌, true, false, List, [], ◌∷◌, ◌++◌, pos, neg_ℤ, get_or, set, replicate}
 use Rattle.std.proofs.Math.Option.{Option, none, some}
-use Rattle.whole.specs.Below.{valuesBelow}
+use Rattle.whole.specs.Below.{values_below}
 use Rattle.rules.specs.declared.Kind.{Kind}
 use Rattle.rules.specs.declared.Kind.TheVariants.{Generator, RealTimeLoad, ProfileLoad, Import, Export, Unknown}
 use Rattle.rules.specs.Record.{Hour, signed, kind_number, kind_of, is_real_time, is_profile}
@@ -132,13 +132,13 @@ head_limits =
     ∷ head_breaks full_head ((44, 4) ∷ (45, 10000001) ∷ (46, 10000001) ∷ (47, 1) ∷ [])
     -- the words behind them, 48 to 127: none may be 1
     ∷ head_breaks full_head ((48, 1) ∷ (127, 1) ∷ [])
-    ∷ valuesBelow (λ k. keeps (head_rule 4 8 (48 + k)) 1) 80 is replicate 80 false
+    ∷ values_below (λ k. keeps (head_rule 4 8 (48 + k)) 1) 80 is replicate 80 false
     -- word 48 whatever the count of areas says
     ∷ keeps (head_rule 4 9 48) 1 is false
     ∷ head_fault least_head is none
     -- the prices past their count, a zone that isn't there, the fourth word, and from the areas past their count on every word
     ∷ head_breaks least_head ((13, 1) ∷ (14, 1) ∷ (15, 1) ∷ (16, 1) ∷ (19, 1) ∷ (20, 1) ∷ (47, 1) ∷ [])
-    ∷ valuesBelow (λ k. keeps (head_rule 1 1 (20 + k)) 1) 108 is replicate 108 false
+    ∷ values_below (λ k. keeps (head_rule 1 1 (20 + k)) 1) 108 is replicate 108 false
     -- prices are counted by zones, areas by areas
     ∷ head_fault three_zones is none
     ∷ head_breaks three_zones ((15, 1) ∷ (16, 3) ∷ (20, 1) ∷ (21, 1) ∷ (22, 1) ∷ (24, 1) ∷ [])
@@ -169,16 +169,16 @@ word_figures =
     word [] 0 is 0
     ∷ word (1 ∷ 2 ∷ 3 ∷ 4 ∷ 5 ∷ []) 0 is 67305985
     ∷ word (1 ∷ 2 ∷ 3 ∷ 4 ∷ 5 ∷ []) 1 is 5
-    ∷ valuesBelow (byte_of 67305985) 5 is (1 ∷ 2 ∷ 3 ∷ 4 ∷ 0 ∷ [])
+    ∷ values_below (byte_of 67305985) 5 is (1 ∷ 2 ∷ 3 ∷ 4 ∷ 0 ∷ [])
     -- two's complement
     ∷ signed 2147483647 is pos 2147483647
     ∷ signed 2147483648 is neg_ℤ (pos 2147483648)
     ∷ signed 4294967295 is neg_ℤ (pos 1)
     -- kinds 2 and 3 are both loads: no sum tells them apart
-    ∷ valuesBelow kind_and_number 7 is (
+    ∷ values_below kind_and_number 7 is (
     (Unknown, 0) ∷ (Generator, 1) ∷ (RealTimeLoad, 2) ∷ (ProfileLoad, 3) ∷ (Import, 4) ∷ (Export, 5) ∷ (Unknown, 0) ∷ [])
-    ∷ valuesBelow (λ w. is_real_time (kind_of w)) 4 is (false ∷ false ∷ true ∷ false ∷ [])
-    ∷ valuesBelow (λ w. is_profile (kind_of w)) 4 is (false ∷ false ∷ false ∷ true ∷ [])
+    ∷ values_below (λ w. is_real_time (kind_of w)) 4 is (false ∷ false ∷ true ∷ false ∷ [])
+    ∷ values_below (λ w. is_profile (kind_of w)) 4 is (false ∷ false ∷ false ∷ true ∷ [])
     -- what an hour says: words 8 to 127 of the head, twelve words of each record, and 0 at every other place
     ∷ head_ends sevens is (0 ∷ 7 ∷ 7 ∷ 0 ∷ [])
     ∷ record_ends sevens is (7 ∷ 7 ∷ 0 ∷ 0 ∷ [])
@@ -226,7 +226,7 @@ block_limits =
     -- ten in the last block too
     ∷ block_fault 3 2 (set last_of_three 2 10) is none
     -- past one record, words 20 to 127: none may be 1
-    ∷ valuesBelow (λ k. keeps (block_rule hourly 3 1 2 (20 + k)) 1) 108 is replicate 108 false
+    ∷ values_below (λ k. keeps (block_rule hourly 3 1 2 (20 + k)) 1) 108 is replicate 108 false
     ∷ []
 
 pub record LimitsRight : Type 0 where

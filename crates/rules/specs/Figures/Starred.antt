@@ -1,6 +1,6 @@
 -- The starred figures of document 01, "Figures to check by", and those of document 02, A8: one statement over one list of cases.
 use Rattle.std.specs.Prelude.{ℕ, true, List, [], ◌∷◌, ℤ, pos, neg_ℤ, length, get_or, replicate}
-use Rattle.whole.specs.Below.{valuesBelow}
+use Rattle.whole.specs.Below.{values_below}
 use Rattle.rules.specs.Record.{entry}
 use Rattle.rules.specs.Deviation.{deviation}
 use Rattle.rules.specs.Share.{share}
@@ -15,7 +15,7 @@ abbrev pub deviation_of : List ℕ → ℤ
 deviation_of words = deviation (entry (λ w. get_or words w 0))
 
 abbrev pub shares_of : ℤ → List ℕ → List ℤ
-shares_of U ds = valuesBelow (share (λ i. true) (λ i. get_or ds i 0) (length ds) U) (length ds)
+shares_of U ds = values_below (share (λ i. true) (λ i. get_or ds i 0) (length ds) U) (length ds)
 
 -- a field of so many columns, of other bytes, so that what is written shows
 abbrev pub columns : ℕ → List ℕ

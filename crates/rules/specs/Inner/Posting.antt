@@ -1,7 +1,7 @@
 -- Records posted in file order, as values: the hour's tally, the members' lines of which a posting touches one, and a member's heads.
 -- Document 01, "The sums", "Records are posted in file order"; document 02, A5.
 use Rattle.std.specs.Prelude.{ℕ, zero, suc, ◌+◌, cond, List, ℤ, pos, neg_ℤ, ◌+ℤ◌, ◌-ℤ◌, ◌*ℤ◌, eqb, get_or, set, replicate}
-use Rattle.whole.specs.Below.{replacingFirst}
+use Rattle.whole.specs.Below.{replacing_first}
 use Rattle.rules.specs.declared.Kind.{Kind}
 use Rattle.rules.specs.declared.Kind.TheVariants.{Generator, RealTimeLoad, ProfileLoad, Import, Export, Unknown}
 use Rattle.rules.specs.declared.Line.{Line}
@@ -63,7 +63,7 @@ lines_with ls m g = set ls m (line_with (get_or ls m empty_line) g)
 module _ (h : Hour) (old : List Line) where
   -- the lines once the first n records are posted: what a member's line held before isn't read
   unfoldable pub lines_after : ℕ → List Line
-  lines_after zero = replacingFirst (λ m. empty_line) (members h) old
+  lines_after zero = replacing_first (λ m. empty_line) (members h) old
   lines_after (suc n) = lines_with (lines_after n) (member_of h n) (grains h n)
 
 -- ---- a member's heads

@@ -2,7 +2,7 @@
 use Rattle.std.proofs.Common.{◌≡◌, ℕ, ◌+◌, ◌-◌, ◌*◌, ◌/◌, ◌<◌, ◌≤◌, List, length, sym, ap, ◌∙◌, ap₂, arith}
 use Rattle.whole.proofs.Filling.{Filled, filled_length, first_filled}
 use Rattle.whole.proofs.Buffers.{written_length, replacing_twice, replacing_longer}
-use Rattle.whole.specs.Below.{replacingFirst}
+use Rattle.whole.specs.Below.{replacing_first}
 use Rattle.rules.specs.Record.{Hour}
 use Rattle.rules.specs.HourFile.{hourly}
 use Rattle.rules.specs.HourWords.{blocks_for, file_byte, file_length}
@@ -86,15 +86,15 @@ module _ (c : tie.After-put-at invariant-loop decreases-loop) where
   abbrev byte : ℕ → ℕ
   byte = file_byte hourly (h counted)
 
-  first-put : begun ≡ replacingFirst byte 512 (old counted)
+  first-put : begun ≡ replacing_first byte 512 (old counted)
   first-put = c.put_at.ensures ∙ head_placed (head counted) (records counted) (whole counted) _ (old counted)
       (ap (λ (n : ℕ). n - 1) (blocks_are counted))
 
   begun-length : length begun ≡ length (old counted)
   begun-length = written_length byte 512 (old counted) begun first-put (omega (arith, room counted, some_blocks counted))
 
-  put-again : begun ≡ replacingFirst byte 512 begun
-  put-again = first-put ∙ sym (replacing_twice byte byte 512 (old counted)) ∙ ap (replacingFirst byte 512) (sym first-put)
+  put-again : begun ≡ replacing_first byte 512 begun
+  put-again = first-put ∙ sym (replacing_twice byte byte 512 (old counted)) ∙ ap (replacing_first byte 512) (sym first-put)
 
 loop-holds : tie.Need-loop-init invariant-loop decreases-loop
 loop-holds c =
@@ -183,7 +183,7 @@ loop-again c =
         holds = placed.put-at2.ensures
             ∙ ap₂ block held.held_by.ensures so_far.holds
             ∙ records_placed (head at) (records at) (whole at) n (some turn) (there turn) (begun (put turn))
-            ∙ ap (λ (k : ℕ). replacingFirst (byte (put turn)) k (begun (put turn))) next;
+            ∙ ap (λ (k : ℕ). replacing_first (byte (put turn)) k (begun (put turn))) next;
       },
     )
 
@@ -204,7 +204,7 @@ returns c =
     let size = file_length hourly (h at) in (
       sym (length_is at),
       first_filled c.before.loop.invariant.1 (omega (arith, length_is at, c.loop-test.false))
-          ∙ ap (replacingFirst (byte put) size) (first-put put)
+          ∙ ap (replacing_first (byte put) size) (first-put put)
           ∙ replacing_longer (byte put) 512 size (old at) (omega (arith, length_is at, some_blocks at)),
     )
 

@@ -6,7 +6,7 @@ use lib.IntN.{ℤ}
 use lib.ListN.{length, get_or}
 use mir.Syntax.{w64}
 use mir.Val.{to_z}
-use Rattle.whole.specs.Below.{replacingFirst}
+use Rattle.whole.specs.Below.{replacing_first}
 use Rattle.whole.proofs.Ranges.{u_le, u_with_sign}
 use Rattle.whole.proofs.Machine as Machine
 use Rattle.whole.proofs.Machine.{Num, result, ◌:-◌, fits, stored, back, read_back}
@@ -100,7 +100,7 @@ returns c =
     let charges = s.args.charges.now in
     let sizes = s.args.sizes.now in
     first_filled c.before.loop.invariant (omega arith)
-    ∙ ap (λ (z : ℤ). replacingFirst (less_share charges z sizes) (length sizes) s.args.finals.now) (read_back s.ranges.all)
+    ∙ ap (λ (z : ℤ). replacing_first (less_share charges z sizes) (length sizes) s.args.finals.now) (read_back s.ranges.all)
 
 pub take-off-spec : {M : Type 1} → statement M
 take-off-spec =

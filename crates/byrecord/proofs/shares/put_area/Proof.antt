@@ -6,7 +6,7 @@ use lib.IntN.{ℤ}
 use lib.ListN.{length}
 use mir.Syntax.{w64}
 use mir.Val.{to_z}
-use Rattle.whole.specs.Below.{replacingFirst}
+use Rattle.whole.specs.Below.{replacing_first}
 use Rattle.whole.proofs.Machine.{read_back}
 use Rattle.whole.proofs.Filling.{filled_length, place_there, first_filled}
 use Rattle.rules.specs.HourFile.{hour_in}
@@ -73,7 +73,7 @@ returns c =
     let out = begun.args.out.now in
     let signed : ℤ → ℕ → ℤ = λ u. with_sizes h begun.args.a u begun.args.sizes.now out in
     first_filled c.before.loop.invariant.filled (omega (arith, begun.pre.as_many))
-    ∙ ap (λ u. replacingFirst (signed u) h.count out) (read_back begun.fits.figure)
+    ∙ ap (λ u. replacing_first (signed u) h.count out) (read_back begun.fits.figure)
 
 pub put-area-spec : {M : Type 1} → statement M
 put-area-spec =

@@ -6,7 +6,7 @@ use Prim.Native.Nat.{ℕ}
 use lib.IntN.{nat_abs}
 use lib.ListN.{take, drop}
 use lib.Seq.{length-take-le}
-use Rattle.whole.specs.Below.{replacingFirst}
+use Rattle.whole.specs.Below.{replacing_first}
 use Rattle.whole.proofs.Machine.{read_back}
 use Rattle.rules.specs.Record.{Hour}
 use Rattle.rules.specs.Ufe.{ufe}
@@ -112,7 +112,7 @@ returns-2 c =
     let out = begun.args.out.now in
     area_shared (asked (asked-at (engine c))) (shared (engine c)) (
     c.before.put_area.ensures
-    ∙ ap (λ u. replacingFirst (with_sizes hour begun.args.a u (got (engine c)) out) hour.count out) (read_back begun.fits.figure))
+    ∙ ap (λ u. replacing_first (with_sizes hour begun.args.a u (got (engine c)) out) hour.count out) (read_back begun.fits.figure))
 
 pub share-area-spec : {M : Type 1} → statement M
 share-area-spec =

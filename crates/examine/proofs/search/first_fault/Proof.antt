@@ -8,7 +8,7 @@ use mathlib.Core.List.{List}
 use Prim.Native.Nat.{ℕ, ◌-◌, ◌≤◌, ◌<◌, zero-le}
 use native.Mathlib.Omega.{arith}
 use Rattle.whole.specs.Below.{first_below}
-use Rattle.whole.proofs.Tests.{never-some, cond_ind}
+use Rattle.whole.proofs.Tests.{never_some, cond_ind}
 use Rattle.whole.proofs.Search.{first_next, first_hit, first_less, none_below}
 use Rattle.rules.specs.declared.Layout.{Layout}
 use Rattle.rules.specs.declared.Mode.{Mode}
@@ -306,7 +306,7 @@ returns c =
     (omega (arith, left.8.taken, size_is (in-hand turn)))
     left.7.inv in
     let found = here (sym left.9.ensures ∙ left.10.taken) in
-    (sym (found ∙ ap (λ (w : ℕ). some (at turn, w)) (sym left.11)), λ e. never-some e))
+    (sym (found ∙ ap (λ (w : ℕ). some (at turn, w)) (sym left.11)), λ e. never_some e))
     c.before.rows-test.branch
 
 -- all records were passed: none is bad, and what was kept is what row 14 names

@@ -1,6 +1,6 @@
 -- `writer::block::put_block` meets its contract: each call stores the words that come next, and the last ends where the block does.
 use Rattle.std.proofs.Common.{◌≡◌, ℕ, ◌+◌, ◌-◌, ◌*◌, length, get_or, sym, ap, ◌∙◌, arith}
-use Rattle.whole.specs.Below.{replacingFirst}
+use Rattle.whole.specs.Below.{replacing_first}
 use Rattle.whole.proofs.Buffers.{replacing_all}
 use Rattle.writer.specs.Stored.{bytes_of, closed_block, block_bytes}
 use Rattle.writer.proofs.Storing.{Begun, begun_none, begun_word, begun_words}
@@ -74,7 +74,7 @@ returns c =
     let all = begun_words b (λ k. 0) (120 - length body) (omega arith) (λ i l. sym (closed_past _ _ _ body _ (omega arith)))
     past.put-zeros2.ensures in
     let end : 4 * (8 + length body + (120 - length body)) ≡ 512 = omega arith in
-    all.first ∙ ap (λ (n : ℕ). replacingFirst (bytes_of f) n old) end ∙ replacing_all (bytes_of f) 512 old room
+    all.first ∙ ap (λ (n : ℕ). replacing_first (bytes_of f) n old) end ∙ replacing_all (bytes_of f) 512 old room
 
 pub put-block-spec : {M : Type 1} → statement M
 put-block-spec =
