@@ -1,5 +1,5 @@
 -- Laws of counts, sums and products of the naturals f 0, .., f (n - 1).
-use mathlib.Core.Path.{◌≡◌, refl, sym, ◌∙◌, ap, ap₂}
+use mathlib.Core.Path.{◌≡◌, refl, sym, ◌∙◌, ap, ap₂, subst}
 use mathlib.Core.Bool.{Bool, true, false, cond, ◌&&◌, ◌||◌, and-true, and-false}
 use Prim.Native.Nat.{ℕ, zero, suc, ◌+◌, ◌*◌, ◌%◌, ◌≤◌, ◌<◌, zero-le}
 use native.Mathlib.Nat.{add-zero, add-suc, add-le-add, le_refl, not-suc-le-zero, mul-one, mod-add-mod}
@@ -75,7 +75,8 @@ pub count_cut : (p : ℕ → Bool) (i n : ℕ) → i ≤ n → count_below (λ j
 unfolding count_below
 count_cut p i zero l = let e : i ≡ 0 = omega arith in rw e
 count_cut p i (suc n) l = last_or_below i (suc n) (omega arith)
-    (λ e. rw e (count_ext (λ j. p j && ltb j (suc n)) p (suc n) (λ j m. rw (lt-ltb j (suc n) m) (and-true (p j)))))
+    (λ e. subst (λ (x : ℕ). count_below (λ j. p j && ltb j x) (suc n) ≡ count_below p x) (sym e)
+    (count_ext (λ j. p j && ltb j (suc n)) p (suc n) (λ j m. rw (lt-ltb j (suc n) m) (and-true (p j)))))
     (λ m. rw (le-ltb n i (omega arith), and-false) (rw add-zero (count_cut p i n (omega arith))))
 
 -- ---- sums

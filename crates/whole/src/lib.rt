@@ -1,5 +1,7 @@
 // Laws of whole numbers, for the crates above: definitions in specs/, laws in proofs/. And as code a signed number's size, and a size with
 // a number's sign.
+#![tactic(auto)]
+
 ghost use Rattle.std.specs.Prelude.{◌≡◌, ◌<◌, nat_abs};
 ghost use Rattle.whole.specs.Signed.{with_sign_of};
 
