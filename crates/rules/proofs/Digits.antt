@@ -12,7 +12,7 @@ use lib.ListN.{length, take, drop, get_or, length-append, get_or-eq_default}
 use lib.Seq.{get_or-append_seam, get_or-drop, drop-drop, take-suc}
 use borrow.Author.Tests.{ltb-true, ltb-false, leb-true, leb-false, eqb-false, lt-ltb, le-ltb, le-leb, ne_eqb, not-true}
 use Rattle.whole.proofs.Tests.{split, both}
-use Rattle.rules.specs.Text.{digit_byte, is_digit_lem, digits_up_to, decimal, digit_count, digits_value}
+use Rattle.rules.specs.Text.{digit_byte, is_digit, digits_up_to, decimal, digit_count, digits_value}
 
 -- ---- one step of the writer, from the right
 
@@ -32,11 +32,11 @@ digits_more k n l = rw (le-ltb n 10 l)
 pub first_byte : (s : List ℕ) (at : ℕ) → get_or (drop at s) 0 0 ≡ get_or s at 0
 first_byte s at = get_or-drop at s 0 0 ∙ rw (add-zero at)
 
-pub digits_from : (s : List ℕ) (at : ℕ) → digit_count (drop at s) ≡ cond (is_digit_lem (get_or s at 0)) (suc (digit_count (drop (at + 1) s))) 0
+pub digits_from : (s : List ℕ) (at : ℕ) → digit_count (drop at s) ≡ cond (is_digit (get_or s at 0)) (suc (digit_count (drop (at + 1) s))) 0
 unfolding digit_count
 digits_from s at = rw (← first_byte s at, ← drop-drop 1 at s) (first_digit (drop at s))
   where
-    first_digit : (t : List ℕ) → digit_count t ≡ cond (is_digit_lem (get_or t 0 0)) (suc (digit_count (drop 1 t))) 0
+    first_digit : (t : List ℕ) → digit_count t ≡ cond (is_digit (get_or t 0 0)) (suc (digit_count (drop 1 t))) 0
     first_digit [] = refl
     first_digit (c ∷ t) = refl
 
@@ -75,7 +75,7 @@ written_digits (suc k) n h = split (ltb n 10)
 
 -- ---- what holds of a number's digits, whatever stands after them
 
-pub is_digit_lem : (d : ℕ) → d < 10 → is_digit_lem (digit_byte d) ≡ true
+pub is_digit_lem : (d : ℕ) → d < 10 → is_digit (digit_byte d) ≡ true
 is_digit_lem d l = rw (le-leb 48 (digit_byte d) (omega arith), le-leb (digit_byte d) 57 (omega arith))
 
 pub all_counted : {n : ℕ} {s : List ℕ} → DigitsOf n s → (t : List ℕ) → digit_count (s ++ t) ≡ length s + digit_count t
@@ -124,19 +124,19 @@ digits_are_written (more {n} {s} d p l r) (suc k) h =
 
 -- ---- what is read
 
-pub digit_range : (c : ℕ) → is_digit_lem c ≡ true → (48 ≤ c) × (c ≤ 57)
+pub digit_range : (c : ℕ) → is_digit c ≡ true → (48 ≤ c) × (c ≤ 57)
 digit_range c e = let b = both (leb 48 c) (leb c 57) e in (leb-true 48 c b.0, leb-true c 57 b.1)
 
 pub counted_stand : (s : List ℕ) → digit_count s ≤ length s
 unfolding digit_count
 counted_stand [] = zero-le
-counted_stand (c ∷ s) = split (is_digit_lem c) (λ e. rw e (omega (arith, counted_stand s))) (λ e. rw e zero-le)
+counted_stand (c ∷ s) = split (is_digit c) (λ e. rw e (omega (arith, counted_stand s))) (λ e. rw e zero-le)
 
 counted_are_digits : (s : List ℕ) (i : ℕ) → i < digit_count s → (48 ≤ get_or s i 0) × (get_or s i 0 ≤ 57)
 unfolding digit_count
 counted_are_digits [] i h = absurd (not-suc-le-zero h)
-counted_are_digits (c ∷ s) zero h = split (is_digit_lem c) (λ e. digit_range c e) (λ e. absurd (not-suc-le-zero (rw e at h)))
-counted_are_digits (c ∷ s) (suc i) h = split (is_digit_lem c)
+counted_are_digits (c ∷ s) zero h = split (is_digit c) (λ e. digit_range c e) (λ e. absurd (not-suc-le-zero (rw e at h)))
+counted_are_digits (c ∷ s) (suc i) h = split (is_digit c)
     (λ e. counted_are_digits s i (le_of_suc-le-suc (rw e at h)))
     (λ e. absurd (not-suc-le-zero (rw e at h)))
 

@@ -15,7 +15,7 @@ use Rattle.rules.specs.declared.Line.{Line}
 use Rattle.rules.specs.Record.{Hour, members, zones, area_of, zone_of}
 use Rattle.rules.specs.Charge.{amount, charge}
 use Rattle.rules.specs.HourFile.{hour_in}
-use Rattle.rules.specs.Refusals.{row, accepted, refused_at, verdict, no_member_lem, hour_rows, explain_rows, Buffers}
+use Rattle.rules.specs.Refusals.{row, accepted, refused_at, verdict, no_member, hour_rows, explain_rows, Buffers}
 use Rattle.rules.specs.Refusals.{block_rows, word_rows, comparison_rows, sum_rows, form_rows, file_rows}
 use Rattle.rules.specs.Settling.{is_accepted, settle, filled, line_of, empty_line}
 use Rattle.rules.specs.Explanation.{heads, no_heads, decided, explain}
@@ -37,27 +37,27 @@ module _ (s : List ℕ) (m : ℕ) where
   -- what settling refuses, an explanation refuses alike
   pub rows_refused_alike : (verdict (hour_rows s) ≡ accepted → ⊥) → verdict (explain_rows s m) ≡ verdict (hour_rows s)
   unfolding explain_rows
-  rows_refused_alike = refused_first (hour_rows s) (row 13 (no_member_lem h m) ∷ [])
+  rows_refused_alike = refused_first (hour_rows s) (row 13 (no_member h m) ∷ [])
 
   pub explain_numbered : Numbered (explain_rows s m)
   unfolding explain_rows
-  explain_numbered = numbered_on (hour_rows s) (row 13 (no_member_lem h m) ∷ []) (hour_numbered s) (omega arith)
+  explain_numbered = numbered_on (hour_rows s) (row 13 (no_member h m) ∷ []) (hour_numbered s) (omega arith)
 
   -- what it accepts, 13 decides
-  rows_passed : AllWhole (hour_rows s) → verdict (explain_rows s m) ≡ verdict (row 13 (no_member_lem h m) ∷ [])
+  rows_passed : AllWhole (hour_rows s) → verdict (explain_rows s m) ≡ verdict (row 13 (no_member h m) ∷ [])
   unfolding explain_rows
-  rows_passed = passed_on (hour_rows s) (row 13 (no_member_lem h m) ∷ [])
+  rows_passed = passed_on (hour_rows s) (row 13 (no_member h m) ∷ [])
 
   pub rows_member : AllWhole (hour_rows s) → m < members h → verdict (explain_rows s m) ≡ accepted
-  unfolding no_member_lem verdict
+  unfolding no_member verdict
   rows_member w l = rows_passed w ∙ rw (lt-leb (members h) m l) refl
 
   pub rows_no_member : AllWhole (hour_rows s) → members h ≤ m → verdict (explain_rows s m) ≡ refused_at 13 0
-  unfolding no_member_lem verdict
+  unfolding no_member verdict
   rows_no_member w l = rows_passed w ∙ rw (le-leb (members h) m l) refl
 
-  past_count : no_member_lem h m ≡ some 0 → members h ≤ m
-  unfolding no_member_lem
+  past_count : no_member h m ≡ some 0 → members h ≤ m
+  unfolding no_member
   past_count e = leb-true (members h) m (if_some (leb (members h) m) (some 0) 0 e).0
 
   -- ---- what is answered
@@ -85,7 +85,7 @@ module _ (s : List ℕ) (m : ℕ) where
 
   no_member_lem : ((explain s m).verdict ≡ refused_at 13 0) ↔ ((verdict (hour_rows s) ≡ accepted) × (members h ≤ m))
   unfolding explain_rows hour_rows file_rows form_rows block_rows word_rows comparison_rows sum_rows has_row
-  no_member_lem = let answers = only_row 12 0 (no_member_lem h m) [] refl (hour_rows s) (hour_numbered s) refl in (
+  no_member_lem = let answers = only_row 12 0 (no_member h m) [] refl (hour_rows s) (hour_numbered s) refl in (
     λ e. let broken = answers.0 (sym explain_verdict ∙ e) in (broken.0, past_count broken.1),
     λ l. explain_verdict ∙ rows_no_member ((accepts_when_whole (hour_rows s) (hour_numbered s)).0 l.0) l.1,
   )

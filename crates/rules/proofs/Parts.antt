@@ -14,7 +14,7 @@ use lib.ListN.{length, take, drop, get_or, replicate, take-append-drop}
 use lib.Seq.{drop-drop, get_or-drop, length-take-le}
 use borrow.Author.Tests.{leb-true, eqb-true, le-leb, eq-eqb}
 use Rattle.whole.proofs.Tests.{split, never, never_some, all_three, if_some}
-use Rattle.rules.specs.Text.{digit_byte, is_digit_lem, sign_byte, decimal, Part, blank_count, digit_count, digits_value, past_blanks, sign_at}
+use Rattle.rules.specs.Text.{digit_byte, is_digit, sign_byte, decimal, Part, blank_count, digit_count, digits_value, past_blanks, sign_at}
 use Rattle.rules.specs.Text.{dollars_at, cents_at, with_minus, amount_in}
 use Rattle.rules.proofs.Digits.{first_byte, is_digit_lem, all_counted, make_the_number, no_leading_zero, digits_are_written, digit_range}
 use Rattle.rules.proofs.Digits.{counted_stand, value_below_power, read_digits, decimal_digits, decimal_at_least_1}
@@ -72,14 +72,14 @@ dollars_of t n l m h e =
 abbrev pub cents_text : ℕ → List ℕ
 cents_text w = 46 ∷ digit_byte (w / 10) ∷ digit_byte (w % 10) ∷ []
 
-cents_of_lem : (t : List ℕ) → (eqb (get_or t 0 0) 46 && is_digit_lem (get_or t 1 0) && is_digit_lem (get_or t 2 0)) ≡ true →
+cents_of_lem : (t : List ℕ) → (eqb (get_or t 0 0) 46 && is_digit (get_or t 1 0) && is_digit (get_or t 2 0)) ≡ true →
     (w : ℕ) × (digits_value (drop 1 t) 2 ≡ w) × (w < 100) × (t ≡ cents_text w ++ drop 3 t)
 unfolding digits_value
 cents_of_lem [] e = never e refl
 cents_of_lem (a ∷ []) e = never (all_three (eqb a 46) false false e).1 refl
-cents_of_lem (a ∷ b ∷ []) e = never (all_three (eqb a 46) (is_digit_lem b) false e).2 refl
+cents_of_lem (a ∷ b ∷ []) e = never (all_three (eqb a 46) (is_digit b) false e).2 refl
 cents_of_lem (a ∷ b ∷ c ∷ t) e =
-    let f = all_three (eqb a 46) (is_digit_lem b) (is_digit_lem c) e in
+    let f = all_three (eqb a 46) (is_digit b) (is_digit c) e in
     let rb = digit_range b f.1 in
     let rc = digit_range c f.2 in
     (10 * (10 * 0 + (b - 48)) + (c - 48), refl, omega arith, same (eqb-true a 46 f.0) (omega arith) (omega arith))
@@ -136,7 +136,7 @@ module _ (s : List ℕ) (at : ℕ) where
   pub cents_found : (p : Part ℕ) → cents_at s at ≡ some p → (p.value < 100) × (drop at s ≡ cents_text p.value ++ drop p.next s)
   unfolding cents_at
   cents_found p e =
-      let f = if_some (eqb (get_or s at 0) 46 && is_digit_lem (get_or s (at + 1) 0) && is_digit_lem (get_or s (at + 2) 0))
+      let f = if_some (eqb (get_or s at 0) 46 && is_digit (get_or s (at + 1) 0) && is_digit (get_or s (at + 2) 0))
       (some (record { value = digits_value (drop (at + 1) s) 2; next = at + 3 })) p e in
       let c = cents_of_lem (drop at s) (rw (← first_byte s at, ← get_or-drop at s 1 0, ← get_or-drop at s 2 0) at f.0) in
       rw (← some-injective _ p f.1, ← drop-drop 3 at s, ← drop-drop 1 at s, c.1) (c.2, c.3)

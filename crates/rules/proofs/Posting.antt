@@ -24,7 +24,7 @@ use Rattle.rules.specs.Ufe.{D, in_area, ufe, demand, area_demand}
 use Rattle.rules.specs.Share.{all_demand}
 use Rattle.rules.specs.Charge.{grains, amount, records_of}
 use Rattle.rules.specs.Settling.{line_of, empty_line}
-use Rattle.rules.specs.Inner.Posting.{accounted, empty_tally, tallied, demand_by, demand_of, tally_after, line_with, lines_with, lines_after_lem}
+use Rattle.rules.specs.Inner.Posting.{accounted, empty_tally, tallied, demand_by, demand_of, tally_after, line_with, lines_with, lines_after}
 use Rattle.rules.proofs.Tariff.{ufe_by_record}
 
 -- ---- D
@@ -122,8 +122,8 @@ module _ (h : Hour) where
   module _ (old : List Line) where
     -- After n records each member's line is that of these records, and the lines past the members' hold what they held.
     pub lines_after_lem : (n : ℕ) → ((i : ℕ) → i < n → member_of h i < members h) →
-        lines_after_lem h old n ≡ replacing_first (line_after n) (members h) old
-    unfolding lines_after_lem lines_with empty_line total_below count_below
+        lines_after h old n ≡ replacing_first (line_after n) (members h) old
+    unfolding lines_after lines_with empty_line total_below count_below
     lines_after_lem zero there = refl
     lines_after_lem (suc n) there =
         rw (lines_after_lem n (λ i l. there i (omega arith))) (
@@ -132,6 +132,6 @@ module _ (h : Hour) where
 
     -- Once all records are posted, each member's line holds its exact amount and its record count.
     pub lines_are : ((i : ℕ) → i < h.count → member_of h i < members h) →
-        lines_after_lem h old h.count ≡ replacing_first (line_of h) (members h) old
+        lines_after h old h.count ≡ replacing_first (line_of h) (members h) old
     unfolding line_of amount records_of
     lines_are there = lines_after_lem h.count there

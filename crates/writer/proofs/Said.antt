@@ -7,7 +7,7 @@ use Rattle.rules.specs.Record.{Hour}
 use Rattle.rules.specs.HourFile.{hourly}
 use Rattle.rules.specs.HourWords.{hour_from, blocks_for, file_length}
 use Rattle.rules.specs.Ranges.{hourly_form}
-use Rattle.rules.specs.Refusals.{Row, row, accepted, verdict_of, verdict, bad_lists, no_room_lem, word_rows, comparison_rows, list_form_rows, list_rows}
+use Rattle.rules.specs.Refusals.{Row, row, accepted, verdict_of, verdict, bad_lists, no_room, word_rows, comparison_rows, list_form_rows, list_rows}
 use Rattle.rules.specs.Refusals.{write_hour_rows}
 use Rattle.rules.proofs.Rows.{Numbered, accepts_when_whole, refused_first, passed_on, one_answer}
 use Rattle.rules.proofs.Writing.{lists_whole as lists-pass}
@@ -41,12 +41,12 @@ module _ (head records : List ℕ) where
 
   -- the room for so many blocks
   module _ (room n : ℕ) (e : n ≡ blocks_for hourly h) where
-    pub no_room_lem : room < 512 * n → no_room_lem h room ≡ some 0
-    unfolding no_room_lem
+    pub no_room_lem : room < 512 * n → no_room h room ≡ some 0
+    unfolding no_room
     no_room_lem l = rw (lt-ltb room (file_length hourly h) (omega (arith, file_length_lem)))
 
-    pub has_room : 512 * n ≤ room → no_room_lem h room ≡ none
-    unfolding no_room_lem
+    pub has_room : 512 * n ≤ room → no_room h room ≡ none
+    unfolding no_room
     has_room l = rw (le-ltb room (file_length hourly h) (omega (arith, file_length_lem)))
 
   -- ---- the rows between
@@ -60,7 +60,7 @@ module _ (head records : List ℕ) where
 
   module _ (room : ℕ) (lists-good : bad_lists head records ≡ none) where
     abbrev room_row : List Row
-    room_row = row 11 (no_room_lem h room) ∷ []
+    room_row = row 11 (no_room h room) ∷ []
 
     row_1_passed : verdict (write_hour_rows head records room) ≡ verdict (search_rows ++ room_row)
     unfolding verdict word_rows comparison_rows list_form_rows list_rows write_hour_rows

@@ -1,7 +1,7 @@
 -- `writer::lists::first_refusal` meets its contract: row 1, then what the search answers, then row 11.
 use Rattle.std.proofs.Common.{◌≡◌, ℕ, List, [], ◌∷◌, sym, refl, ap, ◌∙◌, arith}
 use mathlib.Core.Option.{none}
-use Rattle.rules.specs.Refusals.{row, bad_lists, no_room_lem, verdict, verdict_of, place_zero_if, list_form_rows, list_rows, write_hour_rows}
+use Rattle.rules.specs.Refusals.{row, bad_lists, no_room, verdict, verdict_of, place_zero_if, list_form_rows, list_rows, write_hour_rows}
 use Rattle.answer.proofs.Refusing.{no_other}
 use Rattle.writer.specs.Lists.{hour_of_lists, ListsWhole}
 use Rattle.writer.proofs.Said.{lists_whole, few_blocks, no_room_lem, has_room, search_refused, search_passed}
@@ -65,7 +65,7 @@ module _ (c : tie.After-enum-told) where
 
   room-decides : let room = (given lists).args.room in
       verdict (write_hour_rows (head lists) (records lists) room)
-      ≡ verdict (row 11 (no_room_lem (hour_of_lists (head lists) (records lists)) room) ∷ [])
+      ≡ verdict (row 11 (no_room (hour_of_lists (head lists) (records lists)) room) ∷ [])
   room-decides =
       search_passed (head lists) (records lists) (given lists).args.room (lists-good lists)
       (sym searched.examine_hour.ensures ∙ ap verdict_of c.enum_told.given.1)
