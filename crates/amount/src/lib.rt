@@ -1,5 +1,7 @@
 // Amounts as text (document 01, "Text amounts"): `write` puts an amount of cents into the caller's field, `read` takes one out.
 // Both take every number and every field; what they refuse is rows 8 to 10 of the table, and a refused field is unchanged to the byte.
+#![tactic(auto)]
+
 ghost use Rattle.std.specs.Prelude.{◌≡◌};
 ghost use Rattle.rules.specs.Refusals.{verdict_of};
 ghost use Rattle.rules.specs.Settling as Settling;

@@ -1,4 +1,6 @@
 // An answer's number and place in the table of refusals, for whoever prints them or hands them on; what a refused settling answers.
+#![tactic(auto)]
+
 ghost use Rattle.std.specs.Prelude.{◌≡◌};
 ghost use Rattle.rules.specs.Refusals.{number_of, place_of};
 ghost use Rattle.rules.specs.Settling.{no_figures};

@@ -3,6 +3,8 @@
 // word, the word is 0. Only `whole_word`, `block`, `whole_body` and `record` ask that what they hand out is there, and test nothing: in a
 // file that was accepted it is, and the sums read thousands of words. A layout comes as a value: where the caller names it, the compiler
 // folds its numbers in.
+#![tactic(auto)]
+
 ghost use Rattle.std.specs.Prelude.{◌≡◌, ◌+◌, ◌*◌, ◌%◌, ◌<◌, ◌≤◌, false, not, ◌&&◌, length, take, drop, ◌==◌, nat_le, slice_index};
 ghost use Rattle.whole.specs.Below.{sum_below, first_below};
 ghost use Rattle.rules.specs.Record as Record;

@@ -1,5 +1,7 @@
 // By area: the hour's tally, lent to each posting in file order, and what it gives: each area's UFE, refusal 6, and whether
 // anybody demands anything.
+#![tactic(auto)]
+
 ghost use Rattle.std.specs.Prelude.{◌≡◌, ◌≤◌, ◌<◌, eqb};
 ghost use Rattle.whole.specs.Below.{first_below};
 ghost use Rattle.rules.specs.Record as Record;

@@ -1,6 +1,8 @@
 // An hour file: blocks in the hourly layout, and its numbers as the sums take them, each under its name. The layout is handed to `blocks`, so
 // that the compiler folds its numbers in. A record's numbers are read from its part of the file, as `record` hands it out, without a test: a
 // word costs one load. Nothing is summed here, and nothing is refused: the file was examined before.
+#![tactic(auto)]
+
 ghost use Rattle.std.specs.Prelude.{◌≡◌, ◌<◌, length};
 ghost use Rattle.rules.specs.Record as Record;
 ghost use Rattle.rules.specs.HourFile as HourFile;

@@ -2,6 +2,8 @@
 // Who takes no part is not passed. Sizes only: the sign is put on by the caller.
 // Nothing is held for a demand, neither whole part nor remainder: each is worked out again where it is needed, and the sizes come to stand
 // where the demands stood. The units left over go to the largest remainders down to some bound, which is found by bisection.
+#![tactic(auto)]
+
 ghost use Rattle.std.specs.Prelude.{◌≡◌, ◌/◌, ◌≤◌, ◌<◌, ltb, eqb, length};
 ghost use Rattle.whole.specs.Below.{one_if, replacing_first};
 ghost use Rattle.share.specs.Shareable.{demanded, Shareable, shares_in};

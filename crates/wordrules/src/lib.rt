@@ -2,6 +2,8 @@
 // a word of a record keeps its rule, and whether a generator is scheduled above its maximum. Each equals its definition for every input. A
 // rule is chosen by tests and not from a stored table: the compiler then folds it into the search that asks for it, where an array of rules
 // would be laid down on the stack at each word.
+#![tactic(auto)]
+
 ghost use Rattle.std.specs.Prelude.{◌≡◌, cond, ◌&&◌, ◌-◌, ◌/◌, ◌%◌, nat_abs, get_or, ltb, eqb};
 ghost use Rattle.rules.specs.Record as Record;
 ghost use Rattle.rules.specs.Inner.Layouts.{FitsBody, head_end};
