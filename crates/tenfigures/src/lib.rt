@@ -1,4 +1,6 @@
 // Figures of ten-minute files, computed from the definitions. Nothing here runs.
+#![tactic(auto)]
+
 ghost use Rattle.std.specs.Prelude.{◌≡◌};
 
 // A crate holds a function; this one has nothing to compute.

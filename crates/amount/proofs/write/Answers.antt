@@ -1,0 +1,88 @@
+-- `amount::write` meets its contract: out of range, too narrow, or written; each way answers as `write` of `rules` does.
+use Prim.Native.Nat.{ℕ, ◌+◌, ◌-◌, ◌≤◌}
+use mathlib.Core.Path.{◌≡◌, refl, ◌∙◌, ap}
+use mathlib.Core.List.{List, ◌++◌, append_assoc}
+use native.Mathlib.Omega.{arith}
+use borrow.Author.Rules.{rules}
+use lib.IntN.{ℤ, nat_abs}
+use lib.ListN.{length, drop, replicate, length-replicate, replicate-append-replicate}
+use lib.Seq.{drop_at}
+use Rattle.whole.proofs.Machine.{read_back}
+use Rattle.rules.specs.Text.{amount_field, amount_text}
+use Rattle.rules.proofs.Text.{text_fits_14, amount_field_width, write_out_of_range, write_too_narrow, write_accepted_at}
+use Rattle.amount.proofs.write.Goals as goal
+use Rattle.amount.proofs.write.Goals.{After-size_of, After-write_amount-length}
+
+-- ---- an amount's text in another width: more blanks, or fewer
+
+fewer-blanks : (k m : ℕ) (t : List ℕ) → drop k (replicate (k + m) 32 ++ t) ≡ replicate m 32 ++ t
+fewer-blanks k m t = rw (← replicate-append-replicate {A = ℕ} k m 32, append_assoc)
+    (drop_at (replicate k 32) (replicate m 32 ++ t) k (length-replicate k 32))
+
+at_width : (z : ℤ) (w : ℕ) → length (amount_text z) ≤ 14 → length (amount_text z) ≤ w →
+    replicate (w - 14) 32 ++ drop (6 + (14 - w)) (amount_field 20 z) ≡ amount_field w z
+unfolding amount_field
+at_width z w short fits =
+    let m = 14 - length (amount_text z) - (14 - w) in
+    let cut : 20 - length (amount_text z) ≡ 6 + (14 - w) + m = omega arith in
+    let blanks : w - 14 + m ≡ w - length (amount_text z) = omega arith in
+    rw (cut, fewer-blanks (6 + (14 - w)) m (amount_text z), ← append_assoc, replicate-append-replicate {A = ℕ} (w - 14) m 32, blanks)
+
+-- ---- the needs
+
+-- the size that the code computes; then the range that it is in, and the length and the text that were written
+sized : (c : goal.After-size_of) → c.type_size.result ≡ nat_abs c.args.cents
+sized c = c.type_size.ensures ∙ ap nat_abs (read_back c.ranges.cents)
+
+range : (c : goal.After-write_amount-length) → nat_abs c.args.cents ≤ 999999999999
+range c = omega (arith, sized c)
+
+written : (c : goal.After-write_amount-length) → let z = c.args.cents in
+    (length (amount_text z) ≤ 14) × (c.write_amount-length.result ≡ length (amount_text z)) × (c.write_amount-length.new.text ≡ amount_field 20 z)
+written c =
+    let s = c in
+    let w = rw (read_back s.ranges.cents) at c.write_amount-length.ensures in
+    (text_fits_14 s.args.cents (range c), w.0, w.1)
+
+-- Answer::OutOfRange
+pub returns-then-size_of-gt999999999999 : goal.returns-then-size_of-gt999999999999
+returns-then-size_of-gt999999999999 c =
+    let s = c in
+    rw (write_out_of_range s.args.field.now s.args.cents (omega (arith, sized (goal.at.returns-then-size_of-gt999999999999 c).After-size_of))) record {
+      verdict = refl;
+      field = refl;
+    }
+
+-- Answer::TooNarrow
+pub returns-then-field-length : goal.returns-then-field-length
+returns-then-field-length c =
+    let s = c.args in
+    let w = written (goal.at.returns-then-field-length c).After-write_amount-length in
+    rw (write_too_narrow s.field.now s.cents (range (goal.at.returns-then-field-length c).After-write_amount-length) (omega (arith, w.0, w.1))) record {
+      verdict = refl;
+      field = refl;
+    }
+
+pub put-requires : goal.put-requires
+put-requires c =
+    let w = written (goal.at.put-requires c).After-write_amount-length in
+    rw w.2 (amount_field_width 20 c.args.cents (omega (arith, w.0)))
+
+-- LOST same-length
+-- -- field: &mut [u8]
+-- same_length : tie.Need-same-length
+-- same_length c = search rules
+-- 
+
+-- Answer::Accepted
+pub returns : goal.returns
+returns c =
+    let t = c in
+    let s = t.args in
+    let w = written t in
+    let fits : length (amount_text s.cents) ≤ length s.field.now = omega (arith, w.0, w.1) in
+    rw (write_accepted_at s.field.now s.cents (range t) fits)
+    record {
+      verdict = refl;
+      field = c.put.ensures ∙ rw w.2 (at_width s.cents (length s.field.now) w.0 fits);
+    }

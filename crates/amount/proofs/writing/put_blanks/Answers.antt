@@ -1,0 +1,31 @@
+-- `amount::writing::put_blanks` meets its contract: the places passed are blank, the others as they were.
+use Prim.Native.Nat.{◌≤◌, ◌-◌}
+use mathlib.Core.Path.{◌≡◌, refl, ◌∙◌, ap}
+use mathlib.Core.List.{◌++◌}
+use native.Mathlib.Omega.{arith}
+use borrow.Author.Fill.{fill_more}
+use lib.ListN.{length, set, replicate, drop, length-set}
+use Rattle.amount.proofs.writing.put_blanks.Goals as goal
+
+pub loop-at-init : goal.loop-at-init
+loop-at-init c = (omega arith, refl, refl)
+
+pub loop-at-preserved : goal.loop-at-preserved
+loop-at-preserved c =
+    let l = c.loop-at in
+    let f = c.args.field.now in (
+      omega arith,
+      length-set l.field l.at 32 ∙ l.invariant.1,
+      ap (λ x. set x l.at 32) l.invariant.2 ∙ fill_more l.at 32 f (omega arith),
+    )
+
+-- LOST same-length
+-- -- field: &mut [u8]
+-- same_length : tie.Need-same-length invariant-loop decreases-loop
+-- same_length c = c.before.loop.invariant.1
+-- 
+
+pub returns : goal.returns
+returns c =
+    let end : c.loop-at.at ≡ c.args.end = omega arith in
+    rw (← end) c.loop-at.invariant.2

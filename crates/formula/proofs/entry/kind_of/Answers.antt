@@ -1,0 +1,49 @@
+-- `formula::entry::kind_of` meets its contract: number by number, and none for those past 5.
+use mathlib.Core.Path.{◌≡◌, refl}
+use mathlib.Core.Logic.{◌≢◌}
+use Prim.Native.Nat.{ℕ, zero, suc}
+use Rattle.rules.specs.declared.Kind.TheVariants.{Unknown}
+use Rattle.rules.specs.Record.{kind_of}
+use Rattle.formula.proofs.entry.kind_of.Goals as goal
+
+-- a number that is none of the five names no kind
+unknown : (k : ℕ) → k ≢ 1 → k ≢ 2 → k ≢ 3 → k ≢ 4 → k ≢ 5 → Unknown ≡ kind_of k
+unfolding kind_of
+unknown zero a b c d e = refl
+unknown (suc zero) a b c d e = absurd (a refl)
+unknown (suc (suc zero)) a b c d e = absurd (b refl)
+unknown (suc (suc (suc zero))) a b c d e = absurd (c refl)
+unknown (suc (suc (suc (suc zero)))) a b c d e = absurd (d refl)
+unknown (suc (suc (suc (suc (suc zero))))) a b c d e = absurd (e refl)
+unknown (suc (suc (suc (suc (suc (suc k)))))) a b c d e = refl
+
+-- 1 => Kind::Generator
+pub returns-in-1 : goal.returns-in-1
+unfolding kind_of
+returns-in-1 c = rw c.in_default.keys1
+
+-- 2 => Kind::RealTimeLoad
+pub returns-in-2 : goal.returns-in-2
+unfolding kind_of
+returns-in-2 c = rw c.in_default.keys2
+
+-- 3 => Kind::ProfileLoad
+pub returns-in-3 : goal.returns-in-3
+unfolding kind_of
+returns-in-3 c = rw c.in_default.keys3
+
+-- 4 => Kind::Import
+pub returns-in-4 : goal.returns-in-4
+unfolding kind_of
+returns-in-4 c = rw c.in_default.keys4
+
+-- 5 => Kind::Export
+pub returns-in-5 : goal.returns-in-5
+unfolding kind_of
+returns-in-5 c = rw c.in_default.keys5
+
+-- _ => Kind::Unknown
+pub returns-in_default : goal.returns-in_default
+returns-in_default c =
+    let none = c.in_default.rest in
+    unknown c.args.word none.0.0.0.0.1 none.0.0.0.1 none.0.0.1 none.0.1 none.1
