@@ -5,4 +5,3 @@ pub mod Lines
 mod Places
 mod Finals
 mod Amounts
-pub mod Port

@@ -2,6 +2,8 @@
 // their layout, are those of `blocks` in the file's layout. The others, the head, the records and the generators' schedules, are `search`'s,
 // and the writer's too. Each row is looked through in its order and left at the first fault, so that a refused file costs no more than an
 // accepted one.
+#![tactic(auto)]
+
 ghost use Rattle.std.specs.Prelude.{◌≡◌, false};
 ghost use Rattle.rules.specs.HourFile as HourFile;
 ghost use Rattle.rules.specs.Ranges.{form_of, ten_minutes_form};

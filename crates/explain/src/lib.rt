@@ -1,5 +1,7 @@
 // Why a member's charge is what it is (document 02, A5): its exact amount under five heads, and the head that decided, of every file and
 // every member number. The same as text is `report`'s.
+#![tactic(auto)]
+
 ghost use Rattle.std.specs.Prelude.{◌≡◌, ◌≤◌, length};
 ghost use Rattle.rules.specs.declared.Found.TheVariants.{Nothing};
 ghost use Rattle.rules.specs.Explanation as Explanation;

@@ -1,5 +1,7 @@
 // Settling: the tally and the members' lines are lent to each posting, and the figures are written into the caller's own buffers.
 // Structs are moved here, not computed with: the sums are worked by value in `formula`.
+#![tactic(auto)]
+
 ghost use Rattle.std.specs.Prelude.{◌≡◌, ◌||◌, ◌≤◌, ltb, length};
 ghost use Rattle.whole.specs.Below.{replacing_first};
 ghost use Rattle.rules.specs.Settling as Settling;

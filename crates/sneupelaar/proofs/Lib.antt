@@ -1,3 +1,2 @@
 -- What an answer's number and place say, and where a body stands; what the walk rests on.
 pub mod HandedOut
-pub mod Port

@@ -1,5 +1,7 @@
 // The library for programs in C (include/sneupelaar.h): an answer goes out as its number and place, a body as where it stands in the file.
 // No function here has a `requires`: nothing would check it for C.
+#![tactic(auto)]
+
 ghost use Rattle.std.specs.Prelude.{◌≡◌, drop, take};
 ghost use Rattle.rules.specs.HourFile.{body, hourly};
 ghost use Rattle.rules.specs.Refusals.{number_of, place_of};

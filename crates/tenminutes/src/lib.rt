@@ -1,4 +1,6 @@
 // Ten-minute settlement: a record's intervals, a member's nets by zone and interval, what they cost, and the charges.
+#![tactic(auto)]
+
 ghost use Rattle.std.specs.Prelude.{◌≡◌};
 ghost use Rattle.rules.specs.Refusals.{verdict_of};
 ghost use Rattle.rules.specs.TenMinutes.{settle_ten_minutes};

@@ -1,6 +1,8 @@
 // Hour files written from a head and records (document 02, A2): the writer beside the reader. The first block has the head, every other the
 // words of ten records or, in the last, of those that are left; each is written whole, at its place in the caller's buffer. The numbers
 // are those of the hourly layout: blocks of 512 bytes, at most 26, marked 1 and 2, with 120 words of body; twelve words to a record.
+#![tactic(auto)]
+
 ghost use Rattle.std.specs.Prelude.{◌≡◌, ◌+◌, ◌-◌, ◌*◌, ◌<◌, ◌≤◌, length};
 ghost use Rattle.whole.specs.Below.{replacing_first};
 ghost use Rattle.rules.specs.HourFile.{hourly};
