@@ -19,9 +19,8 @@ use Rattle.amount.specs.declared.reading.Sign.TheVariants as sign
 use Rattle.amount.specs.declared.reading.Number.{Number}
 use Rattle.amount.specs.declared.reading.Number.TheVariants as number
 use Rattle.amount.specs.Parts.{sign_part, number_part, read_amount}
-use borrow.Author.Rules.{rules}
 use Rattle.amount.proofs.read.Goals as goal
-use Rattle.amount.proofs.read.Goals.{After-sign, In-Found, In-Found-cents, In-Found-dollars}
+use Rattle.amount.proofs.read.Goals.{In-Found-cents}
 
 -- ---- the answers of the parts, as the parts of `amount_in`
 
@@ -36,9 +35,12 @@ number-found e f = sym e ∙ ap number_part f
 module _ (s : List ℕ) where
   -- a reading is what its parts make of it
   answered : (r : Reading) (o : Option ℤ) → read_amount r ≡ or_refused o → amount_in s ≡ o →
-      (verdict_of r.answer ≡ (read s).verdict) × (r.amount ≡ (read s).amount)
+      record { verdict : verdict_of r.answer ≡ (read s).verdict; amount : r.amount ≡ (read s).amount }
   unfolding read
-  answered r o e q = let w = e ∙ ap or_refused (sym q) in (ap (λ (a : ReadAmount). a.verdict) w, ap (λ (a : ReadAmount). a.amount) w)
+  answered r o e q = let w = e ∙ ap or_refused (sym q) in record {
+    verdict = ap (λ (a : ReadAmount). a.verdict) w;
+    amount = ap (λ (a : ReadAmount). a.amount) w;
+  }
 
   no_sign : sign_at s (past_blanks s 0) ≡ none → amount_in s ≡ none
   unfolding amount_in bind
@@ -68,74 +70,50 @@ module _ (s : List ℕ) where
 
 -- ---- the parts that the code found
 
-past_blanks_lem : (c : goal.After-sign) → let s = c.args.field.now in
-    sign_part c.sign.result ≡ sign_at s (past_blanks s 0)
-past_blanks_lem c = c.sign.ensures ∙ rw (c.blanks.ensures, c.start.ensures)
+sign_as : (s : List ℕ) (a b : ℕ) (r : Sign) → a ≡ 0 → b ≡ past_blanks s a → sign_part r ≡ sign_at s b →
+    sign_part r ≡ sign_at s (past_blanks s 0)
+sign_as s a b r e f g = g ∙ rw (f, e)
 
-abbrev theSign : goal.In-Found → Part Bool
-theSign c = let g = c.is_minus-1.given.0 in record { value = g.0; next = g.1.0.at }
+sign_is : (s : List ℕ) (a b : ℕ) (r : Sign) {m : Bool} {k : Cursor} → a ≡ 0 → b ≡ past_blanks s a → sign_part r ≡ sign_at s b →
+    r ≡ sign.Found m k → sign_at s (past_blanks s 0) ≡ some (record { value = m; next = k.at })
+sign_is s a b r e f g h = sign_found (sign_as s a b r e f g) h
 
-sign_is : (c : goal.In-Found) → sign_at c.args.field.now (past_blanks c.args.field.now 0) ≡ some (theSign c)
-sign_is c = sign_found (past_blanks_lem c) c.is_minus-1.given.1
-
-abbrev theDollars : goal.In-Found-dollars → Part ℕ
-theDollars c = let g = c.dollars-1.given.0 in record { value = g.0; next = g.1.0.at }
-
-dollars_are : (c : goal.In-Found-dollars) → dollars_at (text c) (theSign c).next ≡ some (theDollars c)
-dollars_are c = number-found c.dollars.ensures c.dollars-1.given.1
-
-abbrev theCents : goal.In-Found-cents → Part ℕ
-theCents c = let g = c.cents-1.given.0 in record { value = g.0; next = g.1.0.at }
-
-cents_are : (c : goal.In-Found-cents) → cents_at (text (told c)) (theDollars c).next ≡ some (theCents c)
-cents_are c = number-found c.cents.ensures c.cents-1.given.1
-
-range : (c : goal.In-Found-cents) → 100 * (theDollars c).value + (theCents c).value ≤ 999999999999
-range c = let d = c in let t = told d in
-    in_range (text t) (theSign t) (sign_is t) (theDollars d) (dollars_are d) (theCents c) (cents_are c)
-
--- LOST enum-told
--- -- the first else: Sign::Missing
--- enum_told : tie.Need-enum-told
--- enum_told c = search rules
--- 
+range : (c : goal.In-Found-cents) → 100 * c.in-Found-dollars.dollars + c.in-Found-cents.cents ≤ 999999999999
+range c = in_range c.args.field.now (record { value = c.in-Found.is_minus; next = c.in-Found.after_sign.at })
+    (sign_is c.args.field.now c.start.result.at c.blanks.result.at c.sign.result c.start.ensures c.blanks.ensures c.sign.ensures c.in-Found.is) (record { value = c.in-Found-dollars.dollars; next = c.in-Found-dollars.after_dollars.at })
+    (number-found c.dollars.ensures c.in-Found-dollars.is) (record { value = c.in-Found-cents.cents; next = c.in-Found-cents.after_cents.at })
+    (number-found c.cents.ensures c.in-Found-cents.is)
 
 -- the first return: no sign
 pub returns-in_default : goal.returns-in_default
-returns-in_default c = let p = c in let s = p.args.field.now in
-    answered s c.refused.result none c.refused.ensures
-    (no_sign s (sym (past_blanks_lem p) ∙ ap sign_part c.enum_told-1.given.1))
-
--- LOST enum-told-2
--- -- the second else: Number::Missing
--- enum-told-2 : tie.Need-enum-told-2
--- enum-told-2 c = search rules
--- 
+returns-in_default c = answered c.args.field.now c.refused.result none c.refused.ensures
+    (no_sign c.args.field.now (sym (sign_as c.args.field.now c.start.result.at c.blanks.result.at c.sign.result c.start.ensures c.blanks.ensures c.sign.ensures) ∙ ap sign_part c.in_default.is))
 
 -- the second return: no dollars
 pub returns-in_default-dollars : goal.returns-in_default-dollars
-returns-in_default-dollars c = let p = c in let t = p in
-    answered (text t) c.refused-in_default-dollars.result none c.refused-in_default-dollars.ensures
-    (no-dollars (text t) (theSign t) (sign_is t) (sym p.dollars.ensures ∙ ap number_part c.enum_told-in_default-dollars-1.given.1))
-
--- LOST enum-told-3
--- -- the third else: Number::Missing
--- enum-told-3 : tie.Need-enum-told-3
--- enum-told-3 c = search rules
--- 
+returns-in_default-dollars c =
+    answered c.args.field.now c.refused-in_default-dollars.result none c.refused-in_default-dollars.ensures
+    (no-dollars c.args.field.now (record { value = c.in-Found.is_minus; next = c.in-Found.after_sign.at })
+    (sign_is c.args.field.now c.start.result.at c.blanks.result.at c.sign.result c.start.ensures c.blanks.ensures c.sign.ensures c.in-Found.is)
+    (sym c.dollars.ensures ∙ ap number_part c.in_default-dollars.is))
 
 -- the third return: no cents
 pub returns-in_default-cents : goal.returns-in_default-cents
-returns-in_default-cents c = let p = c in let d = p in let t = told d in
-    answered (text t) c.refused-in_default-cents.result none c.refused-in_default-cents.ensures
-    (no-cents (text t) (theSign t) (sign_is t) (theDollars d) (dollars_are d)
-    (sym p.cents.ensures ∙ ap number_part c.enum_told-in_default-cents-1.given.1))
+returns-in_default-cents c =
+    answered c.args.field.now c.refused-in_default-cents.result none c.refused-in_default-cents.ensures
+    (no-cents c.args.field.now (record { value = c.in-Found.is_minus; next = c.in-Found.after_sign.at })
+    (sign_is c.args.field.now c.start.result.at c.blanks.result.at c.sign.result c.start.ensures c.blanks.ensures c.sign.ensures c.in-Found.is) (record { value = c.in-Found-dollars.dollars; next = c.in-Found-dollars.after_dollars.at })
+    (number-found c.dollars.ensures c.in-Found-dollars.is)
+    (sym c.cents.ensures ∙ ap number_part c.in_default-cents.is))
 
 -- the fourth return: after_cents.at != field.len()
 pub returns-then-after_cents-field : goal.returns-then-after_cents-field
-returns-then-after_cents-field c = let k = c in let d = told2 k in let t = told d in
-    answered (text t) c.refused-then-after_cents-field.result none c.refused-then-after_cents-field.ensures
-    (something-after (text t) (theSign t) (sign_is t) (theDollars d) (dollars_are d) (theCents k) (cents_are k) c.if-after_cents-field.true)
+returns-then-after_cents-field c =
+    answered c.args.field.now c.refused-then-after_cents-field.result none c.refused-then-after_cents-field.ensures
+    (something-after c.args.field.now (record { value = c.in-Found.is_minus; next = c.in-Found.after_sign.at })
+    (sign_is c.args.field.now c.start.result.at c.blanks.result.at c.sign.result c.start.ensures c.blanks.ensures c.sign.ensures c.in-Found.is) (record { value = c.in-Found-dollars.dollars; next = c.in-Found-dollars.after_dollars.at })
+    (number-found c.dollars.ensures c.in-Found-dollars.is) (record { value = c.in-Found-cents.cents; next = c.in-Found-cents.after_cents.at })
+    (number-found c.cents.ensures c.in-Found-cents.is) c.if-after_cents-field.true)
 
 -- 100 * dollars
 pub overflow_mul-dollars : goal.overflow_mul-dollars
@@ -150,7 +128,10 @@ signed-requires c = range (goal.at.signed-requires c).In-Found-cents
 
 -- reading::signed(is_minus, 100 * dollars + cents)
 pub returns : goal.returns
-returns c = let k = c in let d = told2 k in let t = told d in
-    answered (text t) c.signed.result (with_minus (theSign t).value (100 * (theDollars d).value + (theCents k).value))
+returns c =
+    answered c.args.field.now c.signed.result (with_minus c.in-Found.is_minus (100 * c.in-Found-dollars.dollars + c.in-Found-cents.cents))
     c.signed.ensures
-    (nothing-after (text t) (theSign t) (sign_is t) (theDollars d) (dollars_are d) (theCents k) (cents_are k) c.if-after_cents-field.false)
+    (nothing-after c.args.field.now (record { value = c.in-Found.is_minus; next = c.in-Found.after_sign.at })
+    (sign_is c.args.field.now c.start.result.at c.blanks.result.at c.sign.result c.start.ensures c.blanks.ensures c.sign.ensures c.in-Found.is) (record { value = c.in-Found-dollars.dollars; next = c.in-Found-dollars.after_dollars.at })
+    (number-found c.dollars.ensures c.in-Found-dollars.is) (record { value = c.in-Found-cents.cents; next = c.in-Found-cents.after_cents.at })
+    (number-found c.cents.ensures c.in-Found-cents.is) c.if-after_cents-field.false)

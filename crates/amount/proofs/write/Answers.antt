@@ -3,7 +3,6 @@ use Prim.Native.Nat.{ℕ, ◌+◌, ◌-◌, ◌≤◌}
 use mathlib.Core.Path.{◌≡◌, refl, ◌∙◌, ap}
 use mathlib.Core.List.{List, ◌++◌, append_assoc}
 use native.Mathlib.Omega.{arith}
-use borrow.Author.Rules.{rules}
 use lib.IntN.{ℤ, nat_abs}
 use lib.ListN.{length, drop, replicate, length-replicate, replicate-append-replicate}
 use lib.Seq.{drop_at}
@@ -31,24 +30,22 @@ at_width z w short fits =
 -- ---- the needs
 
 -- the size that the code computes; then the range that it is in, and the length and the text that were written
-sized : (c : goal.After-size_of) → c.type_size.result ≡ nat_abs c.args.cents
-sized c = c.type_size.ensures ∙ ap nat_abs (read_back c.ranges.cents)
+sized : (c : goal.After-size_of) → c.size_of.result ≡ nat_abs c.args.cents
+sized c = c.size_of.ensures ∙ ap nat_abs (read_back c.ranges.cents)
 
 range : (c : goal.After-write_amount-length) → nat_abs c.args.cents ≤ 999999999999
-range c = omega (arith, sized c)
+range c = let e : c.size_of.result ≡ nat_abs c.args.cents = c.size_of.ensures ∙ ap nat_abs (read_back c.ranges.cents) in omega arith
 
 written : (c : goal.After-write_amount-length) → let z = c.args.cents in
     (length (amount_text z) ≤ 14) × (c.write_amount-length.result ≡ length (amount_text z)) × (c.write_amount-length.new.text ≡ amount_field 20 z)
 written c =
-    let s = c in
-    let w = rw (read_back s.ranges.cents) at c.write_amount-length.ensures in
-    (text_fits_14 s.args.cents (range c), w.0, w.1)
+    let w = rw (read_back c.ranges.cents) at c.write_amount-length.ensures in
+    (text_fits_14 c.args.cents (range c), w.length, w.text)
 
 -- Answer::OutOfRange
 pub returns-then-size_of-gt999999999999 : goal.returns-then-size_of-gt999999999999
 returns-then-size_of-gt999999999999 c =
-    let s = c in
-    rw (write_out_of_range s.args.field.now s.args.cents (omega (arith, sized (goal.at.returns-then-size_of-gt999999999999 c).After-size_of))) record {
+    rw (write_out_of_range c.args.field.now c.args.cents (omega (arith, sized (goal.at.returns-then-size_of-gt999999999999 c).After-size_of))) record {
       verdict = refl;
       field = refl;
     }
@@ -68,20 +65,14 @@ put-requires c =
     let w = written (goal.at.put-requires c).After-write_amount-length in
     rw w.2 (amount_field_width 20 c.args.cents (omega (arith, w.0)))
 
--- LOST same-length
--- -- field: &mut [u8]
--- same_length : tie.Need-same-length
--- same_length c = search rules
--- 
-
 -- Answer::Accepted
 pub returns : goal.returns
 returns c =
-    let t = c in
-    let s = t.args in
-    let w = written t in
+    let s = c.args in
+    let r = range (goal.at.returns c).After-write_amount-length in
+    let w = written (goal.at.returns c).After-write_amount-length in
     let fits : length (amount_text s.cents) ≤ length s.field.now = omega (arith, w.0, w.1) in
-    rw (write_accepted_at s.field.now s.cents (range t) fits)
+    rw (write_accepted_at s.field.now s.cents r fits)
     record {
       verdict = refl;
       field = c.put.ensures ∙ rw w.2 (at_width s.cents (length s.field.now) w.0 fits);

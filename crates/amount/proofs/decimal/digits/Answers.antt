@@ -1,6 +1,5 @@
 -- `amount::decimal::digits` meets its contract: as many as are written, and at most twenty are.
 use native.Mathlib.Omega.{arith}
-use borrow.Author.Rules.{rules}
 use Rattle.rules.proofs.Digits.{decimal_at_most_20}
 use Rattle.amount.proofs.decimal.digits.Goals as goal
 

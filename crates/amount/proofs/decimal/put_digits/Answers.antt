@@ -3,7 +3,6 @@ use Prim.Native.Nat.{ℕ, ◌+◌, ◌-◌}
 use mathlib.Core.Path.{◌≡◌}
 use mathlib.Core.List.{List}
 use native.Mathlib.Omega.{arith}
-use borrow.Author.Rules.{rules}
 use lib.ListN.{length, take, drop, replicate}
 use lib.Seq.{sets, length-sets, length-take-le, drop_at}
 use Rattle.whole.proofs.Stores.{stored_to_the_end}
@@ -22,14 +21,8 @@ pub put_text-requires : goal.put_text-requires
 put_text-requires c =
     let w = c.write_digits-first in
     let d = decimal c.args.left in
-    let whole : length w.new.0 ≡ 20 = rw w.ensures.1 (length-sets (replicate 20 0) (20 - length d) d) in
-    omega (arith, w.ensures.0)
-
--- LOST same-length
--- -- field: &mut [u8]
--- same_length : tie.Need-same-length
--- same_length c = search rules
--- 
+    let whole : length w.new.text ≡ 20 = rw w.ensures.text (length-sets (replicate 20 0) (20 - length d) d) in
+    omega (arith, w.ensures.first)
 
 pub returns : goal.returns
 returns c =
@@ -37,5 +30,5 @@ returns c =
     let d = decimal c.args.left in
     let few = decimal_at_most_20 c.args.left in
     let count : 20 - (20 - length d) ≡ length d = omega arith in
-    rw (w.ensures.1, w.ensures.0, count, stored_there d (replicate 20 0) (20 - length d) (omega arith))
+    rw (w.ensures.text, w.ensures.first, count, stored_there d (replicate 20 0) (20 - length d) (omega arith))
     at c.put_text.ensures

@@ -1,6 +1,5 @@
 -- `amount::reading::byte_at` meets its contract: the element, or 0 past the end.
 use mathlib.Core.Path.{sym}
-use borrow.Author.Rules.{rules}
 use lib.ListN.{get_or-eq_default}
 use Rattle.amount.proofs.reading.byte_at.Goals as goal
 

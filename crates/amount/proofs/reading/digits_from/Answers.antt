@@ -1,17 +1,15 @@
 -- `amount::reading::digits_from` meets its contract: so many of the digits that stand there are passed, and they make the value.
-use Prim.Native.Nat.{ℕ, min, ◌+◌, ◌-◌, ◌^◌, ◌≤◌, ◌<◌}
+use Prim.Native.Nat.{ℕ, ◌+◌, ◌-◌, ◌^◌, ◌≤◌, ◌<◌}
 use mathlib.Core.Path.{◌≡◌, refl, sym, ◌∙◌}
 use mathlib.Core.Bool.{true, false}
 use mathlib.Core.List.{List}
-use mathlib.Core.Logic.{⊎_elim}
 use native.Mathlib.Nat.{add-zero, zero-add, pow-le-pow_right, lt_of_lt_of_le}
 use native.Mathlib.Omega.{arith}
-use borrow.Author.Tests.{not-true, not-false}
 use lib.ListN.{length, drop, get_or, length-drop}
 use Rattle.rules.specs.Text.{is_digit, digit_count, digits_value}
 use Rattle.rules.proofs.Digits.{digits_from, digit_range, counted_stand, value_more, value_below_power}
 use Rattle.amount.proofs.reading.digits_from.Goals as goal
-use Rattle.amount.proofs.reading.digits_from.Goals.{At-loop-count, Else-not-is_digit}
+use Rattle.amount.proofs.reading.digits_from.Goals.{At-loop-count, Else-not-is_digit, else-loop-count-test, then-loop-count-test+then-not-is_digit}
 
 -- n digits are passed: what is counted from there on is the rest
 abbrev Passed : List ℕ → ℕ → ℕ → Type 0
@@ -36,7 +34,7 @@ room c = rw (← length-drop c.args.from c.args.field.now) (counted_stand (drop 
 
 -- the byte at hand is a digit, and those passed make less than 10^10
 digit : (c : goal.Else-not-is_digit) → is_digit c.byte_at-byte.result ≡ true
-digit c = sym c.is_digit.ensures ∙ not-false c.is_digit.result c.if-not-is_digit.false-raw
+digit c = sym c.is_digit.ensures ∙ c.if-not-is_digit.false
 
 small : (c : goal.Else-not-is_digit) → c.loop-count.value < 10 ^ 10
 small c = let h = c in
@@ -79,21 +77,18 @@ loop-count-preserved c =
 pub overflow_add-result : goal.overflow_add-result
 overflow_add-result c = omega (arith, room (goal.at.overflow_add-result c).At-loop-count)
 
-pub returns : goal.returns
-returns c =
-    let h = c in
-    let l = h.loop-count in
-    let counted : l.count ≡ min 11 (digit_count (drop h.args.from h.args.field.now)) = ⊎_elim
-    (λ eleven. omega (arith, eleven.left, l.invariant.1))
-    (λ t. omega (
-      arith,
-      t.0.taken,
-      no_more h.args.field.now h.args.from l.count l.invariant.1
-          (rw t.1.ensures at (sym t.2.ensures ∙ not-true t.2.result t.3.taken)),
-    ))
-    c.loop-count-test.branch in
-    record {
-      count = counted;
-      next = refl;
-      value = l.invariant.2;
-    }
+pub returns-clause-count : goal.returns-clause-count
+returns-clause-count c =
+    let l = c.loop-count in
+    elim c.loop-count-test.branch [
+      | else-loop-count-test w ↦ omega arith
+      | then-loop-count-test+then-not-is_digit w ↦ omega (
+        arith,
+        w.loop-count-test.true,
+        no_more c.args.field.now c.args.from l.count l.invariant.1
+            (rw w.byte_at-byte.ensures at (sym w.is_digit.ensures ∙ w.if-not-is_digit.true)),
+      )
+    ]
+
+pub returns-clause-value : goal.returns-clause-value
+returns-clause-value c = c.loop-count.invariant.2

@@ -1,5 +1,5 @@
 -- `amount::text::put_text` meets its contract: the bytes passed stand in their places, the others are as they were.
-use Prim.Native.Nat.{◌+◌, ◌-◌, ◌≤◌}
+use Prim.Native.Nat.{◌+◌, ◌-◌}
 use mathlib.Core.Path.{◌≡◌, refl, sym, ◌∙◌, ap}
 use native.Mathlib.Numerals.{add-one}
 use native.Mathlib.Omega.{arith}
@@ -37,7 +37,7 @@ loop-i-preserved c =
 -- -- field: &mut [u8]
 -- same_length : tie.Need-same-length invariant-loop decreases-loop
 -- same_length c = c.before.loop.invariant.1
--- 
+--
 
 pub returns : goal.returns
 returns c =

@@ -3,7 +3,6 @@ use Prim.Native.Nat.{ℕ, ◌+◌, ◌-◌, ◌≤◌, ◌<◌}
 use mathlib.Core.Path.{◌≡◌, ◌∙◌}
 use mathlib.Core.List.{List, ◌++◌}
 use native.Mathlib.Omega.{arith}
-use borrow.Author.Rules.{rules}
 use lib.ListN.{length, drop, replicate, length-append, length-replicate, length-drop}
 use lib.Seq.{sets, take_at}
 use Rattle.whole.proofs.Stores.{stored_to_the_end}
@@ -37,7 +36,7 @@ module _ (f t : List ℕ) (whole : length t ≡ 20) where
 -- -- field: &mut [u8], where width < 14
 -- same_length : tie.Need-same-length
 -- same_length c = search rules
--- 
+--
 
 -- return, where width < 14
 pub returns-then-width-lt14 : goal.returns-then-width-lt14
@@ -49,7 +48,7 @@ returns-then-width-lt14 c =
 -- -- field: &mut [u8], at the end
 -- same-length-2 : tie.Need-same-length-2
 -- same-length-2 c = search rules
--- 
+--
 
 -- text::put_text(field, width, text, 14), at the end
 pub returns : goal.returns

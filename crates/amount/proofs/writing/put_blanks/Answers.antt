@@ -1,10 +1,8 @@
 -- `amount::writing::put_blanks` meets its contract: the places passed are blank, the others as they were.
-use Prim.Native.Nat.{◌≤◌, ◌-◌}
 use mathlib.Core.Path.{◌≡◌, refl, ◌∙◌, ap}
-use mathlib.Core.List.{◌++◌}
 use native.Mathlib.Omega.{arith}
 use borrow.Author.Fill.{fill_more}
-use lib.ListN.{length, set, replicate, drop, length-set}
+use lib.ListN.{set, length-set}
 use Rattle.amount.proofs.writing.put_blanks.Goals as goal
 
 pub loop-at-init : goal.loop-at-init
@@ -23,7 +21,7 @@ loop-at-preserved c =
 -- -- field: &mut [u8]
 -- same_length : tie.Need-same-length invariant-loop decreases-loop
 -- same_length c = c.before.loop.invariant.1
--- 
+--
 
 pub returns : goal.returns
 returns c =

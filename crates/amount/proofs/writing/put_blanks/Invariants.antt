@@ -1,10 +1,8 @@
 -- `amount::writing::put_blanks` meets its contract: the places passed are blank, the others as they were.
 use Prim.Native.Nat.{◌≤◌, ◌-◌}
-use mathlib.Core.Path.{◌≡◌, refl, ◌∙◌, ap}
+use mathlib.Core.Path.{◌≡◌}
 use mathlib.Core.List.{◌++◌}
-use native.Mathlib.Omega.{arith}
-use borrow.Author.Fill.{fill_more}
-use lib.ListN.{length, set, replicate, drop, length-set}
+use lib.ListN.{length, replicate, drop}
 use Rattle.amount.proofs.writing.put_blanks.Given as goal
 
 abbrev pub invariant-loop-at : goal.invariant-loop-at

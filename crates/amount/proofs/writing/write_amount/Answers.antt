@@ -4,7 +4,6 @@ use mathlib.Core.Path.{◌≡◌, refl, sym, ◌∙◌, ap}
 use mathlib.Core.List.{List, [], ◌∷◌, ◌++◌}
 use native.Mathlib.Nat.{add-zero}
 use native.Mathlib.Omega.{arith}
-use borrow.Author.Rules.{rules}
 use lib.IntN.{ℤ, nat_abs}
 use lib.ListN.{length, take, set, replicate}
 use lib.Seq.{sets, set_comm}
@@ -73,10 +72,10 @@ module _ (z : ℤ) (short : length (amount_text z) ≤ 14) where
 -- ---- the needs
 
 -- the size that the code computes, and how many digits its dollars have
-sized : (c : goal.After-size_of-size) → c.type_size.result ≡ nat_abs c.args.cents
-sized c = c.type_size.ensures ∙ ap nat_abs (read_back c.ranges.cents)
+sized : (c : goal.After-size_of-size) → c.size_of-size.result ≡ nat_abs c.args.cents
+sized c = c.size_of-size.ensures ∙ ap nat_abs (read_back c.ranges.cents)
 
-few : (c : goal.After-size_of-size) → length (decimal (c.type_size.result / 100)) ≤ 10
+few : (c : goal.After-size_of-size) → length (decimal (c.size_of-size.result / 100)) ≤ 10
 few c = let z = c.args.cents in rw (sized c) (omega (arith, text_fits_14 z c.requires.0, text_length z))
 
 pub write_digits-at-requires : goal.write_digits-at-requires
@@ -93,8 +92,8 @@ returns c =
     let z = s.args.cents in
     let short = text_fits_14 z s.requires.0 in
     rw (
-      w.ensures.1,
-      w.ensures.0,
+      w.ensures.text,
+      w.ensures.first,
       c.sign_byte.ensures,
       read_back s.ranges.cents,
       c.last_digit-2.ensures,

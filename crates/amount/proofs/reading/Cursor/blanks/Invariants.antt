@@ -1,12 +1,8 @@
 -- `amount::reading::Cursor::blanks` meets its contract: past the blanks from here is past those from where it began.
-use Prim.Native.Nat.{◌+◌, ◌-◌, ◌<◌}
-use mathlib.Core.Path.{◌≡◌, refl, sym, ◌∙◌}
-use native.Mathlib.Omega.{arith}
-use lib.ListN.{length, get_or}
-use borrow.Author.Tests.{ne_eqb}
+use Prim.Native.Nat.{◌-◌}
+use mathlib.Core.Path.{◌≡◌}
+use lib.ListN.{length}
 use Rattle.rules.specs.Text.{past_blanks}
-use Rattle.rules.proofs.Digits.{stands}
-use Rattle.rules.proofs.Parts.{blanks_from}
 use Rattle.amount.proofs.reading.Cursor.blanks.Given as goal
 
 abbrev pub invariant-loop-at : goal.invariant-loop-at

@@ -54,7 +54,7 @@ returns-then-byte_at-eq48 c =
     let t = c in
     let d = t.digits_from-run in
     let s = t in
-    zero-first s.args.field.now s.args.self.at d.result.count d.ensures.0 t.if-count-gt10.false
+    zero-first s.args.field.now s.args.self.at d.result.count d.ensures.count t.if-count-gt10.false
     (omega (arith, c.if-count-gt1.true))
     (sym c.byte_at.ensures ∙ c.if-byte_at-eq48.true)
 
@@ -65,7 +65,7 @@ returns-else-byte_at-eq48 c =
     let d = t.digits_from-run in
     let s = t in
     let first = get_or s.args.field.now s.args.self.at 0 in
-    rw (d.ensures.1.0, d.ensures.1.1) (found s.args.field.now s.args.self.at d.result.count d.ensures.0
+    rw (d.ensures.next, d.ensures.value) (found s.args.field.now s.args.self.at d.result.count d.ensures.count
     t.if-count-gt10.false t.if-count-eq0.false
     (rw (ne_eqb first 48 (λ e. c.if-byte_at-eq48.false (c.byte_at.ensures ∙ e))) (or-true (eqb d.result.count 1))))
 
@@ -75,6 +75,6 @@ returns-else-count-gt1 c =
     let t = c in
     let d = t.digits_from-run in
     let s = t in
-    rw (d.ensures.1.0, d.ensures.1.1) (found s.args.field.now s.args.self.at d.result.count d.ensures.0
+    rw (d.ensures.next, d.ensures.value) (found s.args.field.now s.args.self.at d.result.count d.ensures.count
     t.if-count-gt10.false t.if-count-eq0.false
     (rw (eq-eqb d.result.count 1 (omega (arith, c.if-count-gt1.false, t.if-count-eq0.false)))))
