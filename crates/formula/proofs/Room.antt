@@ -6,7 +6,7 @@ use lib.ListN.{get_or}
 use Rattle.whole.proofs.Tests.{cond_ind}
 use Rattle.whole.proofs.Ranges.{◌u+◌, u_fits}
 use Rattle.whole.proofs.Sums.{count_most}
-use Rattle.rules.specs.Record.{Hour, member_of, area_of, entry, entry_of, is_load}
+use Rattle.rules.specs.Record.{Hour, member_of, area_of, entry_of, is_load}
 use Rattle.rules.specs.Ufe.{demand}
 use Rattle.rules.specs.Charge.{grains}
 use Rattle.rules.specs.Inner.Posting.{accounted, demand_by, demand_of, tally_after}

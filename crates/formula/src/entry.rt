@@ -5,7 +5,7 @@ ghost use Rattle.rules.specs.Record.{kind_of, is_load};
 use rules::Kind;
 
 // S scheduled, A actual, J adjustment, N ancillary, O obligation, M maximum, F and H the scheduled and the hour-ahead multiplier.
-#[derive(Drop)]
+#[derive(Clone, Copy)]
 pub struct Entry {
     pub kind: Kind,
     pub s: i64,

@@ -2,6 +2,8 @@
 use mathlib.Core.Path.{◌≡◌, refl}
 use mathlib.Core.Logic.{◌≢◌}
 use Prim.Native.Nat.{ℕ, zero, suc}
+use native.Mathlib.Omega.{arith}
+use borrow.Author.Rules.{rules}
 use Rattle.rules.specs.declared.Kind.TheVariants.{Unknown}
 use Rattle.rules.specs.Record.{kind_of}
 use Rattle.formula.proofs.entry.kind_of.Goals as goal
@@ -20,30 +22,28 @@ unknown (suc (suc (suc (suc (suc (suc k)))))) a b c d e = refl
 -- 1 => Kind::Generator
 pub returns-in-1 : goal.returns-in-1
 unfolding kind_of
-returns-in-1 c = rw c.in_default.keys1
+returns-in-1 c = rw c.in-1.is
 
 -- 2 => Kind::RealTimeLoad
 pub returns-in-2 : goal.returns-in-2
 unfolding kind_of
-returns-in-2 c = rw c.in_default.keys2
+returns-in-2 c = rw c.in-2.is
 
 -- 3 => Kind::ProfileLoad
 pub returns-in-3 : goal.returns-in-3
 unfolding kind_of
-returns-in-3 c = rw c.in_default.keys3
+returns-in-3 c = rw c.in-3.is
 
 -- 4 => Kind::Import
 pub returns-in-4 : goal.returns-in-4
 unfolding kind_of
-returns-in-4 c = rw c.in_default.keys4
+returns-in-4 c = rw c.in-4.is
 
 -- 5 => Kind::Export
 pub returns-in-5 : goal.returns-in-5
 unfolding kind_of
-returns-in-5 c = rw c.in_default.keys5
+returns-in-5 c = rw c.in-5.is
 
 -- _ => Kind::Unknown
 pub returns-in_default : goal.returns-in_default
-returns-in_default c =
-    let none = c.in_default.rest in
-    unknown c.args.word none.0.0.0.0.1 none.0.0.0.1 none.0.0.1 none.0.1 none.1
+returns-in_default c = unknown c.args.word (search rules) (search rules) (search rules) (search rules) (omega arith)

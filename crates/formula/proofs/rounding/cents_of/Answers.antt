@@ -6,7 +6,6 @@ use lib.Dec.{lit<}
 use lib.IntN.{ℤ, pos}
 use mir.Syntax.{w64}
 use mir.Val.{to_z}
-use borrow.Author.Rules.{rules}
 use Rattle.whole.proofs.Ranges.{u_le}
 use Rattle.whole.proofs.Division.{div_by_more, quot_under, rem_under}
 use Rattle.whole.proofs.Machine.{Num, #, local, quotient, rest, any_under, ◌:+◌, ◌:*◌, ◌:/◌, ◌:%◌, fits, stored, bound, back, read_back, i64_is}
