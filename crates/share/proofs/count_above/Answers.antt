@@ -1,25 +1,12 @@
 -- `share::count_above` meets its contract: after i demands, those of their remainders above the bound are counted.
 use mathlib.Core.Path.{◌≡◌, sym, ◌∙◌, ap}
-use Prim.Native.Nat.{◌+◌, ◌-◌, ◌≤◌}
+use Prim.Native.Nat.{◌+◌}
 use native.Mathlib.Omega.{arith}
 use lib.ListN.{length}
 use Rattle.whole.proofs.Gathering.{count_none}
 use Rattle.share.specs.Steps.{above_before}
 use Rattle.share.proofs.Parts.{above_more, above_few}
 use Rattle.share.proofs.count_above.Goals as goal
-use Rattle.share.proofs.count_above.Goals.{After-one_if_above-count, At-loop-i, Start}
-
--- the turn's remainder is compared
-module _ (c : goal.After-one_if_above-count) where
-  abbrev turn : goal.At-loop-i
-  turn = c
-
-  abbrev start : goal.Start
-  start = turn
-
-  counted : turn.loop-i.count + c.one_if_above-count.result ≡
-      above_before start.args.demands.now start.args.size start.args.bound (turn.loop-i.i + 1)
-  counted = above_more start.pre start.args.bound turn.loop-i.i turn.loop-i.count turn.loop-i.inv.1 c.one_if_above-count.ensures.0
 
 pub loop-i-init : goal.loop-i-init
 loop-i-init c = (omega arith, sym (count_none _))
@@ -34,10 +21,17 @@ nonzero_rem-demands c = c.requires.some
 
 -- count += one_if_above(..)
 pub overflow_add-count : goal.overflow_add-count
-overflow_add-count c = omega (arith, counted c, above_few (start c).requires (start c).args.bound ((turn c).loop-i.i + 1), (start c).well-formed.0.1)
+overflow_add-count c = omega (
+  arith,
+  above_more c.requires c.args.bound c.loop-i.i c.loop-i.count c.loop-i.invariant.1 c.one_if_above-count.ensures.0,
+  above_few c.requires c.args.bound (c.loop-i.i + 1),
+)
 
 pub loop-i-preserved : goal.loop-i-preserved
-loop-i-preserved c = (omega arith, counted c)
+loop-i-preserved c = (
+  omega arith,
+  above_more c.requires c.args.bound c.loop-i.i c.loop-i.count c.loop-i.invariant.1 c.one_if_above-count.ensures.0,
+)
 
 pub returns : goal.returns
 returns c =

@@ -1,11 +1,8 @@
 -- `share::count_above` meets its contract: after i demands, those of their remainders above the bound are counted.
-use mathlib.Core.Path.{◌≡◌, sym, ◌∙◌, ap}
-use Prim.Native.Nat.{◌+◌, ◌-◌, ◌≤◌}
-use native.Mathlib.Omega.{arith}
+use mathlib.Core.Path.{◌≡◌}
+use Prim.Native.Nat.{◌-◌, ◌≤◌}
 use lib.ListN.{length}
-use Rattle.whole.proofs.Gathering.{count_none}
 use Rattle.share.specs.Steps.{above_before}
-use Rattle.share.proofs.Parts.{above_more, above_few}
 use Rattle.share.proofs.count_above.Given as goal
 
 abbrev pub invariant-loop-i : goal.invariant-loop-i

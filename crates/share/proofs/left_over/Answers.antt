@@ -1,27 +1,13 @@
 -- `share::left_over` meets its contract: after i demands, their whole parts are added up, and their remainders above half of t counted.
 use mathlib.Core.Path.{◌≡◌, sym, ◌∙◌, ap}
-use Prim.Native.Nat.{◌+◌, ◌-◌, ◌/◌, ◌≤◌}
+use Prim.Native.Nat.{◌+◌, ◌/◌}
 use native.Mathlib.Omega.{arith}
 use lib.ListN.{length}
-use Rattle.whole.specs.Below.{sum_below}
 use Rattle.whole.proofs.Sums.{sum_none}
 use Rattle.whole.proofs.Gathering.{count_none}
-use Rattle.share.specs.Steps.{whole_of, above_before}
+use Rattle.share.specs.Steps.{above_before}
 use Rattle.share.proofs.Parts.{handed_within, handed_more, handed_all, above_more, above_few}
 use Rattle.share.proofs.left_over.Goals as goal
-use Rattle.share.proofs.left_over.Goals.{After-one_if_above-above, At-loop-i, Start}
-
--- the turn's remainder is compared
-module _ (c : goal.After-one_if_above-above) where
-  abbrev turn : goal.At-loop-i
-  turn = c
-
-  abbrev start : goal.Start
-  start = turn
-
-  counted : turn.loop-i.above + c.one_if_above-above.result ≡
-      above_before start.args.demands.now start.args.size (start.args.t / 2) (turn.loop-i.i + 1)
-  counted = above_more start.pre (start.args.t / 2) turn.loop-i.i turn.loop-i.above turn.loop-i.inv.2 c.one_if_above-above.ensures.0
 
 pub loop-i-init : goal.loop-i-init
 loop-i-init c = (omega arith, sym (sum_none _), sym (count_none _))
@@ -48,16 +34,22 @@ overflow_add-handed c =
 
 -- product % t
 pub nonzero_rem-product : goal.nonzero_rem-product
-nonzero_rem-product c = div-handed c
+nonzero_rem-product c = c.requires.some
 
 -- above += one_if_above(..)
 pub overflow_add-above : goal.overflow_add-above
-overflow_add-above c = omega (arith, counted c, above_few (start c).requires ((start c).args.t / 2) ((turn c).loop-i.i + 1), (start c).well-formed.0.1)
+overflow_add-above c = omega (
+  arith,
+  above_more c.requires (c.args.t / 2) c.loop-i.i c.loop-i.above c.loop-i.invariant.2 c.one_if_above-above.ensures.0,
+  above_few c.requires (c.args.t / 2) (c.loop-i.i + 1),
+)
 
 pub loop-i-preserved : goal.loop-i-preserved
-loop-i-preserved c =
-    let a = (turn c).loop-i in
-    (omega arith, handed_more (start c).requires a.i a.handed a.inv.1, counted c)
+loop-i-preserved c = (
+  omega arith,
+  handed_more c.requires c.loop-i.i c.loop-i.handed c.loop-i.invariant.1,
+  above_more c.requires (c.args.t / 2) c.loop-i.i c.loop-i.above c.loop-i.invariant.2 c.one_if_above-above.ensures.0,
+)
 
 -- size - handed
 pub overflow_sub-units : goal.overflow_sub-units

@@ -1,13 +1,9 @@
 -- `share::left_over` meets its contract: after i demands, their whole parts are added up, and their remainders above half of t counted.
-use mathlib.Core.Path.{◌≡◌, sym, ◌∙◌, ap}
-use Prim.Native.Nat.{◌+◌, ◌-◌, ◌/◌, ◌≤◌}
-use native.Mathlib.Omega.{arith}
+use mathlib.Core.Path.{◌≡◌}
+use Prim.Native.Nat.{◌-◌, ◌≤◌}
 use lib.ListN.{length}
 use Rattle.whole.specs.Below.{sum_below}
-use Rattle.whole.proofs.Sums.{sum_none}
-use Rattle.whole.proofs.Gathering.{count_none}
 use Rattle.share.specs.Steps.{whole_of, above_before}
-use Rattle.share.proofs.Parts.{handed_within, handed_more, handed_all, above_more, above_few}
 use Rattle.share.proofs.left_over.Given as goal
 
 abbrev pub invariant-loop-i : goal.invariant-loop-i

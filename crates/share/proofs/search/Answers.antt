@@ -1,9 +1,9 @@
 -- `share::search` meets its contract: no fewer remainders than units are above `low`, and no more above `high`, which move together.
-use Prim.Native.Nat.{◌-◌, ◌≤◌, ◌<◌}
+use Prim.Native.Nat.{◌-◌, ◌<◌}
 use native.Mathlib.Omega.{arith}
 use lib.ListN.{length}
 use borrow.Author.Tests.{ltb-true, ltb-false}
-use Rattle.share.specs.Steps.{rest_of, Between}
+use Rattle.share.specs.Steps.{rest_of}
 use Rattle.share.proofs.Above.{from_exact, from_low}
 use Rattle.share.proofs.search.Goals as goal
 use Rattle.share.proofs.search.Goals.{Then-high-low-gt1}

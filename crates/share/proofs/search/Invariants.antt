@@ -1,10 +1,6 @@
 -- `share::search` meets its contract: no fewer remainders than units are above `low`, and no more above `high`, which move together.
-use Prim.Native.Nat.{◌-◌, ◌≤◌, ◌<◌}
-use native.Mathlib.Omega.{arith}
-use lib.ListN.{length}
-use borrow.Author.Tests.{ltb-true, ltb-false}
-use Rattle.share.specs.Steps.{rest_of, Between}
-use Rattle.share.proofs.Above.{from_exact, from_low}
+use Prim.Native.Nat.{◌-◌, ◌≤◌}
+use Rattle.share.specs.Steps.{Between}
 use Rattle.share.proofs.search.Given as goal
 
 abbrev pub invariant-loop-spare : goal.invariant-loop-spare

@@ -1,12 +1,9 @@
 -- `share::total` meets its contract: after i turns the sum is that of the first i demands.
-use mathlib.Core.Path.{◌≡◌, sym, ◌∙◌, ap}
-use Prim.Native.Nat.{◌+◌, ◌-◌, ◌≤◌}
-use native.Mathlib.Omega.{arith}
+use mathlib.Core.Path.{◌≡◌}
+use Prim.Native.Nat.{◌-◌, ◌≤◌}
 use lib.ListN.{length}
 use Rattle.whole.specs.Below.{sum_below}
-use Rattle.whole.proofs.Sums.{sum_none, sum_add_one, sum_prefix}
 use Rattle.share.specs.Shareable.{at}
-use Rattle.share.proofs.Parts.{demanded_is}
 use Rattle.share.proofs.total.Given as goal
 
 abbrev pub invariant-loop-i : goal.invariant-loop-i
