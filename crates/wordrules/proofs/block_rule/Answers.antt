@@ -1,6 +1,5 @@
 -- `wordrules::block_rule` meets its contract: the table by its tests.
 use mathlib.Core.Path.{◌∙◌}
-use borrow.Author.Rules.{rules}
 use borrow.Author.Tests.{lt-ltb, le-ltb, ne_eqb}
 use Rattle.rules.specs.Ranges.{block_rule}
 use Rattle.rules.proofs.RuleTables.{block_words}

@@ -1,6 +1,5 @@
 -- `wordrules::head_rule` meets its contract: the tests are the definition's.
 use mathlib.Core.Path.{◌∙◌}
-use borrow.Author.Rules.{rules}
 use borrow.Author.Tests.{lt-ltb, le-ltb}
 use Rattle.rules.specs.Ranges.{head_rule}
 use Rattle.wordrules.proofs.head_rule.Goals as goal

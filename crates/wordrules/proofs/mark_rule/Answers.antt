@@ -1,6 +1,5 @@
 -- `wordrules::mark_rule` meets its contract: the test is the definition's.
 use mathlib.Core.Path.{◌∙◌}
-use borrow.Author.Rules.{rules}
 use borrow.Author.Tests.{eq-eqb, ne_eqb}
 use Rattle.wordrules.proofs.mark_rule.Goals as goal
 

@@ -39,7 +39,7 @@ returns-then-w-eq2 c = rw c.if-w-eq2.true
 -- return keeps(generator_rule(w), v)
 pub returns-then-uses : goal.returns-then-uses
 returns-then-uses c =
-    let at = c in
+    let at = (goal.at.returns-then-uses c).After-uses in
     c.keeps.ensures
     ∙ ap (λ (r : Rule). keeps r at.args.v)
     (c.generator_rule.ensures ∙ sym (as_used at ∙ rw c.if-uses.true))
@@ -47,5 +47,5 @@ returns-then-uses c =
 -- v == 0
 pub returns : goal.returns
 returns c =
-    let at = c in
+    let at = (goal.at.returns c).After-uses in
     sym (ap (λ (r : Rule). keeps r at.args.v) (as_used at ∙ rw c.if-uses.false) ∙ zero_kept _)

@@ -1,6 +1,5 @@
 -- `wordrules::uses` meets its contract: the row of each of the five kinds.
 use mathlib.Core.Path.{sym, ◌∙◌}
-use borrow.Author.Rules.{rules}
 use Rattle.rules.specs.Record.{kind_of}
 use Rattle.rules.specs.Ranges.{rules_of, keeps}
 use Rattle.rules.proofs.RuleTables.{generator_uses, load_uses, export_uses, kind_unknown}

@@ -1,5 +1,5 @@
 -- `wordrules::ten_minutes::generator_rule` meets its contract: the row by its tests.
-use borrow.Author.Tests.{lt-ltb, le-ltb, eq-eqb, ne_eqb}
+use borrow.Author.Tests.{lt-ltb, le-ltb}
 use Rattle.rules.proofs.IntervalTables.{interval_words}
 use Rattle.wordrules.proofs.ten_minutes.generator_rule.Goals as goal
 

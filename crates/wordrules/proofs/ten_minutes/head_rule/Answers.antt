@@ -1,6 +1,5 @@
 -- `wordrules::ten_minutes::head_rule` meets its contract: the tests are the definition's.
 use mathlib.Core.Path.{◌∙◌}
-use borrow.Author.Rules.{rules}
 use borrow.Author.Tests.{lt-ltb, le-ltb}
 use Rattle.rules.specs.Ranges.{ten_minutes_head_rule}
 use Rattle.wordrules.proofs.ten_minutes.head_rule.Goals as goal

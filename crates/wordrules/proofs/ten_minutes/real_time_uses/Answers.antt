@@ -1,5 +1,5 @@
 -- `wordrules::ten_minutes::real_time_uses` meets its contract: the row by its tests.
-use borrow.Author.Tests.{lt-ltb, le-ltb, eq-eqb, ne_eqb}
+use borrow.Author.Tests.{lt-ltb, le-ltb}
 use Rattle.rules.proofs.IntervalTables.{real_time_uses}
 use Rattle.wordrules.proofs.ten_minutes.real_time_uses.Goals as goal
 

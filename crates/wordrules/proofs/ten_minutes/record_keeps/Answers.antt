@@ -1,7 +1,7 @@
 -- `wordrules::ten_minutes::record_keeps` meets its contract: a word in use has the generator's rule, any other is zero.
 use mathlib.Core.Path.{◌≡◌, sym, ◌∙◌, ap}
 use mathlib.Core.Bool.{Bool, cond}
-use Prim.Native.Nat.{ℕ, ◌-◌, ◌≤◌}
+use Prim.Native.Nat.{◌-◌}
 use native.Mathlib.Omega.{arith}
 use lib.ListN.{get_or}
 use Rattle.rules.specs.declared.Kind.TheVariants.{Generator}
@@ -10,15 +10,12 @@ use Rattle.rules.specs.Ranges.{keeps, must_be_zero, ten_minutes_rules_of, ten_mi
 use Rattle.rules.proofs.RuleTables.{zero_kept}
 use Rattle.rules.proofs.IntervalTables.{as_used}
 use Rattle.wordrules.proofs.ten_minutes.record_keeps.Goals as goal
-use Rattle.wordrules.proofs.ten_minutes.record_keeps.Goals.{After-uses, Start}
+use Rattle.wordrules.proofs.ten_minutes.record_keeps.Goals.{After-uses}
 
 -- the rule of a word past the first three
 module _ (c : goal.After-uses) where
-  abbrev start : goal.Start
-  start = c
-
   abbrev rule : Rule
-  rule = ten_minutes_record_rule start.args.members start.args.areas start.args.kind start.args.w
+  rule = ten_minutes_record_rule c.args.members c.args.areas c.args.kind c.args.w
 
   row : rule ≡ cond c.uses.result (get_or (ten_minutes_rules_of Generator) (c.args.w - 3) must_be_zero) must_be_zero
   row = as_used _ _ _ _ (omega arith) ∙ ap (λ (used : Bool). cond used
@@ -42,13 +39,13 @@ returns-then-w-eq2 c = rw c.if-w-eq2.true
 -- return keeps(interval_rule(w), v)
 pub returns-then-uses : goal.returns-then-uses
 returns-then-uses c =
-    let at = c in
+    let at = (goal.at.returns-then-uses c).After-uses in
     c.keeps.ensures
-    ∙ ap (λ (r : Rule). keeps r (start at).args.v)
+    ∙ ap (λ (r : Rule). keeps r at.args.v)
     (c.generator_rule.ensures ∙ sym (row at ∙ rw c.if-uses.true))
 
 -- v == 0
 pub returns : goal.returns
 returns c =
-    let at = c in
-    sym (ap (λ (r : Rule). keeps r (start at).args.v) (row at ∙ rw c.if-uses.false) ∙ zero_kept _)
+    let at = (goal.at.returns c).After-uses in
+    sym (ap (λ (r : Rule). keeps r at.args.v) (row at ∙ rw c.if-uses.false) ∙ zero_kept _)

@@ -1,6 +1,5 @@
 -- `wordrules::ten_minutes::uses` meets its contract: the row of each of the five kinds.
 use mathlib.Core.Path.{sym, ◌∙◌}
-use borrow.Author.Rules.{rules}
 use Rattle.rules.specs.Record.{kind_of}
 use Rattle.rules.specs.Ranges.{ten_minutes_rules_of, keeps}
 use Rattle.rules.proofs.RuleTables.{kind_unknown}

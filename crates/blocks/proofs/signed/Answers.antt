@@ -5,8 +5,8 @@ use Rattle.whole.proofs.Linear.{zr, all2}
 use Rattle.whole.proofs.Machine.{Num, local, #, ◌:-◌, fits, stored, i64_is}
 use Rattle.whole.proofs.Ranges.{upto_pos, u_upto}
 use Rattle.rules.specs.Record.{signed}
-use Rattle.blocks.proofs.signed.Statement.{statement}
-use Rattle.blocks.proofs.signed.Tie as tie
+use Rattle.blocks.proofs.signed.Goals as goal
+use Rattle.blocks.proofs.signed.Goals.{After-wrapping_add_u32}
 
 low : (z w : ℤ) → z ≡ w +ℤ pos 2147483648 → z -ℤ pos 2147483648 ≡ w
 low = all2 _ (λ z w. simp zr (omega arith))
@@ -27,27 +27,17 @@ moved w r few e = split (ltb w 2147483648)
     above : 2147483648 ≤ w → r + 2147483648 ≡ w
     above l = omega arith
 
-wrapping-add-u32-requires : tie.Need-wrapping-add-u32-requires
-wrapping-add-u32-requires c κs = tt
+sum-few : (c : goal.After-wrapping_add_u32) → c.wrapping_add_u32.result < 4294967296
+sum-few c = omega (arith, c.wrapping_add_u32.type_inv)
 
--- std::num::wrapping_add_u32(w, 2147483648) as i64
-cast-result : tie.Need-overflow-cast-result
-cast-result c = omega arith
-
-sum-few : (c : tie.After-wrapping-add-u32) → c.wrapping-add-u32.result < 4294967296
-sum-few c = omega (arith, c.wrapping-add-u32.type-inv)
-
-abbrev less : (c : tie.After-wrapping-add-u32) → Num
+abbrev less : (c : goal.After-wrapping_add_u32) → Num
 less c =
-    let sum = c.wrapping-add-u32.result in
+    let sum = c.wrapping_add_u32.result in
     local (i64_is {n = sum} (omega (arith, sum-few c))) (u_upto (upto_pos sum 4294967296 (omega (arith, sum-few c)))) :- # (pos 2147483648)
 
 -- (std::num::wrapping_add_u32(w, 2147483648) as i64) - 2147483648
-sub-result : tie.Need-overflow-sub-result
-sub-result c = fits (less c) tt
+pub overflow_sub-result : goal.overflow_sub-result
+overflow_sub-result c = fits (less c) tt
 
-returns : tie.Need-returns
-returns c = stored (less c) tt ∙ moved c.before.args.w c.wrapping-add-u32.result (omega arith) c.wrapping-add-u32.ensures
-
-pub signed-spec : {M : Type 1} → statement M
-signed-spec = tie.close (tie.spec wrapping-add-u32-requires cast-result sub-result returns)
+pub returns : goal.returns
+returns c = stored (less c) tt ∙ moved c.args.w c.wrapping_add_u32.result (omega arith) c.wrapping_add_u32.ensures.value
