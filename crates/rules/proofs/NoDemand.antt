@@ -1,15 +1,15 @@
 -- Refusal 12, exactly where nobody demands anything and the charges don't add up to 0. Document 02, A1.
 use mathlib.Core.Path.{◌≡◌, refl, sym, ◌∙◌, ap}
 use mathlib.Core.Logic.{◌↔◌}
-use mathlib.Core.Bool.{Bool, true, false, not, ◌&&◌}
-use mathlib.Core.Option.{none, some}
+use mathlib.Core.Bool.{Bool, true, false, not}
+use mathlib.Core.Option.{some}
 use mathlib.Core.List.{List, [], ◌∷◌, ◌++◌, append_assoc}
-use Prim.Native.Nat.{ℕ, ◌<◌, zero-le}
+use Prim.Native.Nat.{ℕ, ◌<◌}
 use native.Mathlib.Omega.{arith}
-use lib.IntN.{ℤ, pos, nat_abs}
+use lib.IntN.{pos, nat_abs}
 use lib.Dec.{eqb}
 use borrow.Author.Tests.{eqb-true, eqb-false, eq-eqb, ne_eqb, not-true}
-use Rattle.whole.specs.Below.{sum_below, total_below}
+use Rattle.whole.specs.Below.{total_below}
 use Rattle.whole.proofs.Tests.{split, both, never_some}
 use Rattle.whole.proofs.Linear.{abs_zero}
 use Rattle.whole.proofs.Sums.{sum_at, sum_ext, sum_zero}
@@ -17,7 +17,6 @@ use Rattle.rules.specs.Record.{Hour, members, entry_of, is_load}
 use Rattle.rules.specs.Charge.{charge}
 use Rattle.rules.specs.Neutrality.{hour_demand, neutrality}
 use Rattle.rules.specs.HourFile.{hour_in}
-use Rattle.rules.specs.Ranges.{hourly_form}
 use Rattle.rules.specs.Refusals.{Row, row, Verdict, accepted, verdict, Buffers, place_zero_if, bad_area, bad_amount, no_demand, no_member}
 use Rattle.rules.specs.Refusals.{too_short, block_rows, word_rows, comparison_rows, sum_rows, form_rows, file_rows, hour_rows, settle_rows}
 use Rattle.rules.specs.Refusals.{explain_rows}

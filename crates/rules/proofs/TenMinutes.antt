@@ -4,11 +4,11 @@ use mathlib.Core.Bool.{true}
 use mathlib.Core.List.{List, [], ◌∷◌}
 use Prim.Native.Nat.{ℕ, zero, suc, ◌≤◌}
 use native.Mathlib.Omega.{arith}
-use lib.IntN.{ℤ, pos, neg_ℤ, nat_abs, +ℤ_idl, *ℤ_comm, *ℤ-zero, ◌+ℤ◌, ◌-ℤ◌, ◌*ℤ◌}
+use lib.IntN.{ℤ, pos, neg_ℤ, nat_abs, +ℤ_idl, *ℤ_comm, *ℤ-zero, ◌+ℤ◌, ◌-ℤ◌}
 use lib.ListN.{length}
 use lib.Dec.{ltb, eqb}
 use borrow.Author.Tests.{ltb-false, eqb-true}
-use Rattle.whole.specs.Below.{count_below, total_below, replacing_first}
+use Rattle.whole.specs.Below.{total_below, replacing_first}
 use Rattle.whole.proofs.Tests.{split}
 use Rattle.whole.proofs.Linear.{zr, all1, all2, all6}
 use Rattle.whole.proofs.Sums.{count_zero}

@@ -2,7 +2,7 @@
 use mathlib.Core.Path.{◌≡◌, refl, sym, ◌∙◌, ap}
 use mathlib.Core.Bool.{true, or-true}
 use mathlib.Core.List.{List, [], ◌∷◌, ◌++◌, append-nil}
-use Prim.Native.Nat.{ℕ, ◌*◌, ◌/◌, ◌%◌, ◌^◌, ◌≤◌, ◌<◌}
+use Prim.Native.Nat.{ℕ, ◌/◌, ◌%◌, ◌^◌, ◌≤◌, ◌<◌}
 use native.Mathlib.Omega.{arith}
 use lib.IntN.{ℤ, pos}
 use lib.Dec.{leb, ltb}
@@ -15,13 +15,13 @@ use Rattle.rules.specs.Record.{Hour, hour_number, members}
 use Rattle.rules.specs.HourFile.{ten_minutes, length_bad}
 use Rattle.rules.specs.Ranges.{ten_minutes_form}
 use Rattle.rules.specs.Refusals.{Verdict, accepted, refused_at, verdict, bad_length, block_rows, form_rows}
-use Rattle.rules.specs.Settling.{is_accepted, read}
+use Rattle.rules.specs.Settling.{is_accepted}
 use Rattle.rules.specs.Text.{bytes, digit_byte}
 use Rattle.rules.specs.TenMinutes.{ten_minutes_in, ten_minutes_charge, settle_ten_minutes}
 use Rattle.rules.specs.Statement.{column, charge_line, sheet_of, charged_lines, refused_line, ten_minutes_statement}
 use Rattle.rules.specs.Inner.Kept.{TenMinutesKept, TenMinutesFileKept}
 use Rattle.rules.specs.Promised.Lines.{lines_of, line_at, SaysRefused}
-use Rattle.rules.specs.Promised.Finals.{AreBytes, member_line_at, charge_column, SaysCounts}
+use Rattle.rules.specs.Promised.Finals.{AreBytes, member_line_at, SaysCounts}
 use Rattle.rules.specs.Promised.TenMinutes.{AcceptsTenMinutes, ShowsCharges, TenMinutesSheet}
 use Rattle.rules.proofs.PartsCut.{lacks, says_refused}
 use Rattle.rules.proofs.Rows.{accepts_when_whole, zero_accepts, form_numbered}

@@ -18,7 +18,7 @@ use Rattle.whole.proofs.Buffers.{get_or_replacing}
 use Rattle.rules.specs.Record.{Hour, hour_number, members, areas}
 use Rattle.rules.specs.Charge.{charge}
 use Rattle.rules.specs.Neutrality.{hour_demand, neutrality, final}
-use Rattle.rules.specs.HourFile.{hourly, length_bad, word, blocks, block_word, record_count, hour_of, hour_in}
+use Rattle.rules.specs.HourFile.{length_bad, word, blocks, block_word, record_count, hour_of, hour_in}
 use Rattle.rules.specs.Ranges.{first_broken, Form, hourly_form, ten_minutes_form}
 use Rattle.rules.specs.Refusals.{Row, row, Verdict, accepted, refused_at, verdict, place_zero_if, Buffers}
 use Rattle.rules.specs.Refusals.{block_rows, word_rows, comparison_rows, sum_rows, form_rows, file_rows, hour_rows}

@@ -71,11 +71,19 @@ module _ (ahead : ℕ → ℕ → Bool) (o : Order ahead) (part : ℕ → Bool) 
   count_served zero k h = omega arith
   count_served (suc n) k h = split (part n)
       (λ t. let more : (i : ℕ) → count_below (λ j. part j && ahead j i) (suc n) ≡ r n i + one_if (ahead n i) = λ i. rw t refl in
-      rw (count_ext (λ i. part i && ltb (count_below (λ j. part j && ahead j i) (suc n)) k) (λ i. part i && ltb (r n i + one_if (ahead n i)) k) n
-      (λ i m. ap (λ (x : ℕ). part i && ltb x k) (more i)), t, o.irrefl n) (step n k (count_served n) (rw t at h)))
+      rw (
+        count_ext (λ i. part i && ltb (count_below (λ j. part j && ahead j i) (suc n)) k) (λ i. part i && ltb (r n i + one_if (ahead n i)) k) n
+            (λ i m. ap (λ (x : ℕ). part i && ltb x k) (more i)),
+        t,
+        o.irrefl n,
+      ) (step n k (count_served n) (rw t at h)))
       (λ f. let same : (i : ℕ) → count_below (λ j. part j && ahead j i) (suc n) ≡ r n i = λ i. rw f (add-zero (r n i)) in
-      rw (count_ext (λ i. part i && ltb (count_below (λ j. part j && ahead j i) (suc n)) k) (λ i. part i && ltb (r n i) k) n
-      (λ i m. ap (λ (x : ℕ). part i && ltb x k) (same i)), f, add-zero) (count_served n k (simp (f, add-zero) at h)))
+      rw (
+        count_ext (λ i. part i && ltb (count_below (λ j. part j && ahead j i) (suc n)) k) (λ i. part i && ltb (r n i) k) n
+            (λ i m. ap (λ (x : ℕ). part i && ltb x k) (same i)),
+        f,
+        add-zero,
+      ) (count_served n k (simp (f, add-zero) at h)))
 
 -- where all take part
 pub served : (ahead : ℕ → ℕ → Bool) → Order ahead → (n k : ℕ) → k ≤ n → count_below (λ i. ltb (count_below (λ j. ahead j i) n) k) n ≡ k

@@ -1,6 +1,6 @@
 -- Amounts read and written at each limit and one past it, shares by both engines, columns and lines of a statement, as figures.
 -- Document 01, "Text amounts", "The printed statement", "The sums"; document 02, A14.
-use Rattle.std.specs.Prelude.{ℕ, Bool, true, not, List, [], ◌∷◌, ◌++◌, ℤ, pos, neg_ℤ, length, get_or, replicate, eqb}
+use Rattle.std.specs.Prelude.{ℕ, Bool, not, List, [], ◌∷◌, ◌++◌, ℤ, pos, neg_ℤ, length, get_or, replicate, eqb}
 use Rattle.whole.specs.Below.{values_below}
 use Rattle.rules.specs.HourFile.{hourly}
 use Rattle.rules.specs.HourWords.{hour_from}
