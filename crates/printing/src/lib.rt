@@ -1,5 +1,7 @@
 // The lines of a statement (document 01, "The printed statement") and of an explanation as bytes, from numbers and answers alone: each is
 // put into a lent slice, and the place after it is handed back.
+#![tactic(auto)]
+
 ghost use Rattle.std.specs.Prelude.{◌+◌, ◌≤◌, ◌<◌, nat_abs, length};
 ghost use Rattle.rules.specs.Refusals.{refused_at, verdict_of};
 ghost use Rattle.rules.specs.Statement.{first_line, column, member_line, refused_line, charge_line};
