@@ -51,7 +51,7 @@ pub fn record(file: &[u8], i: usize) -> &[u8]
 
 // What the stages take from the head: how many members, areas and records there are, and each area's zone price, 0 past the areas. It is
 // read once and handed on by value.
-#[derive(Drop)]
+#[derive(Clone, Copy)]
 pub struct Head {
     pub members: usize,
     pub areas: usize,

@@ -1,0 +1,19 @@
+-- `hour::entry_of` meets its contract: the record's part has the record's numbers.
+use mathlib.Core.Path.{◌∙◌}
+use Rattle.hour.proofs.Inside.{record_inside}
+use Rattle.hour.proofs.Rows.{PartOf, part_length, part_entry}
+use Rattle.hour.proofs.entry_of.Goals as goal
+use Rattle.hour.proofs.entry_of.Goals.{After-record}
+
+module _ (c : goal.After-record) where
+  own : PartOf c.args.file.now c.args.i c.record.result.now
+  own = record { kept = c.requires.0; there = c.requires.1; part = c.record.ensures }
+
+pub record-requires : goal.record-requires
+record-requires c = record_inside c.requires.0 c.requires.1
+
+pub entry_in-requires : goal.entry_in-requires
+entry_in-requires c = part_length (own c)
+
+pub returns : goal.returns
+returns c = c.entry_in.ensures ∙ part_entry (own (goal.at.returns c).After-record)
