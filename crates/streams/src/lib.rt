@@ -1,46 +1,77 @@
-// What the programs read and print with. What fails is said on standard error: a program cannot set its exit status.
-ghost use Rattle.std.specs.Prelude.{length};
-ghost use Rattle.libc.specs.Io.{Moved};
+// What the programs read and print with, at any reader and any writer. What fails is said on standard error, and the exit status stays 0.
+#![tactic(auto)]
 
-use libc::{STDERR_FILENO, STDOUT_FILENO};
+ghost use Rattle.std.specs.Prelude.{◌≡◌, ◌<◌, IfOk, IfErr, OnOk, IfSome, length, take};
+ghost use Rattle.std.specs.Fmt.{signed_decimal};
+ghost use Rattle.std.specs.Io.{ReadsAtMost};
+ghost use Rattle.std.specs.Io.KnownBytes.{Appends, Consumes, IsAtEnd};
+ghost use Rattle.streams.specs.Failed.{OfInput, OfOutput};
 
-// Reads what `name` names until it ends, which a read of no bytes tells, or `file` is full. It answers as `libc::read` does: -1 where a
-// read failed, else how many bytes it put at the start of `file`.
-pub fn read_all(descriptor: i32, name: &[u8], file: &mut [u8]) -> isize
-    ensures { Moved (length file.new) result }
+use std::io;
+use std::io::{Read, Write};
+
+// Which of a program's two streams failed, and why.
+#[derive(Clone, Copy, Debug)]
+pub enum Trouble {
+    Input(io::Error),
+    Output(io::Error),
+}
+
+// Reads what is left until it ends, which a read of no bytes tells, or `room` is full, and answers how many bytes it put at the start of
+// `room`.
+pub fn read_all<R: Read>(input: &mut R, room: &mut [u8]) -> Result<usize, Trouble>
+    ensures bound { ReadsAtMost result room.new }
+    ensures bytes { IfOk result (λ n. Consumes (R.remaining input.old) (R.remaining input.new) (take n room.new)) }
+    ensures whole { IfOk result (λ n. n < length room.new → IsAtEnd (R.remaining input.new)) }
+    ensures failed { IfErr result OfInput }
 {
     let mut length = 0;
-    while length < file.len() {
-        let got = libc::read(descriptor, &mut file[length..]);
-        if got < 0 {
-            os::fail(name);
-            return -1;
-        }
-        let more = io::count(got, &file[length..]);
+    while length < room.len() {
+        let more = input.read(&mut room[length..]).map_err(Trouble::Input)?;
         if more == 0 {
-            return length as isize;
+            return Ok(length);
         }
         length += more;
     }
-    length as isize
+    Ok(length)
 }
 
-// A failure is said once: standard error is closed after it.
-fn say_unless(written: bool) {
-    if !written {
-        os::fail(b"standard output");
-        libc::close(STDERR_FILENO);
-    }
-}
-
-pub fn print(text: &[u8]) {
-    say_unless(io::write_all(STDOUT_FILENO, text));
+pub fn print<W: Write>(output: &mut W, text: &[u8]) -> Result<(), Trouble>
+    ensures bytes { OnOk result (Appends (W.contents output.old) (W.contents output.new) text.now) }
+    ensures failed { IfErr result OfOutput }
+{
+    output.write_all(text).map_err(Trouble::Output)
 }
 
 // A number whole, with its minus.
-pub fn print_signed(number: i64) {
-    if number < 0 {
-        print(b"-");
+pub fn print_signed<W: Write>(output: &mut W, number: i64) -> Result<(), Trouble>
+    ensures bytes { OnOk result (Appends (W.contents output.old) (W.contents output.new) (signed_decimal number)) }
+    ensures failed { IfErr result OfOutput }
+{
+    write!(output, "{number}").map_err(Trouble::Output)
+}
+
+// Says what failed, as far as it can be said.
+pub fn tell<R: Eprint + Alloc>(rt: &R, done: Result<(), Trouble>) {
+    let said = match done {
+        Ok(()) => Ok(()),
+        Err(Trouble::Input(why)) => say(rt, "standard input", why),
+        Err(Trouble::Output(why)) => say(rt, "standard output", why),
+    };
+    let _ = said;
+}
+
+// A line: the stream and the system's words.
+fn say<R: Eprint + Alloc>(rt: &R, stream: &str, why: io::Error) -> io::Result<()> {
+    let text = format!(in rt.alloc(); "{why}")?;
+    let words = without_number(text.as_str());
+    eprintln!(rt; "{stream}: {words}")
+}
+
+// What stands before an error's number, as std shows it behind the system's words.
+fn without_number(text: &str) -> &str {
+    match text.split_once(" (os error ") {
+        Some((words, _)) => words,
+        None => text,
     }
-    say_unless(io::print_decimal(STDOUT_FILENO, whole::size_of(number)));
 }
