@@ -30,8 +30,7 @@ fn head_number(decided: Found) -> u64
 }
 
 // Explains a member's charge.
-#[unsafe(no_mangle)]
-pub extern "C" fn sneupelaar_explain(file: &[u8], member: u32) -> NumberedExplained
+pub fn sneupelaar_explain(file: &[u8], member: u32) -> NumberedExplained
     ensures { explanation_of result ≡ Explanation.explain file.now member }
 {
     let explained = crate::explain(file, member);

@@ -56,8 +56,7 @@ fn numbered(settled: Settled) -> NumberedSettled
 }
 
 // Settling for programs in C: the answer goes out as its number and place.
-#[unsafe(no_mangle)]
-pub extern "C" fn sneupelaar_settle(
+pub fn sneupelaar_settle(
     file: &[u8],
     lines: &mut [Line],
     charges: &mut [i64],
@@ -74,8 +73,7 @@ pub extern "C" fn sneupelaar_settle(
 }
 
 // Writes an amount of cents into the whole field.
-#[unsafe(no_mangle)]
-pub extern "C" fn sneupelaar_write(cents: i64, field: &mut [u8]) -> NumberedAnswer
+pub fn sneupelaar_write(cents: i64, field: &mut [u8]) -> NumberedAnswer
     ensures { written result field.new ≡ Settling.write field.old cents }
 {
     let answer = amount::write(cents, field);
@@ -86,8 +84,7 @@ pub extern "C" fn sneupelaar_write(cents: i64, field: &mut [u8]) -> NumberedAnsw
 }
 
 // Reads the amount that stands in the whole field.
-#[unsafe(no_mangle)]
-pub extern "C" fn sneupelaar_read(field: &[u8]) -> NumberedReading
+pub fn sneupelaar_read(field: &[u8]) -> NumberedReading
     ensures { read_amount result ≡ Settling.read field.now }
 {
     let reading = amount::read(field);
@@ -100,8 +97,7 @@ pub extern "C" fn sneupelaar_read(field: &[u8]) -> NumberedReading
 }
 
 // The block reader: which bytes of the file are the body of a block.
-#[unsafe(no_mangle)]
-pub extern "C" fn sneupelaar_body(file: &[u8], block: usize) -> Part
+pub fn sneupelaar_body(file: &[u8], block: usize) -> Part
     ensures part { result ≡ body_part file.now block }
     ensures bytes { take result.length (drop result.from file.now) ≡ body hourly file.now block }
 {

@@ -12,8 +12,7 @@ pub struct NumberedAnswer {
 }
 
 // Settles a ten-minute file.
-#[unsafe(no_mangle)]
-pub extern "C" fn sneupelaar_settle_ten_minutes(file: &[u8], charges: &mut [i64]) -> NumberedAnswer
+pub fn sneupelaar_settle_ten_minutes(file: &[u8], charges: &mut [i64]) -> NumberedAnswer
     ensures { settlement result charges.new ≡ settle_ten_minutes file.now charges.old }
 {
     let answer = crate::settle(file, charges);

@@ -15,8 +15,7 @@ pub struct NumberedFiled {
 }
 
 // Writes the hour file of a head and records at the start of the buffer.
-#[unsafe(no_mangle)]
-pub extern "C" fn sneupelaar_write_hour(
+pub fn sneupelaar_write_hour(
     head: &[u32],
     records: &[u32],
     file: &mut [u8],
