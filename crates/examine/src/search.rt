@@ -17,7 +17,7 @@ ghost use Rattle.examine.specs.Sources.{file_record, FileRecordThere, list_recor
 use rules::{Answer, Found, Mode};
 
 // Where an hour's words stand: in the blocks of a file, or in a head and records as lists.
-#[derive(Drop)]
+#[derive(Clone, Copy)]
 pub enum Source {
     File,
     Lists,
