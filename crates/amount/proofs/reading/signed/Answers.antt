@@ -4,7 +4,6 @@ use mathlib.Core.Path.{◌≡◌, refl, sym, ap}
 use mathlib.Core.Bool.{true}
 use mathlib.Core.Option.{some}
 use native.Mathlib.Omega.{arith}
-use borrow.Author.Tests.{not-true, not-false}
 use lib.IntN.{ℤ, pos, neg_ℤ, ◌-ℤ◌}
 use Rattle.whole.proofs.Linear.{zr, all1}
 use Rattle.whole.proofs.Machine.{Num, local, #, ◌:-◌, fits, stored, i64_is}
@@ -28,14 +27,14 @@ pub returns-then-not-is_minus : goal.returns-then-not-is_minus
 unfolding with_minus
 returns-then-not-is_minus c =
     let s = c in
-    rw (not-true s.args.is_minus c.if-not-is_minus.true-raw, i64_is {n = s.args.size} (omega arith))
+    rw (c.if-not-is_minus.true, i64_is {n = s.args.size} (omega arith))
 
 -- return refused()
 pub returns-then-size-eq0 : goal.returns-then-size-eq0
 unfolding with_minus
 returns-then-size-eq0 c =
     let s = c in
-    rw (not-false s.args.is_minus c.if-not-is_minus.false-raw, c.if-size-eq0.true) c.refused.ensures
+    rw (c.if-not-is_minus.false, c.if-size-eq0.true) c.refused.ensures
 
 -- -(size as i64)
 pub overflow_sub-result : goal.overflow_sub-result
@@ -46,7 +45,7 @@ pub returns : goal.returns
 returns c =
     let s = c in
     rw (
-      not-false s.args.is_minus c.if-not-is_minus.false-raw,
+      c.if-not-is_minus.false,
       minus-some s.args.size c.if-size-eq0.false,
       stored (minus s.args.size s.requires) tt,
     )

@@ -2,10 +2,10 @@
 -- the end.
 use Prim.Native.Nat.{ℕ, ◌+◌, ◌-◌, ◌*◌, ◌<◌}
 use mathlib.Core.Path.{◌≡◌, sym, ◌∙◌}
-use mathlib.Core.Bool.{Bool, true, false, not, and-false}
+use mathlib.Core.Bool.{Bool, true, false, and-false}
 use mathlib.Core.List.{List}
 use native.Mathlib.Omega.{arith}
-use borrow.Author.Tests.{not-true, not-false, ne_eqb}
+use borrow.Author.Tests.{ne_eqb}
 use lib.ListN.{length, drop, get_or}
 use lib.Seq.{get_or-drop}
 use Rattle.rules.specs.Text.{is_digit, digits_value, cents_at}
@@ -24,22 +24,22 @@ two_digits s at = rw (first_byte s (at + 1), get_or-drop (at + 1) s 1 0, along) 
     along = omega arith
 
 -- what the code's test says of the byte that it read
-a-digit : {b byte : ℕ} {t : Bool} → t ≡ is_digit b → not t ≡ false → b ≡ byte → is_digit byte ≡ true
-a-digit {t = t} e f g = rw g at (sym e ∙ not-false t f)
+a-digit : {b byte : ℕ} {t : Bool} → t ≡ is_digit b → t ≡ true → b ≡ byte → is_digit byte ≡ true
+a-digit e f g = rw g at (sym e ∙ f)
 
-no_digit : {b byte : ℕ} {t : Bool} → t ≡ is_digit b → not t ≡ true → b ≡ byte → is_digit byte ≡ false
-no_digit {t = t} e f g = rw g at (sym e ∙ not-true t f)
+no_digit : {b byte : ℕ} {t : Bool} → t ≡ is_digit b → t ≡ false → b ≡ byte → is_digit byte ≡ false
+no_digit e f g = rw g at (sym e ∙ f)
 
 point : (c : goal.Else-byte_at-ne46) → get_or c.args.field.now c.args.self.at 0 ≡ 46
 point c = sym c.byte_at.ensures ∙ c.if-byte_at-ne46.false
 
 ones : (c : goal.Else-not-is_digit) → let s = c in
     is_digit (get_or s.args.field.now (s.args.self.at + 2) 0) ≡ true
-ones c = a-digit c.is_digit.ensures c.if-not-is_digit.false-raw c.byte_at-ones.ensures
+ones c = a-digit c.is_digit.ensures c.if-not-is_digit.false c.byte_at-ones.ensures
 
 tens : (c : goal.Else-not-is_digit-2) → let s = c in
     is_digit (get_or s.args.field.now (s.args.self.at + 1) 0) ≡ true
-tens c = a-digit c.is_digit-2.ensures c.if-not-is_digit-2.false-raw c.byte_at-tens.ensures
+tens c = a-digit c.is_digit-2.ensures c.if-not-is_digit-2.false c.byte_at-tens.ensures
 
 -- the first return: no b'.'
 pub returns-then-byte_at-ne46 : goal.returns-then-byte_at-ne46
@@ -58,7 +58,7 @@ unfolding cents_at
 returns-then-not-is_digit c = let s = c in
     rw (
       point (goal.at.returns-then-not-is_digit c).Else-byte_at-ne46,
-      no_digit c.is_digit.ensures c.if-not-is_digit.true-raw c.byte_at-ones.ensures,
+      no_digit c.is_digit.ensures c.if-not-is_digit.true c.byte_at-ones.ensures,
       and-false (is_digit (get_or s.args.field.now (s.args.self.at + 1) 0)),
     )
 
@@ -73,7 +73,7 @@ unfolding cents_at
 returns-then-not-is_digit-2 c = rw (
   point (goal.at.returns-then-not-is_digit-2 c).Else-byte_at-ne46,
   ones (goal.at.returns-then-not-is_digit-2 c).Else-not-is_digit,
-  no_digit c.is_digit-2.ensures c.if-not-is_digit-2.true-raw c.byte_at-tens.ensures,
+  no_digit c.is_digit-2.ensures c.if-not-is_digit-2.true c.byte_at-tens.ensures,
 )
 
 -- tens - 48
