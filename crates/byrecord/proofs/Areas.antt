@@ -10,13 +10,13 @@ use lib.IntN.{ℤ, pos, nat_abs}
 use lib.ListN.{length, get_or, take}
 use lib.Seq.{length-take-le, get_or-take}
 use mir.Syntax.{w64}
-use mir.Val.{of_z}
+use mir.Val.{of_z, to_z}
 use borrow.Author.Tests.{lt-ltb, le-ltb, eq-eqb, eqb-true, eqb-false, ltb-true, ltb-false}
 use Rattle.whole.specs.Below.{replacing_first, gathered_below}
 use Rattle.whole.specs.Signed.{with_sign_of}
 use Rattle.whole.proofs.Tests.{split, both}
 use Rattle.whole.proofs.Ranges.{u_fits}
-use Rattle.whole.proofs.Machine.{zero_bits}
+use Rattle.whole.proofs.Machine.{read_back, zero_bits}
 use Rattle.whole.proofs.Sums.{count_most}
 use Rattle.whole.proofs.Gathering.{passer_before, passer_at, gathered_length, gathered_at}
 use Rattle.whole.proofs.Buffers.{get_or_replacing, length_replacing, replacing_ext, replacing_same}
@@ -80,6 +80,10 @@ module _ {s : List ℕ} {a : ℕ} {figure : ℤ} {room : List ℕ} {out : List �
 
   abbrev ranges : HourKept hour
   ranges = p.kept.hour_kept
+
+  -- its UFE is a number of 64 bits
+  pub figure_read : to_z w64 (of_z w64 figure) ≡ figure
+  figure_read = rw p.figure_of (read_back (u_fits (ufe_under ranges a p.there) tt))
 
   -- an area without UFE shares nothing, so that nothing is to be written
   no_ufe_no_share : ufe hour a ≡ pos 0 → (i : ℕ) → i < hour.count → area_of hour i ≡ a → share_of hour i ≡ pos 0

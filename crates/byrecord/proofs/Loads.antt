@@ -14,7 +14,7 @@ use Rattle.whole.proofs.Tests.{split, both}
 use Rattle.whole.proofs.Sums.{count_most}
 use Rattle.whole.proofs.Gathering.{count_none, count_add_one, gathered_none, gathered_next, gathered_length}
 use Rattle.whole.proofs.Filling.{Filled, none_filled, next_filled, passed_over}
-use Rattle.rules.specs.Record.{Hour, area_of, entry, entry_of, is_load}
+use Rattle.rules.specs.Record.{Hour, area_of, is_load}
 use Rattle.rules.specs.Ufe.{in_area, demand}
 use Rattle.rules.specs.HourFile.{word, hour_in}
 use Rattle.rules.specs.Inner.Posting.{demand_by, demand_of}
