@@ -1,6 +1,6 @@
 -- Words stored in a buffer of bytes, one block by the numbers that its front says and the words of its body, and a block at its place in a
 -- file.
-use Rattle.std.specs.Prelude.{ℕ, zero, suc, ◌+◌, ◌-◌, ◌*◌, ◌/◌, ◌%◌, cond, List, [], ◌∷◌, ◌++◌, take, drop, ◌==◌, slice_index, slice_set}
+use Rattle.std.specs.Prelude.{ℕ, zero, suc, ◌+◌, ◌-◌, ◌*◌, ◌/◌, ◌%◌, cond, List, ◌++◌, take, drop, ◌==◌, slice_index, slice_set}
 use Rattle.whole.specs.Below.{sum_below, values_below}
 use Rattle.rules.specs.HourWords.{byte_of, closing, open_block}
 
