@@ -30,7 +30,7 @@ fn ramped(hour: i64, before: i64, next: i64, k: usize) -> i64
 
 // What the six intervals of a record share: its kind, the schedules of this hour, the one before and the next, the hourly reading of a load
 // by profile, and the multipliers. All this is read once a record, so that the compiler tells the kinds apart once a record too.
-#[derive(Drop)]
+#[derive(Clone, Copy)]
 pub struct Shared {
     pub kind: Kind,
     pub hour: i64,
