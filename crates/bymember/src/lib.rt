@@ -1,6 +1,6 @@
 // By member. The members' lines, lent by the caller: each record's grains posted to its member's line, in file order, and each member's
 // charge from its line. No deviation and no share is worked here: the caller has them. A line is moved whole; its sums are `formula`'s.
-// The module `neutrality` goes on from the charges. What lends a line stands here, at the root, as tools/walk needs it.
+// The module `neutrality` goes on from the charges.
 #![tactic(auto)]
 
 ghost use Rattle.std.specs.Prelude.{◌≡◌, ◌≤◌, ◌<◌, length, get_or};

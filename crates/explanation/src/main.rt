@@ -1,19 +1,23 @@
 // Reads four bytes of member number and an hour file from standard input and prints why the member's charge is what it is.
-use libc::STDIN_FILENO;
+#![tactic(auto)]
 
-fn print_explanation(input: &[u8]) {
+use std::io::{Read, Write};
+use streams::Trouble;
+
+fn print_explanation<W: Write>(output: &mut W, input: &[u8]) -> Result<(), Trouble> {
     let mut text = [0u8; report::explanation::LONGEST];
     let length = report::explanation::put_explanation(input, &mut text);
-    streams::print(&text[..length]);
+    streams::print(output, &text[..length])
 }
 
 // One byte more than a member number and the longest file have, so that a longer input is seen.
-fn main() {
-    let mut input = [0u8; 13317];
-    let got = streams::read_all(STDIN_FILENO, b"standard input", &mut input);
-    if got < 0 {
-        return;
-    }
-    let length = io::count(got, &input);
-    print_explanation(&input[..length]);
+fn explain<R: Read, W: Write>(input: &mut R, output: &mut W) -> Result<(), Trouble> {
+    let mut room = [0u8; 13317];
+    let length = streams::read_all(input, &mut room)?;
+    print_explanation(output, &room[..length])
+}
+
+fn main(rt: HostRuntime) {
+    let done = explain(&mut rt.stdin(), &mut rt.stdout());
+    streams::tell(&rt, done);
 }

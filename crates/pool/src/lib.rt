@@ -130,8 +130,7 @@ pub fn settle(
     settled
 }
 
-// The same with lines of its own, one for each member that an hour can have: for callers that want no lines. No
-// struct is lent in its signature, so that a caller needs no walk.
+// The same with lines of its own, one for each member that an hour can have: for callers that want no lines.
 pub fn settle_unlined(
     file: &[u8],
     charges: &mut [i64],

@@ -1,54 +1,76 @@
 // Reads an hour file from standard input and prints its statement. With an argument, whatever it says, it reads hours one behind the
 // other, each with its length in front, and prints a statement for each.
-use libc::STDIN_FILENO;
+#![tactic(auto)]
 
-fn print_statement(file: &[u8]) {
+use std::env::FillError;
+use std::io::{Read, Write};
+use std::rt::Env;
+use streams::Trouble;
+
+fn print_statement<W: Write>(output: &mut W, file: &[u8]) -> Result<(), Trouble> {
     let mut text = [0u8; report::statement::LONGEST];
     let length = report::statement::put_statement(file, &mut text);
-    streams::print(&text[..length]);
+    streams::print(output, &text[..length])
 }
 
-// Settles what comes, up to as many bytes as there is room; false where a read failed.
-fn print_read(room: &mut [u8]) -> bool {
-    let got = streams::read_all(STDIN_FILENO, b"standard input", room);
-    if got < 0 {
-        return false;
-    }
-    let length = io::count(got, room);
-    print_statement(&room[..length]);
-    true
+// Settles what comes, up to as many bytes as there is room.
+fn print_read<R: Read, W: Write>(
+    input: &mut R,
+    output: &mut W,
+    room: &mut [u8],
+) -> Result<(), Trouble> {
+    let length = streams::read_all(input, room)?;
+    print_statement(output, &room[..length])
 }
 
-// The next hour behind its length, a word. False where nothing comes any more, a read failed, or the length is more than there is room
-// for: then as much is read as fits, which is too long for an hour, and nothing behind it.
-fn print_next(room: &mut [u8]) -> bool {
+// The next hour behind its length, a word. False where nothing comes any more, or the length is more than there is room for: then as much
+// is read as fits, which is too long for an hour, and nothing behind it.
+fn print_next<R: Read, W: Write>(
+    input: &mut R,
+    output: &mut W,
+    room: &mut [u8],
+) -> Result<bool, Trouble> {
     let mut front = [0u8; 4];
-    let got = streams::read_all(STDIN_FILENO, b"standard input", &mut front);
-    if got <= 0 {
-        return false;
+    if streams::read_all(input, &mut front)? == 0 {
+        return Ok(false);
     }
     let length = blocks::word(&front, 0) as usize;
     if length > room.len() {
-        print_read(room);
-        return false;
+        print_read(input, output, room)?;
+        return Ok(false);
     }
-    print_read(&mut room[..length])
+    print_read(input, output, &mut room[..length])?;
+    Ok(true)
 }
 
-// A proved loop has to end, and nothing says that the input does. So it counts down from a number that no run uses up.
-fn print_each(room: &mut [u8]) {
-    let mut turns = u64::MAX;
-    while turns > 0 && print_next(room) {
-        turns -= 1;
+// A proved loop has to end, and nothing says that the input does. So it counts up to a number that no run reaches.
+fn print_each<R: Read, W: Write>(
+    input: &mut R,
+    output: &mut W,
+    room: &mut [u8],
+) -> Result<(), Trouble> {
+    for _ in 0..u64::MAX {
+        if !print_next(input, output, room)? {
+            break;
+        }
     }
+    Ok(())
+}
+
+// Whether the program has an argument: there is a first one, or one that is longer than nothing.
+fn is_argued(rt: &impl Env) -> bool {
+    !matches!(rt.arg(1, &mut []), Err(FillError::NotPresent))
 }
 
 // One byte more than the longest file has, so that a longer input is seen.
-fn main() {
+fn main(rt: HostRuntime) {
+    let mut input = rt.stdin();
+    let mut output = rt.stdout();
     let mut room = [0u8; 13313];
-    if os::arg_count() > 1 {
-        print_each(&mut room);
+    let done = if is_argued(&rt) {
+        print_each(&mut input, &mut output, &mut room)
     } else {
-        print_read(&mut room);
-    }
+        print_read(&mut input, &mut output, &mut room)
+    };
+    streams::tell(&rt, done);
 }

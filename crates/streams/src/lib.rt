@@ -23,6 +23,7 @@ pub fn read_all<R: Read>(input: &mut R, room: &mut [u8]) -> Result<usize, Troubl
     ensures bound { ReadsAtMost result room.new }
     ensures bytes { IfOk result (λ n. Consumes (R.remaining input.old) (R.remaining input.new) (take n room.new)) }
     ensures whole { IfOk result (λ n. n < length room.new → IsAtEnd (R.remaining input.new)) }
+    ensures first { IfOk result (λ n. IfSome (R.remaining input.old) (λ xs. take n room.new ≡ take (length room.new) xs)) }
     ensures failed { IfErr result OfInput }
 {
     let mut length = 0;

@@ -1,23 +1,24 @@
 // Charges: grains to the nearest cent, halves to the even one.
-use streams::{print, print_signed};
+use std::io::Write;
+use streams::{Trouble, print, print_signed};
 
-fn show(grains: i64) {
-    print(b"grains ");
-    print_signed(grains);
-    print(b": ");
-    print_signed(formula::posting::cents(grains));
-    print(b" cents\n");
+fn show<W: Write>(output: &mut W, grains: i64) -> Result<(), Trouble> {
+    print(output, b"grains ")?;
+    print_signed(output, grains)?;
+    print(output, b": ")?;
+    print_signed(output, formula::posting::cents(grains))?;
+    print(output, b" cents\n")
 }
 
-pub fn show_charges() {
-    show(4999999);
-    show(5000000);
-    show(-4999999);
-    show(-5000000);
-    show(14999999);
-    show(-14999999);
-    show(15000000);
-    show(-15000000);
-    show(25000000);
-    show(-25000000);
+pub fn show_charges<W: Write>(output: &mut W) -> Result<(), Trouble> {
+    show(output, 4999999)?;
+    show(output, 5000000)?;
+    show(output, -4999999)?;
+    show(output, -5000000)?;
+    show(output, 14999999)?;
+    show(output, -14999999)?;
+    show(output, 15000000)?;
+    show(output, -15000000)?;
+    show(output, 25000000)?;
+    show(output, -25000000)
 }

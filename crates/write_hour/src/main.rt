@@ -1,19 +1,23 @@
 // Reads a head and records as raw words from standard input and prints the hour file that says them, or the line of a refusal.
-use libc::STDIN_FILENO;
+#![tactic(auto)]
 
-fn print_written(input: &[u8]) {
+use std::io::{Read, Write};
+use streams::Trouble;
+
+fn print_written<W: Write>(output: &mut W, input: &[u8]) -> Result<(), Trouble> {
     let mut file = [0u8; report::written::LONGEST];
     let length = report::written::put_written_hour(input, &mut file);
-    streams::print(&file[..length]);
+    streams::print(output, &file[..length])
 }
 
 // One byte more than a head and 250 records have, so that a longer input is seen.
-fn main() {
-    let mut input = [0u8; 12481];
-    let got = streams::read_all(STDIN_FILENO, b"standard input", &mut input);
-    if got < 0 {
-        return;
-    }
-    let length = io::count(got, &input);
-    print_written(&input[..length]);
+fn write<R: Read, W: Write>(input: &mut R, output: &mut W) -> Result<(), Trouble> {
+    let mut room = [0u8; 12481];
+    let length = streams::read_all(input, &mut room)?;
+    print_written(output, &room[..length])
+}
+
+fn main(rt: HostRuntime) {
+    let done = write(&mut rt.stdin(), &mut rt.stdout());
+    streams::tell(&rt, done);
 }
