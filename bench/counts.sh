@@ -1,7 +1,6 @@
 # shellcheck shell=bash
 # counts.sh: sourced by run and growth. Benches, each with the hand compiled its own way, and what they count. Instructions are counted by
-# valgrind on x86-64; on Arm by the kit's emulator, one line of its log an instruction, with the calling loop's few instructions in it.
-# They are counted and not seconds, since a count is the same in every run; the environment is empty, since its size moves the stack, and
+# valgrind. They are counted and not seconds, since a count is the same in every run; the environment is empty, since its size moves the stack, and
 # how the C library copies goes by where the stack is.
 #   counts_ready                            the archive, the hours, and bench `clang`; ends the script where nothing can be counted
 #   counts_build BENCH SHARE COMPILER..     a bench whose hand is compiled by these words, with that share.c
@@ -16,7 +15,7 @@ counts_made=$kit_root/target/bench
 counts_hand=$kit_root/tests/boundary/hand
 
 counts_ready() {
-    if [ "$kit_machine" = x86_64 ] && ! command -v valgrind > /dev/null; then
+    if ! command -v valgrind > /dev/null; then
         echo "bench: valgrind counts the instructions, and it is not installed" >&2
         exit 2
     fi
@@ -57,17 +56,8 @@ counts_alike() {
 counts_of() {
     local function=sneupelaar_$3 words=("$counts_made/$1/bench" "$counts_made" "$2" "$4")
     [ "$4" = rattle ] || function=hand_$3
-    if [ "$kit_machine" = x86_64 ]; then
-        env -i "$(command -v valgrind)" --tool=callgrind --callgrind-out-file=/dev/null --toggle-collect="$function" \
-            "${kit_words[@]}" "${words[@]}" 1 2>&1 | sed -n 's/.*Collected : //p'
-    else
-        echo $(($(counts_traced "${words[@]}" 2) - $(counts_traced "${words[@]}" 1)))
-    fi
-}
-
-counts_traced() {
-    env -i "$kit_tools/bin/qemu-x86_64" -one-insn-per-tb -d exec,nochain -D /dev/stderr "${kit_words[@]:1}" "$@" 2>&1 > /dev/null |
-        grep -c '^Trace'
+    env -i "$(command -v valgrind)" --tool=callgrind --callgrind-out-file=/dev/null --toggle-collect="$function" \
+        "${kit_words[@]}" "${words[@]}" 1 2>&1 | sed -n 's/.*Collected : //p'
 }
 
 counts_stack() {

@@ -2,7 +2,9 @@
 
 import functools
 import os
+import re
 import select
+import shutil
 import subprocess
 import time
 
@@ -17,6 +19,10 @@ def path_of(name):
 
 
 # ---- Building
+
+# What rt says of all that is well, and what it is about to do.
+WELL = re.compile(r"fn \S+: proved|(?:logic|statements|library|crate|axioms) \S|logic=proved |linked |rt: (?:\w+: begins|chose|running) ")
+
 
 def is_built(name):
     """Whether the program is there, and was proved and built since a source was changed."""
@@ -35,25 +41,55 @@ def newest_source():
 
 
 def build(name):
-    """Proves a program and all that it rests on. Each crate that is done is said, and on a terminal the seconds are shown, so that people
-    see that something happens."""
+    """Proves a program and all that it rests on, and puts it in place. Each crate that is done is said, and on a terminal the seconds are shown,
+    so that people see that something happens. rt runs what it built, on no input, which does no harm."""
     say(f"sneupelaar: proving {name} and all that it rests on, once; this takes some minutes")
-    said, began = [], time.time()
+    said, proved, began = [], Proved(), time.time()
+    folder = os.path.join(ROOT, "crates", name)
     try:
-        with subprocess.Popen(["rt", "check", name], cwd=ROOT, stdin=subprocess.DEVNULL, stdout=subprocess.PIPE,
-                              stderr=subprocess.STDOUT) as checking:
-            for line in lines_from(checking.stdout.fileno(), lambda: PROGRESS.show(f"at work for {time.time() - began:.0f} s")):
-                if not line.startswith("rt: "):
+        with subprocess.Popen(["rt", "run", name], cwd=folder, stdin=subprocess.DEVNULL, stdout=subprocess.PIPE,
+                              stderr=subprocess.STDOUT) as proving:
+            for line in lines_from(proving.stdout.fileno(), lambda: PROGRESS.show(f"at work for {time.time() - began:.0f} s")):
+                if not WELL.match(line):
                     said.append(line)
-                elif "(unchanged since" not in line:
-                    say(f"sneupelaar: {line[4:]}")
+                for done in proved.shown(line):
+                    say(f"sneupelaar: {done}")
     except OSError as error:
         raise Trouble(f"rt, the Rattle toolchain, could not be started: {error.strerror}") from error
     PROGRESS.clear()
-    if checking.returncode != 0 or not os.path.exists(path_of(name)):
+    made = os.path.join(folder, "out", name)
+    if proving.returncode != 0 or not os.path.exists(made):
         raise Trouble("\n".join([*said, f"{name} could not be proved and built"]))
-    # rt leaves a program alone that comes out the same; and a source that was changed in the meantime must be the newer one.
-    os.utime(path_of(name), (began, began))
+    # A source that was changed in the meantime must be the newer one.
+    put(made, path_of(name), began)
+
+
+def put(made, path, began):
+    """Copies a program to its place, whole or not at all: others may start it meanwhile."""
+    os.makedirs(os.path.dirname(path), exist_ok=True)
+    beside = f"{path}.{os.getpid()}"
+    try:
+        shutil.copy(made, beside)
+        os.utime(beside, (began, began))
+        os.replace(beside, path)
+    except OSError as error:
+        raise Trouble(f"{path} could not be written: {error.strerror}") from error
+
+
+class Proved:
+    """What is shown of rt's lines: that a crate is proved, with the seconds since the one before it; and that rt waits for another."""
+
+    def __init__(self):
+        self.crate, self.began = None, time.time()
+
+    def shown(self, line):
+        if match := re.match(r"crate (\w+): modules ", line):
+            self.crate = match[1]
+        elif self.crate and line.startswith("logic=proved "):
+            yield f"{self.crate} proved ({time.time() - self.began:.0f} s)"
+            self.crate, self.began = None, time.time()
+        elif line.startswith("rt: ") and "waiting" in line:
+            yield line[4:]
 
 
 def lines_from(descriptor, waiting):
@@ -72,41 +108,17 @@ def lines_from(descriptor, waiting):
 
 # ---- Starting
 
-def words_before():
-    """The words that a built program is started with. Programs are built for x86-64: there they run as they are, and elsewhere under the
-    kit's emulator, loader and C library, the way rt runs them. rt has no command that runs a program, so the kit's folder is taken from
-    the guide's path that it prints."""
-    machine = os.uname().machine
-    return [] if machine == "x86_64" else emulator_words(machine)
-
-
-@functools.lru_cache(maxsize=None)
-def emulator_words(machine):
-    guide = subprocess.run(["rt", "doc"], check=True, stdout=subprocess.PIPE, text=True).stdout.strip()
-    kit = os.path.join(os.path.dirname(os.path.dirname(guide)), "on", machine, "toolchain")
-    library = os.path.join(kit, "lib")
-    return [os.path.join(kit, "bin", "qemu-x86_64"), os.path.join(library, "ld-linux-x86-64.so.2"), "--library-path", library]
-
-
-def environment():
-    """The emulator's own words are not for the programs."""
-    return {name: value for name, value in os.environ.items() if not name.startswith("QEMU_")}
-
-
 def command(name):
     """The words that start a program, which is proved and built first where that is still to be done."""
     if not is_built(name):
         build(name)
-    try:
-        return [*words_before(), path_of(name)]
-    except (OSError, subprocess.CalledProcessError) as error:
-        raise Trouble("rt, the Rattle toolchain, does not say where its emulator is") from error
+    return [path_of(name)]
 
 
 def printed_by(name, data):
     """What a program prints of these bytes."""
     try:
-        ended = subprocess.run(command(name), input=data, stdout=subprocess.PIPE, env=environment())
+        ended = subprocess.run(command(name), input=data, stdout=subprocess.PIPE)
     except OSError as error:
         raise Trouble(f"{name} could not be started: {error.strerror}") from error
     if ended.returncode != 0 or not ended.stdout:
@@ -124,8 +136,7 @@ class Statements:
 
     def start(self):
         try:
-            self.program = subprocess.Popen([*command("statement"), "each"], stdin=subprocess.PIPE, stdout=subprocess.PIPE,
-                                            env=environment())
+            self.program = subprocess.Popen([*command("statement"), "each"], stdin=subprocess.PIPE, stdout=subprocess.PIPE)
         except OSError as error:
             raise Trouble(f"statement could not be started: {error.strerror}") from error
 

@@ -55,7 +55,7 @@ def function(path):
     if holder[:1].isupper():
         impl = re.search(rf"^impl {holder} \{{\n.*?^\}}$", text, re.M | re.S)
         text, indent = (impl.group() if impl else ""), "    "
-    found = re.search(rf'^{indent}(?:pub )?(?:extern "C" )?fn {re.escape(name)}\(.*?^{indent}\}}$', text, re.M | re.S)
+    found = re.search(rf'^{indent}(?:pub )?(?:extern "C" )?fn {re.escape(name)}(?:<[^()]*>)?\(.*?^{indent}\}}$', text, re.M | re.S)
     return found.group() if found else None
 
 
@@ -70,11 +70,21 @@ def declared_type(path):
     return bool(re.search(rf"^pub (?:struct|enum) {re.escape(path.split('::')[-1])} ", source_of(path), re.M))
 
 
+# What is written of the proof of a function; where none of them stands, the prover finds the whole proof by itself.
+OWN_FILES = ("Invariants.antt", "Answers.antt", "Proof.antt")
+
+
 def has_proof_file(path):
     """Whether a function has a proof file at its own path; a recursive function's folder begins with `+`."""
     crate, *between, name = path.split("::")
     folder = CRATES.joinpath(crate, "proofs", *between)
-    return any((folder / own / "Proof.antt").exists() for own in (name, f"+{name}"))
+    return any((folder / own / file).exists() for own in (name, f"+{name}") for file in OWN_FILES)
+
+
+def clauses(text):
+    """A function's clauses, each with its runs of blanks as one."""
+    head = re.split(r"^ *\{$", text, maxsplit=1, flags=re.M)[0]
+    return [" ".join(clause.split()) for clause in re.findall(r"^ +((?:requires|ensures) (?:.|\n(?! *(?:requires|ensures) ))*)", head, re.M)]
 
 
 def edits():

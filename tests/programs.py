@@ -15,11 +15,12 @@ COMMAND = HERE.parent / "sneupelaar"
 SECONDS = 60
 FULL = "/dev/full"
 sys.path.insert(0, str(HERE.parent / "office"))
-from proved import environment, words_before  # noqa: E402
+import proved  # noqa: E402
+from streams import Trouble  # noqa: E402
 
 
 class Missing(Exception):
-    """There is no such program, or no way to start it."""
+    """There is no such program, and none could be made."""
 
 
 def made(functions):
@@ -33,21 +34,22 @@ def made(functions):
 
 
 def command(name, folder=BUILT):
-    """The words that start a program."""
+    """The words that start a program. One of target/bin is proved and built first, where that is still to be done."""
     program = folder.resolve() / name
+    if folder == BUILT:
+        try:
+            proved.command(name)
+        except Trouble as trouble:
+            raise Missing(str(trouble)) from trouble
     if not program.is_file():
-        raise Missing(f"there is no program {program}: build it first (rt check)")
-    try:
-        is_built = program.read_bytes()[:4] == b"\x7fELF"
-        return [*(words_before() if is_built else []), program]
-    except (OSError, subprocess.CalledProcessError) as error:
-        raise Missing(f"rt does not say where the kit's emulator is: {error}") from error
+        raise Missing(f"there is no program {program}")
+    return [program]
 
 
 def run(words, data):
     """What a program wrote; anything but a quiet end with status 0 counts as a difference."""
     try:
-        ended = subprocess.run(words, input=data, capture_output=True, timeout=SECONDS, env=environment())
+        ended = subprocess.run(words, input=data, capture_output=True, timeout=SECONDS)
     except subprocess.TimeoutExpired:
         return f"not ended after {SECONDS} s\n".encode()
     except OSError as error:
@@ -69,7 +71,7 @@ def ended(words, stdin=subprocess.DEVNULL, stdout=subprocess.PIPE, stderr=subpro
         for descriptor in closing:
             os.close(descriptor)
 
-    run = subprocess.run(words, stdin=stdin, stdout=stdout, stderr=stderr, env=env or environment(), timeout=SECONDS,
+    run = subprocess.run(words, stdin=stdin, stdout=stdout, stderr=stderr, env=env, timeout=SECONDS,
                          preexec_fn=close if closing else None, cwd=cwd)
     return Ended(run.returncode, run.stdout, (run.stderr or b"").decode())
 

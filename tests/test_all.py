@@ -173,6 +173,15 @@ class Gate(unittest.TestCase):
         self.assertNotEqual(status, 0)
         self.assertEqual(printed, ["crates", "count"])
 
+    def test_a_must_fail_edit_is_bad(self):
+        """rt ci passes it; the tests are run all the same."""
+        for edits, status in (("8 refused, 2 bad", 1), ("8 refused", 0)):
+            with self.subTest(edits):
+                self.setUp()
+                ok = f"rt: ok; handles allowed: none; must-fail edits: {edits}; every proof and must-fail edit was done in this run"
+                ended, printed = self.ended(f"echo '{ok}'; echo count", "echo tests")
+                self.assertEqual((ended, printed[-2:]), (status, ["tests", "count"]))
+
     def test_ended_early_no_test_outlives_it(self):
         gate = self.started("echo count", f"cd '{self.folder}'; echo $$ > begun; mv begun process; exec sleep 600")
         self.addCleanup(gate.stdout.close)

@@ -4,7 +4,6 @@ tests/slips.py.
     python3 -m unittest tests/test_compare.py       # a minute
 """
 
-import shutil
 import sys
 import tempfile
 import unittest
@@ -190,23 +189,15 @@ class Noticing(unittest.TestCase):
                                     or wrong.settled(case.hour.data, case.lengths) != case.settled
                                     for case in cases))
 
-    @unittest.skipUnless(shutil.which("rt"), "asks rt where the kit is")
-    def test_built_programs_run_under_the_emulator_on_arm(self):
-        """A script, as those of examples/c are on Arm, runs as it is."""
-        def words_on(machine):
-            with mock.patch("os.uname", return_value=mock.Mock(machine=machine)):
-                return programs.command("statement", Path(folder))
-
+    def test_programs_run_as_they_are(self):
+        """Built ones and scripts; and one that isn't there is said to be missing."""
         with tempfile.TemporaryDirectory() as folder:
             program = Path(folder).resolve() / "statement"
-            program.write_bytes(b"\x7fELF")
-            emulator, loader, option, libraries, last = words_on("aarch64")
-            self.assertEqual((Path(emulator).name, option, last), ("qemu-x86_64", "--library-path", program))
-            for path in (loader, libraries):
-                self.assertIn("aarch64", path)
-            self.assertEqual(words_on("x86_64"), [program])
-            program.write_text("#!/bin/sh\n")
-            self.assertEqual(words_on("aarch64"), [program])
+            for data in (b"\x7fELF", b"#!/bin/sh\n"):
+                program.write_bytes(data)
+                self.assertEqual(programs.command("statement", Path(folder)), [program])
+            with self.assertRaises(programs.Missing):
+                programs.command("charged", Path(folder))
 
 
 if __name__ == "__main__":

@@ -59,10 +59,11 @@ class Slips(unittest.TestCase):
         self.assertEqual({path.stem for path in (ROOT / mutants.SPECS).glob("*.antt") if mutants.slips(path)} - {"Lib"}, names)
 
     def test_a_name_that_the_file_does_not_use_is_brought_in(self):
-        text = "use lib.Dec.{eqb}\n\nabbrev pub half : ℕ\nhalf = size / 2\n"
+        text = "use Rattle.std.specs.Prelude.{eqb}\n\nabbrev pub half : ℕ\nhalf = size / 2\n"
         slip = mutants.Slip("File", 0, 3, 12, 13, "/", "%")
-        self.assertEqual(mutants.with_slip(text, slip), "use lib.Dec.{eqb}\nuse Prim.Native.Nat.{_%_}\n\nabbrev pub half : ℕ\nhalf = size % 2\n")
-        known = text.replace("lib.Dec.{eqb}", "Prim.Native.Nat.{_/_, _%_}")
+        self.assertEqual(mutants.with_slip(text, slip), "use Rattle.std.specs.Prelude.{eqb}\nuse Rattle.std.specs.Prelude.{◌%◌}\n\n"
+                         "abbrev pub half : ℕ\nhalf = size % 2\n")
+        known = text.replace("{eqb}", "{◌/◌, ◌%◌}")
         self.assertEqual(mutants.with_slip(known, slip).count("use "), 1)
 
 

@@ -15,7 +15,6 @@ from pathlib import Path
 
 sys.path.insert(0, str(Path(__file__).resolve().parent))
 import hours  # noqa: E402
-import programs  # noqa: E402
 import second  # noqa: E402
 import to_write  # noqa: E402
 from office_calls import (ANSWERED, CALLS, EXAMPLES, MISSING, PRINTED, REFUSED, ROOT, SEVERAL, SHEET, TROUBLE, Case,  # noqa: E402, F401
@@ -242,7 +241,7 @@ class Words(Case):
                 shutil.copy(PRINTED, name)
             for locale in ({}, {"LC_ALL": "C"}, {"LC_ALL": "C.UTF-8"}):
                 with self.subTest(locale):
-                    self.assertEqual(asked("settle", *names, env={**programs.environment(), **locale}),
+                    self.assertEqual(asked("settle", *names, env={**os.environ, **locale}),
                                      (ANSWERED, under_names(names, [answers()["settle"]] * 3), ""))
             last = names[-1]
             for verb, (words, file) in CALLS.items():

@@ -4,6 +4,7 @@
 """
 
 import os
+import re
 import shutil
 import subprocess
 import sys
@@ -22,24 +23,29 @@ from programs import Ended, ended  # noqa: E402
 class FirstRun(Case):
     """A copy of what the command needs, with nothing built, and an rt of the test's own, which notes how it is called."""
 
-    # Like rt it leaves a program alone that is there already. It waits until somebody heard its first line, where that is asked for.
+    # It is told to prove a program in the crate's folder, as rt wants it, leaves alone a program that is there already, and runs it on its own
+    # input. It waits until somebody heard its first line, where that is asked for.
     RT = """#!/bin/sh
         here='{here}'
         echo "$*" >> "$here/calls"
-        [ "$1" = check ] || {{ echo {guide}; exit 0; }}
-        echo "rt: amount proved (3 s)"
+        [ "$PWD" = "$here/a root/crates/$2" ] || {{ echo "rt: no crate here" >&2; exit 2; }}
+        echo "rt: amount: begins with what a check kept elsewhere"
+        echo "rt: chose --jobs 2 for amount"
+        echo "fn amount::write: proved"
+        echo "library whole: modules loaded=19 checked=0"
+        echo "crate amount: modules loaded=0 checked=37"
+        echo "logic=proved functions=1 target=x86_64-unknown-linux-gnu"
         echo "words of the prover's own"
         for _ in $(seq 100); do [ -e "$here/waits" ] && sleep 0.1; done
-        [ -e "$here/waits" ] && echo "rt: nobody heard it"
-        [ -e "$here/fails" ] && {{ echo "rt: $2 NOT PROVED (exit 1, 4 s)" >&2; exit 1; }}
-        mkdir -p target/bin
-        [ -e "$here/empty" ] || [ -e "target/bin/$2" ] || cp '{built}'/"$2" target/bin/
-        echo "rt: $2 proved (4 s)"
+        [ -e "$here/waits" ] && echo "rt: waiting for somebody who hears it"
+        echo "crate $2: modules loaded=0 checked=37" >&2
+        [ -e "$here/fails" ] && {{ echo "logic=not-proved functions=1" >&2; exit 1; }}
+        echo "logic=proved functions=1 target=x86_64-unknown-linux-gnu" >&2
+        mkdir -p out
+        [ -e "$here/empty" ] || [ -e "out/$2" ] || cp '{built}'/"$2" out/
+        echo "rt: running out/$2; to give it other input, run that file yourself" >&2
+        [ ! -e "out/$2" ] || "out/$2"
     """
-
-    @classmethod
-    def setUpClass(cls):
-        cls.guide = subprocess.run(["rt", "doc"], check=True, stdout=subprocess.PIPE, text=True).stdout.strip()
 
     def setUp(self):
         folder = tempfile.TemporaryDirectory()
@@ -54,11 +60,11 @@ class FirstRun(Case):
         self.path = self.folder / "bin"
         self.path.mkdir()
         rt = self.path / "rt"
-        rt.write_text(self.RT.format(here=self.folder, guide=self.guide, built=ROOT / "target/bin"))
+        rt.write_text(self.RT.format(here=self.folder, built=ROOT / "target/bin"))
         rt.chmod(0o755)
 
     def start(self, *words, path=None):
-        env = {**programs.environment(), "PATH": path or f"{self.path}:{os.environ['PATH']}"}
+        env = {**os.environ, "PATH": path or f"{self.path}:{os.environ['PATH']}"}
         return subprocess.Popen([self.root / "sneupelaar", *words], stdin=subprocess.DEVNULL, stdout=subprocess.PIPE,
                                 stderr=subprocess.PIPE, env=env)
 
@@ -72,15 +78,16 @@ class FirstRun(Case):
         calls = self.folder / "calls"
         lines = calls.read_text().splitlines() if calls.exists() else []
         calls.write_text("")
-        return [line for line in lines if line != "doc"]
+        return lines
 
     def assert_first(self, ended, name, printed):
-        """It is proved, which is said with rt's own lines, and only the answer is printed."""
+        """It is proved, which is said of each crate, and only the answer is printed."""
         self.assertEqual((ended.status, ended.printed), (ANSWERED, printed))
         first, *others = ended.said.splitlines()
         self.assertIn(f"sneupelaar: proving {name} ", first)
-        self.assertEqual(others, ["sneupelaar: amount proved (3 s)", f"sneupelaar: {name} proved (4 s)"])
-        self.assertEqual(self.proved(), [f"check {name}"])
+        self.assertEqual([re.sub(r"\(\d+ s\)\Z", "(N s)", line) for line in others],
+                         ["sneupelaar: amount proved (N s)", f"sneupelaar: {name} proved (N s)"])
+        self.assertEqual(self.proved(), [f"run {name}"])
 
     def assert_not_first(self, ended, printed):
         self.assertEqual(ended, (ANSWERED, printed, ""))
@@ -100,7 +107,7 @@ class FirstRun(Case):
 
     def test_a_verb_that_needs_two(self):
         got = self.ended("unpack", PRINTED)
-        self.assertEqual((got.status, got.printed, self.proved()), (ANSWERED, answers()["unpack"], ["check statement", "check write_hour"]))
+        self.assertEqual((got.status, got.printed, self.proved()), (ANSWERED, answers()["unpack"], ["run statement", "run write_hour"]))
 
     def test_a_ten_minute_file(self):
         """Nothing is proved that is for hourly files alone."""
@@ -115,7 +122,7 @@ class FirstRun(Case):
 
     def test_both_kinds_in_one_call(self):
         got = self.ended("check", TEN_MINUTES, PRINTED)
-        self.assertEqual((got.status, self.proved()), (ANSWERED, ["check ten_minutes", "check statement"]))
+        self.assertEqual((got.status, self.proved()), (ANSWERED, ["run ten_minutes", "run statement"]))
 
     def test_nothing_is_proved_for_what_is_not_understood(self):
         self.assertEqual(self.ended("--help").status, ANSWERED)
@@ -132,7 +139,7 @@ class FirstRun(Case):
         self.assert_first(Ended(command.returncode, printed, (b"".join(heard) + said).decode()), "statement", answers()["settle"])
 
     def test_a_source_that_was_changed(self):
-        """Also where the program comes out the same, so that rt leaves it alone, and where a file was added."""
+        """Also where the program comes out the same, and rt leaves it alone, and where a file was added."""
         self.ended("settle", PRINTED)
         self.proved()
         for source in ("crates/amount/src/lib.rt", "crates.txt", "crates/amount/src/new/more.rt"):
@@ -167,7 +174,7 @@ class FirstRun(Case):
             self.assertEqual((status, printed), (TROUBLE, b""), said)
             self.assertIn("words of the prover's own\n", said)
             self.assertEqual(said.splitlines()[-1], f"{name} could not be proved and built")
-            self.assertEqual(self.proved(), [f"check {name}"])
+            self.assertEqual(self.proved(), [f"run {name}"])
 
     def test_what_is_not_proved(self):
         (self.folder / "fails").touch()
@@ -188,7 +195,6 @@ class FirstRun(Case):
         self.assert_not_proved("statement")
 
     def test_a_program_that_does_not_run(self):
-        """On Arm it is the emulator's loader that says so first."""
         (self.root / "target/bin").mkdir(parents=True)
         for name in PROGRAMS:
             (self.root / "target/bin" / name).write_text("no program\n")

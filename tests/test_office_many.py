@@ -3,7 +3,6 @@
     python3 -m unittest tests/test_office_many.py       # programs from target/bin
 """
 
-import os
 import re
 import subprocess
 import sys
@@ -123,7 +122,6 @@ class Year(Case):
               f"by the mean of {len(self.single)} calls; the fastest of them {min(self.single):.3f} s", file=sys.stderr)
         self.assertLessEqual(took, one_by_one / 10)
 
-    @unittest.skipUnless(os.uname().machine == "x86_64", "elsewhere the programs run under an emulator")
     def test_seconds_of_one(self):
         """Less than ten starts of a Python that does nothing; of each the fastest of ten, by turns."""
         ours, bare = [], []
@@ -136,11 +134,10 @@ class Year(Case):
         self.assertLess(min(ours), 10 * min(bare))
 
     def test_one_program_is_started(self):
-        """Beside it rt at most, which is asked where the emulator is."""
         with tempfile.NamedTemporaryFile() as log:
             words = [sys.executable, "-c", self.STARTS, log.name, str(ROOT / "office"), "settle", "--quiet", *self.paths]
             self.assertEqual(ended(words), (REFUSED, self.printed, ""))
-            starts = [line for line in log.read().decode().splitlines() if "['rt', 'doc']" not in line]
+            starts = log.read().decode().splitlines()
         self.assertEqual(len(starts), 1, starts)
         self.assertIn(f"'{ROOT / 'target/bin/statement'}', 'each'", starts[0])
 

@@ -206,7 +206,7 @@ class OneBehindTheOther(unittest.TestCase):
 
     def test_an_hour_is_answered_before_the_next_one_comes(self):
         """Whoever sends an hour may wait for its statement, and may send it in parts."""
-        with subprocess.Popen(self.words(), stdin=subprocess.PIPE, stdout=subprocess.PIPE, env=programs.environment()) as program:
+        with subprocess.Popen(self.words(), stdin=subprocess.PIPE, stdout=subprocess.PIPE) as program:
             for data in (self.HOUR, self.ONE_BLOCK, b"", self.HOUR):
                 sent, wanted = self.with_length(data), second.statement(data)
                 for at in range(0, len(sent), 300):

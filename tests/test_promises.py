@@ -9,7 +9,7 @@ import unittest
 from pathlib import Path
 
 sys.path.insert(0, str(Path(__file__).resolve().parent))
-from naming import CRATES, ROOT, definition, edits, edits_named, function, law, names, parameters, rows, sections  # noqa: E402
+from naming import CRATES, ROOT, clauses, definition, edits, edits_named, function, law, names, parameters, rows, sections  # noqa: E402
 from naming import texts_edited  # noqa: E402
 
 PROMISES = (ROOT / "docs" / "PROMISES.md").read_text()
@@ -34,13 +34,16 @@ def public_functions(private_modules=False):
             module = "" if source == lib else source.stem
             if module and module not in open_modules and not private_modules:
                 continue
-            for name in re.findall(r'^(?:#\[no_mangle\]\s*)?pub (?:extern "C" )?fn (\w+)', source.read_text(), re.M):
+            for name in re.findall(r'^pub (?:extern "C" )?fn (\w+)', source.read_text(), re.M):
                 found.append((crate, module, name))
     return found
 
 
 def promising_functions():
-    return [(crate, module, name) for crate, module, name in public_functions() if f"{crate}::{name}" not in WITHOUT_A_LAW]
+    """Those with a row and a law; a function that C links is one call of such a function, with the same clauses."""
+    for_c = functions_for_c()
+    return [(crate, module, name) for crate, module, name in public_functions()
+            if f"{crate}::{name}" not in WITHOUT_A_LAW and (crate, module, name) not in for_c]
 
 
 def path_of(crate, module, name):
@@ -53,14 +56,19 @@ LAWS = [path.read_text() for path in sorted((CRATES / "theorems" / "proofs").glo
 
 
 def laws_of(crate, module, name, laws=LAWS):
-    """What the laws `one-…` say of a function: each one's statement, of a file that has the function's reading under a name."""
-    path = re.escape(".".join(part for part in (module, name) if part))
+    """What the laws `one_…` say of a function: each one's statement, of a file that has the function's reading under a name."""
     stated = []
     for text in laws:
-        for alias in re.findall(rf"^use Rattle·{crate}\.proofs\.(?:Port\.)?{path}\.Reads as (\S+)$", text, re.M):
-            for law in re.findall(r"^pub one-\S+ :(?:.|\n    )*", text, re.M):
+        for alias in readings_of(crate, module, name, text):
+            for law in re.findall(r"^pub one_\S+ :(?:.|\n    )*", text, re.M):
                 stated += [law] if f"({alias}.Learnt " in law else []
     return stated
+
+
+def readings_of(crate, module, name, text):
+    """The names under which a file of laws has a function's contract as its callers read it."""
+    path = re.escape(".".join(part for part in (crate, "proofs", module, name) if part))
+    return re.findall(rf"^use Rattle\.{path}\.Reads as (\S+)$", text, re.M)
 
 
 # Where callers enter: besides the functions for C these, of which nothing is asked either.
@@ -74,22 +82,25 @@ def functions_for_c():
     """(crate, module or '', function) for every function that C can call."""
     return [(source.parent.parent.name, "" if source.stem == "lib" else source.stem, name)
             for source in sorted(CRATES.glob("*/src/*.rt"))
-            for name in re.findall(r'^#\[no_mangle\]\npub extern "C" fn (\w+)', source.read_text(), re.M)]
+            for name in re.findall(r'^#\[unsafe\(no_mangle\)\]\npub extern "C" fn (\w+)', source.read_text(), re.M)]
+
+
+def called_for_c(crate, module, name):
+    """(crate, module or '', function) of the function that a function for C calls, which is all that it does."""
+    body = re.search(r"^\{\n    ((?:\w+::)+)(\w+)\(([\w, ]*)\)\n\}\Z", function(path_of(crate, module, name)), re.M)
+    behind, between = body.group(1).rstrip(":").split("::")[0], body.group(1).rstrip(":").split("::")[1:]
+    return body.group(3).split(", "), (behind, "::".join(between), body.group(2))
 
 
 def asks_nothing(crate, module, name, laws=LAWS):
     """Whether a law says of a function's own contract that it asks nothing of its caller."""
-    path, dashed = re.escape(".".join(part for part in (module, name) if part)), name.replace("_", "-")
-    for text in laws:
-        alias = re.search(rf"^use Rattle·{crate}\.proofs\.(?:Port\.)?{path}\.Reads as (\S+)$", text, re.M)
-        if alias and re.search(rf"^pub asks-nothing-{dashed} :(?:.|\n    )*AsksNothing \({re.escape(alias.group(1))}\.Asked ", text, re.M):
-            return True
-    return False
+    return any(re.search(rf"^pub asks_nothing_{name} :(?:.|\n    )*AsksNothing \({re.escape(alias)}\.Asked ", text, re.M)
+               for text in laws for alias in readings_of(crate, module, name, text))
 
 
 def at_exit(law):
     """The parameters whose state at exit a law determines, as their places, in the order of its text."""
-    return [place.count(".1") for place in re.findall(r"\bnow \(s((?: \.1)* \.0)\)", law)]
+    return [place.count(".1") for place in re.findall(r"\bs((?:\.1)*\.0)\.now\b", law)]
 
 
 def fields_of(builder):
@@ -101,8 +112,8 @@ def fields_of(builder):
 def lent_places(path, law):
     """The places of a function's `&mut` parameters: in their order, or in that of the definition by which the law puts them together."""
     places = {name: place for place, (name, kind) in enumerate(parameters(path).items()) if kind.startswith("&mut ")}
-    builder = re.search(r"λ s\.\s+(\w+) \(now \(s ", law)
-    order = fields_of(builder.group(1)) if builder and builder.group(1) != "now" else places
+    builder = re.search(r"λ s\.\s+(\w+) s\.", law)
+    order = fields_of(builder.group(1)) if builder else places
     assert set(order) == set(places), f"{path}: {order} are not the buffers that it is lent"
     return [places[name] for name in order]
 
@@ -124,7 +135,7 @@ class Promises(unittest.TestCase):
                 self.assertEqual(len(laws_of(crate, module, name)), 1)
 
     def test_every_lent_buffer_is_determined(self):
-        """A law has its own `now (…)` of the state at exit for each `&mut` parameter, and for no other."""
+        """A law has its own `….now` of the state at exit for each `&mut` parameter, and for no other."""
         lending = 0
         for crate, module, name in promising_functions():
             with self.subTest(crate=crate, function=name):
@@ -136,9 +147,9 @@ class Promises(unittest.TestCase):
         self.assertGreater(lending, 30)
 
     def test_a_law_without_a_buffer_is_noticed(self):
-        """Each law of settling with one `now (…)` taken out, or two exchanged, is another list of places."""
+        """Each law of settling with one `….now` taken out, or two exchanged, is another list of places."""
         (law,) = laws_of("pool", "", "settle")
-        places = re.findall(r" \(now \(s[^)]*\)\)", law)
+        places = re.findall(r" s(?:\.1)*\.0\.now", law)
         self.assertEqual(len(places), 5)
         for place in places:
             self.assertNotEqual(at_exit(law.replace(place, "")), lent_places("pool::settle", law))
@@ -148,10 +159,23 @@ class Promises(unittest.TestCase):
     def test_nothing_is_asked_of_callers(self):
         for_c = functions_for_c()
         self.assertGreater(len(for_c), 5)
-        for crate, module, name in for_c + ENTRY_POINTS:
+        for crate, module, name in [called_for_c(*each)[1] for each in for_c] + ENTRY_POINTS:
             with self.subTest(crate=crate, function=name):
                 self.assertIsNotNone(function(path_of(crate, module, name)))
                 self.assertTrue(asks_nothing(crate, module, name))
+
+    def test_functions_for_c_promise_what_they_call(self):
+        """Each is the call of a function with its name, of its own parameters in their order, and has that function's clauses."""
+        promising = promising_functions()
+        for each in functions_for_c():
+            with self.subTest(each):
+                given, called = called_for_c(*each)
+                own, other = function(path_of(*each)), function(path_of(*called))
+                self.assertEqual((given, called[2]), ([*parameters(path_of(*each))], each[2]))
+                self.assertEqual(parameters(path_of(*each)), parameters(path_of(*called)))
+                self.assertTrue(clauses(own))
+                self.assertEqual(clauses(own), clauses(other))
+                self.assertIn(called, promising)
 
     def test_every_exception_is_a_function(self):
         there = {f"{crate}::{name}" for crate, module, name in public_functions()}

@@ -77,15 +77,15 @@ class Names(unittest.TestCase):
     """A name says one file."""
 
     def test_a_folder_may_be_said(self):
-        for name in ("Tariff.genDev", "Promised/Tariff.genDev", "rules/Promised/Tariff.genDev", "Demands.ByFormula.ufe-is"):
+        for name in ("Tariff.gen_dev", "Promised/Tariff.gen_dev", "rules/Promised/Tariff.gen_dev", "Demands.ByFormula.ufe_is"):
             self.assertTrue(naming.definition(name), name)
-        for name in ("Inner/Tariff.genDev", "Settling.genDev", "theorems/Tariff.genDev", "Demands.ByFormula.ufe", "Demands.ufe-is"):
+        for name in ("Inner/Tariff.gen_dev", "Settling.gen_dev", "theorems/Tariff.gen_dev", "Demands.ByFormula.ufe", "Demands.ufe_is"):
             self.assertFalse(naming.definition(name), name)
 
     def test_a_file_that_is_there_twice_is_not_said_by_its_name(self):
-        several = [*(naming.CRATES / "bymember" / "proofs").rglob("Tie.antt")]
+        several = [*(naming.CRATES / "share" / "proofs").rglob("Answers.antt")]
         self.assertGreater(len(several), 1)
-        self.assertIsNone(naming.file_of("bymember/Tie.anything", "proofs"))
+        self.assertIsNone(naming.file_of("share/Answers.anything", "proofs"))
 
 
 class Sentences(PageTest):
@@ -126,13 +126,22 @@ class Sentences(PageTest):
     def test_proofs(self):
         for row in RENDERED:
             with self.subTest(number(row)):
-                functions, proved = named_as(row["promised by"], "function"), row["proved"]
-                own = proved.startswith("own file")
-                self.assertEqual(bool(functions), own or proved.startswith("prover alone"))
-                self.assertTrue(functions or naming.names(proved) or proved == "computed by the prover")
-                self.assert_named(proved, "law")
-                for name in functions:
-                    self.assertEqual(naming.has_proof_file(name), own, name)
+                functions, (own, laws) = named_as(row["promised by"], "function"), self.own_files(row)
+                self.assertEqual(bool(functions), own is not None)
+                self.assertTrue(functions or naming.names(laws) or laws == "computed by the prover")
+                self.assert_named(laws, "law")
+                self.assertEqual([name for name in functions if naming.has_proof_file(name)], own or [])
+
+    @staticmethod
+    def own_files(row):
+        """The functions of a row of which the page says that they have a file of their own, in their order, None where it speaks of no
+        function; and what else it says of the proof."""
+        said = re.match(r"own file(?: of (?P<some>`[^`]+`(?:, `[^`]+`)*))?|(?P<none>prover alone)", row["proved"])
+        if said is None:
+            return None, row["proved"]
+        functions = named_as(row["promised by"], "function")
+        own = [] if said["none"] else naming.names(said["some"]) if said["some"] else functions
+        return own, row["proved"][said.end():]
 
     def test_edits(self):
         for row in RENDERED:

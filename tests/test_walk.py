@@ -1,5 +1,5 @@
 """Tests of tools/walk: reading Rattle, the twin, carrying a derivation over, and that a changed made file is noticed. Nothing is derived:
-`python3 tools/walk --check` does that.
+today's check derives by itself.
 
     python3 -m unittest tests/test_walk.py
 """
@@ -345,7 +345,8 @@ class InTheRepository(unittest.TestCase):
             self.assertLessEqual(set(names), set(of.functions(crate)))
 
     def test_every_made_file_says_what_makes_it(self):
-        self.assertGreater(len(self.made()), 30)
+        # today's check derives these functions by itself: nothing that was made is left
+        self.assertEqual(self.made(), {})
         for path, of in self.made().items():
             with self.subTest(path=path):
                 first = path.read_text().split("\n")[0]

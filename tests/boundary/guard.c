@@ -11,7 +11,7 @@
 
 #include "chance.h"
 
-enum { PAGES = 65536 }; /* a multiple of every page size in use, also of the machine below an emulator */
+enum { PAGES = 65536 }; /* a multiple of every page size in use */
 enum { PAINT = 0xDB };
 enum { OUT_OF_BOUNDS = 3, WRONG = 4 };
 
