@@ -2,48 +2,48 @@
 -- print with. A `requires` on one of them is refused here.
 use contract.Lifetimes.{Lfts}
 use Rattle.theorems.specs.Determined.{AsksNothing}
-use Rattle.sneupelaar.proofs.Port.sneupelaar_settle.Reads as sneupelaar-settle
-use Rattle.sneupelaar.proofs.sneupelaar_write.Reads as sneupelaar-write
-use Rattle.sneupelaar.proofs.sneupelaar_read.Reads as sneupelaar-read
-use Rattle.writer.proofs.boundary.sneupelaar_write_hour.Reads as sneupelaar-write-hour
-use Rattle.sneupelaar.proofs.sneupelaar_body.Reads as sneupelaar-body
-use Rattle.explain.proofs.boundary.sneupelaar_explain.Reads as sneupelaar-explain
-use Rattle.tenminutes.proofs.boundary.sneupelaar_settle_ten_minutes.Reads as sneupelaar-settle-ten-minutes
-use Rattle.pool.proofs.Port.settle.Reads as settle
-use Rattle.pool.proofs.settle_unlined.Reads as settle-unlined
+use Rattle.sneupelaar.proofs.sneupelaar_settle.Reads as sneupelaar_settle
+use Rattle.sneupelaar.proofs.sneupelaar_write.Reads as sneupelaar_write
+use Rattle.sneupelaar.proofs.sneupelaar_read.Reads as sneupelaar_read
+use Rattle.writer.proofs.boundary.sneupelaar_write_hour.Reads as sneupelaar_write_hour
+use Rattle.sneupelaar.proofs.sneupelaar_body.Reads as sneupelaar_body
+use Rattle.explain.proofs.boundary.sneupelaar_explain.Reads as sneupelaar_explain
+use Rattle.tenminutes.proofs.boundary.sneupelaar_settle_ten_minutes.Reads as sneupelaar_settle_ten_minutes
+use Rattle.pool.proofs.settle.Reads as settle
+use Rattle.pool.proofs.settle_unlined.Reads as settle_unlined
 use Rattle.explain.proofs.explain.Reads as explain
-use Rattle.writer.proofs.write_hour.Reads as write-hour
+use Rattle.writer.proofs.write_hour.Reads as write_hour
 use Rattle.amount.proofs.write.Reads as write
 use Rattle.amount.proofs.read.Reads as read
 use Rattle.hour.proofs.body.Reads as body
-use Rattle.tenminutes.proofs.settle.Reads as settle-ten-minutes
+use Rattle.tenminutes.proofs.settle.Reads as settle_ten_minutes
 use Rattle.examine.proofs.examine.Reads as examine
-use Rattle.examine.proofs.examine_ten_minutes.Reads as examine-ten-minutes
+use Rattle.examine.proofs.examine_ten_minutes.Reads as examine_ten_minutes
 use Rattle.report.proofs.statement.put_statement.Reads as statement
 use Rattle.report.proofs.explanation.put_explanation.Reads as explanation
-use Rattle.report.proofs.written.put_written_hour.Reads as write-raw
+use Rattle.report.proofs.written.put_written_hour.Reads as write_raw
 
 -- ---- the functions for C
 
-pub asks_nothing_sneupelaar_settle : (κs : Lfts 6) → AsksNothing (sneupelaar-settle.Asked κs)
+pub asks_nothing_sneupelaar_settle : (κs : Lfts 6) → AsksNothing (sneupelaar_settle.Asked κs)
 asks_nothing_sneupelaar_settle κs a = tt
 
-pub asks_nothing_sneupelaar_write : (κs : Lfts 1) → AsksNothing (sneupelaar-write.Asked κs)
+pub asks_nothing_sneupelaar_write : (κs : Lfts 1) → AsksNothing (sneupelaar_write.Asked κs)
 asks_nothing_sneupelaar_write κs a = tt
 
-pub asks_nothing_sneupelaar_read : (κs : Lfts 1) → AsksNothing (sneupelaar-read.Asked κs)
+pub asks_nothing_sneupelaar_read : (κs : Lfts 1) → AsksNothing (sneupelaar_read.Asked κs)
 asks_nothing_sneupelaar_read κs a = tt
 
-pub asks_nothing_sneupelaar_write_hour : (κs : Lfts 3) → AsksNothing (sneupelaar-write-hour.Asked κs)
+pub asks_nothing_sneupelaar_write_hour : (κs : Lfts 3) → AsksNothing (sneupelaar_write_hour.Asked κs)
 asks_nothing_sneupelaar_write_hour κs a = tt
 
-pub asks_nothing_sneupelaar_body : (κs : Lfts 1) → AsksNothing (sneupelaar-body.Asked κs)
+pub asks_nothing_sneupelaar_body : (κs : Lfts 1) → AsksNothing (sneupelaar_body.Asked κs)
 asks_nothing_sneupelaar_body κs a = tt
 
-pub asks_nothing_sneupelaar_explain : (κs : Lfts 1) → AsksNothing (sneupelaar-explain.Asked κs)
+pub asks_nothing_sneupelaar_explain : (κs : Lfts 1) → AsksNothing (sneupelaar_explain.Asked κs)
 asks_nothing_sneupelaar_explain κs a = tt
 
-pub asks_nothing_sneupelaar_settle_ten_minutes : (κs : Lfts 2) → AsksNothing (sneupelaar-settle-ten-minutes.Asked κs)
+pub asks_nothing_sneupelaar_settle_ten_minutes : (κs : Lfts 2) → AsksNothing (sneupelaar_settle_ten_minutes.Asked κs)
 asks_nothing_sneupelaar_settle_ten_minutes κs a = tt
 
 -- ---- settling, explaining, writing, reading
@@ -51,13 +51,13 @@ asks_nothing_sneupelaar_settle_ten_minutes κs a = tt
 pub asks_nothing_settle : (κs : Lfts 6) → AsksNothing (settle.Asked κs)
 asks_nothing_settle κs a = tt
 
-pub asks_nothing_settle_unlined : (κs : Lfts 5) → AsksNothing (settle-unlined.Asked κs)
+pub asks_nothing_settle_unlined : (κs : Lfts 5) → AsksNothing (settle_unlined.Asked κs)
 asks_nothing_settle_unlined κs a = tt
 
 pub asks_nothing_explain : (κs : Lfts 1) → AsksNothing (explain.Asked κs)
 asks_nothing_explain κs a = tt
 
-pub asks_nothing_write_hour : (κs : Lfts 3) → AsksNothing (write-hour.Asked κs)
+pub asks_nothing_write_hour : (κs : Lfts 3) → AsksNothing (write_hour.Asked κs)
 asks_nothing_write_hour κs a = tt
 
 pub asks_nothing_write : (κs : Lfts 1) → AsksNothing (write.Asked κs)
@@ -69,10 +69,10 @@ asks_nothing_read κs a = tt
 pub asks_nothing_body : (κs : Lfts 1) → AsksNothing (body.Asked κs)
 asks_nothing_body κs a = tt
 
-pub asks_nothing_settle_ten_minutes : (κs : Lfts 2) → AsksNothing (settle-ten-minutes.Asked κs)
+pub asks_nothing_settle_ten_minutes : (κs : Lfts 2) → AsksNothing (settle_ten_minutes.Asked κs)
 asks_nothing_settle_ten_minutes κs a = tt
 
-pub asks_nothing_examine_ten_minutes : (κs : Lfts 1) → AsksNothing (examine-ten-minutes.Asked κs)
+pub asks_nothing_examine_ten_minutes : (κs : Lfts 1) → AsksNothing (examine_ten_minutes.Asked κs)
 asks_nothing_examine_ten_minutes κs a = tt
 
 pub asks_nothing_examine : (κs : Lfts 1) → AsksNothing (examine.Asked κs)
@@ -86,5 +86,5 @@ asks_nothing_put_statement κs a = tt
 pub asks_nothing_put_explanation : (κs : Lfts 2) → AsksNothing (explanation.Asked κs)
 asks_nothing_put_explanation κs a = tt
 
-pub asks_nothing_put_written_hour : (κs : Lfts 2) → AsksNothing (write-raw.Asked κs)
+pub asks_nothing_put_written_hour : (κs : Lfts 2) → AsksNothing (write_raw.Asked κs)
 asks_nothing_put_written_hour κs a = tt

@@ -32,12 +32,12 @@ use Rattle.theorems.specs.Given.{IsReadAs, IsWrittenAs, IsWritten, IsRead, IsBod
 use Rattle.amount.proofs.write.Reads as write
 use Rattle.amount.proofs.read.Reads as read
 use Rattle.examine.proofs.examine.Reads as examine
-use Rattle.pool.proofs.Port.settle.Reads as settle
-use Rattle.pool.proofs.settle_unlined.Reads as settle-unlined
-use Rattle.sneupelaar.proofs.Port.sneupelaar_settle.Reads as sneupelaar-settle
-use Rattle.sneupelaar.proofs.sneupelaar_write.Reads as sneupelaar-write
-use Rattle.sneupelaar.proofs.sneupelaar_read.Reads as sneupelaar-read
-use Rattle.sneupelaar.proofs.sneupelaar_body.Reads as sneupelaar-body
+use Rattle.pool.proofs.settle.Reads as settle
+use Rattle.pool.proofs.settle_unlined.Reads as settle_unlined
+use Rattle.sneupelaar.proofs.sneupelaar_settle.Reads as sneupelaar_settle
+use Rattle.sneupelaar.proofs.sneupelaar_write.Reads as sneupelaar_write
+use Rattle.sneupelaar.proofs.sneupelaar_read.Reads as sneupelaar_read
+use Rattle.sneupelaar.proofs.sneupelaar_body.Reads as sneupelaar_body
 use Rattle.report.proofs.statement.put_statement.Reads as statement
 
 -- ---- settling
@@ -62,14 +62,14 @@ pub settle_keeps_demands : (κs : Lfts 6) → Gives (settle.Learnt κs) (λ a x 
 settle_keeps_demands κs a x s p = keeps p.verdict_is p.ufe_is p.buffers_are
 
 -- with the lines that it made itself
-pub settle_unlined_keeps_demands : (κs : Lfts 5) → Gives (settle-unlined.Learnt κs) (λ a x s. KeepsDemandsUnlined a.0.now
+pub settle_unlined_keeps_demands : (κs : Lfts 5) → Gives (settle_unlined.Learnt κs) (λ a x s. KeepsDemandsUnlined a.0.now
     (with_lines (unlined a.1.0.now a.1.1.0.now a.1.1.1.0.now a.1.1.1.1.0.now) own_lines)
     (verdict_of x.answer) x.ufe
     (with_lines (unlined s.1.0.now s.1.1.0.now s.1.1.1.0.now s.1.1.1.1.0.now)))
 settle_unlined_keeps_demands κs a x s p =
     (p.lines, keeps p.fits.verdict_is p.fits.ufe_is p.fits.buffers_are)
 
-pub sneupelaar_settle_keeps_demands : (κs : Lfts 6) → Gives (sneupelaar-settle.Learnt κs) (λ a x s. KeepsDemands a.0.now
+pub sneupelaar_settle_keeps_demands : (κs : Lfts 6) → Gives (sneupelaar_settle.Learnt κs) (λ a x s. KeepsDemands a.0.now
     (buffers a.1.1.0.now a.1.1.1.0.now a.1.1.1.1.0.now a.1.1.1.1.1.0.now a.1.0.now)
     (record { number = x.number; place = x.place }) x.ufe
     (buffers s.1.1.0.now s.1.1.1.0.now s.1.1.1.1.0.now s.1.1.1.1.1.0.now s.1.0.now))
@@ -97,17 +97,17 @@ read_is_written κs μs a x s p accepts b y t q same width = RoundTrips.read_is_
     (record { verdict_is = ap verdict_of (sym accepts) ∙ p.0; amount_is = p.1 }) width (rw same at (write_promises μs b y t q))
 
 -- the same for C, with the answer as its number and place
-pub sneupelaar_write_promises : (κs : Lfts 1) → Gives (sneupelaar-write.Learnt κs) (λ a x s.
+pub sneupelaar_write_promises : (κs : Lfts 1) → Gives (sneupelaar_write.Learnt κs) (λ a x s.
     IsWritten a.1.0.now a.0 x.number x.place s.1.0.now)
 sneupelaar_write_promises κs a x s p = p
 
-pub sneupelaar_read_promises : (κs : Lfts 1) → Gives (sneupelaar-read.Learnt κs) (λ a x s.
+pub sneupelaar_read_promises : (κs : Lfts 1) → Gives (sneupelaar_read.Learnt κs) (λ a x s.
     IsRead a.0.now x.number x.place x.amount)
 sneupelaar_read_promises κs a x s p = p
 
 -- ---- the file and its statement
 
-pub sneupelaar_body_promises : (κs : Lfts 1) → Gives (sneupelaar-body.Learnt κs) (λ a x s.
+pub sneupelaar_body_promises : (κs : Lfts 1) → Gives (sneupelaar_body.Learnt κs) (λ a x s.
     IsBody a.0.now a.1.0 x.from x.length)
 sneupelaar_body_promises κs a x s p = p.1
 
@@ -165,7 +165,7 @@ settled_is_printed κs μs a x s p accepts b y t q same room =
     ) shown
 
 -- the same for C
-pub sneupelaar_settled_is_printed : (κs : Lfts 6) (μs : Lfts 2) → Gives (sneupelaar-settle.Learnt κs) (λ a x s. x.number ≡ 0 → x.place ≡ 0 →
+pub sneupelaar_settled_is_printed : (κs : Lfts 6) (μs : Lfts 2) → Gives (sneupelaar_settle.Learnt κs) (λ a x s. x.number ≡ 0 → x.place ≡ 0 →
     Gives (statement.Learnt μs) (λ b y t. ShowsSettled a.0.now
     (buffers s.1.1.0.now s.1.1.1.0.now s.1.1.1.1.0.now s.1.1.1.1.1.0.now s.1.0.now)
     b.0.now b.1.0.now (take y t.1.0.now)))

@@ -24,16 +24,16 @@ use Rattle.theorems.specs.Determined.{OneResult, OneOutcome, Gives}
 use Rattle.theorems.specs.Demanded.{KeepsExplaining, ExplainsSettled}
 use Rattle.theorems.specs.Texts.{IsPut, IsPutOfCut}
 use Rattle.theorems.proofs.Laws.{agree, agree_answer, agree_found}
-use Rattle.printing.proofs.explanation.put_six_lines.Reads as put-six-lines
+use Rattle.printing.proofs.explanation.put_six_lines.Reads as put_six_lines
 use Rattle.explain.proofs.explain.Reads as explain
 use Rattle.report.proofs.explanation.put_explanation.Reads as explanation
-use Rattle.pool.proofs.Port.settle.Reads as settle
-use Rattle.sneupelaar.proofs.Port.sneupelaar_settle.Reads as sneupelaar-settle
-use Rattle.explain.proofs.boundary.sneupelaar_explain.Reads as sneupelaar-explain
+use Rattle.pool.proofs.settle.Reads as settle
+use Rattle.sneupelaar.proofs.sneupelaar_settle.Reads as sneupelaar_settle
+use Rattle.explain.proofs.boundary.sneupelaar_explain.Reads as sneupelaar_explain
 
 -- ---- no second result fits
 
-pub one_put_six_lines : (κs : Lfts 1) → OneOutcome (put-six-lines.Learnt κs) (λ s. s.0.now)
+pub one_put_six_lines : (κs : Lfts 1) → OneOutcome (put_six_lines.Learnt κs) (λ s. s.0.now)
 one_put_six_lines κs a x y s t p q = (agree p.next_is q.next_is, agree p.after_is q.after_is)
 
 pub one_explain : (κs : Lfts 1) → OneResult (explain.Learnt κs)
@@ -57,7 +57,7 @@ unfolding count_of
 counted zero = refl
 counted (suc k) = refl
 
-pub one_sneupelaar_explain : (κs : Lfts 1) → OneResult (sneupelaar-explain.Learnt κs)
+pub one_sneupelaar_explain : (κs : Lfts 1) → OneResult (sneupelaar_explain.Learnt κs)
 one_sneupelaar_explain κs a x y s t p q =
     ap (λ (n : ℕ). record { number = x.number; place = x.place; heads = x.heads; decided = n }) (sym (counted x.decided))
     ∙ ap (λ (e : Explanation.Explanation). record { number = e.verdict.number; place = e.verdict.place; heads = e.heads; decided = count_of e.decided })
@@ -80,7 +80,7 @@ keeps {s} {m} e = subst (KeepsExplaining s m) (sym e) (record {
 pub explain_keeps : (κs : Lfts 1) → Gives (explain.Learnt κs) (λ a x s. KeepsExplaining a.0.now a.1.0 (answered x))
 explain_keeps κs a x s p = keeps p
 
-pub sneupelaar_explain_keeps : (κs : Lfts 1) → Gives (sneupelaar-explain.Learnt κs) (λ a x s.
+pub sneupelaar_explain_keeps : (κs : Lfts 1) → Gives (sneupelaar_explain.Learnt κs) (λ a x s.
     KeepsExplaining a.0.now a.1.0 (explanation_of x))
 sneupelaar_explain_keeps κs a x s p = keeps p
 
@@ -97,9 +97,9 @@ settled_is_explained κs μs a x s p accepts b y t q same there =
     rw (ap (λ (z : Buffers). z.lines) p.buffers_are, ap (λ (z : Buffers). z.charges) p.buffers_are) e
 
 -- the same for C
-pub sneupelaar_settled_is_explained : (κs : Lfts 6) (μs : Lfts 1) → Gives (sneupelaar-settle.Learnt κs) (λ a x s.
+pub sneupelaar_settled_is_explained : (κs : Lfts 6) (μs : Lfts 1) → Gives (sneupelaar_settle.Learnt κs) (λ a x s.
     x.number ≡ 0 → x.place ≡ 0 →
-    Gives (sneupelaar-explain.Learnt μs) (λ b y t. ExplainsSettled a.0.now
+    Gives (sneupelaar_explain.Learnt μs) (λ b y t. ExplainsSettled a.0.now
     (buffers s.1.1.0.now s.1.1.1.0.now s.1.1.1.1.0.now s.1.1.1.1.1.0.now s.1.0.now)
     b.0.now b.1.0 y.heads (head_counted y.decided)))
 sneupelaar_settled_is_explained κs μs a x s p number place b y t q same there =

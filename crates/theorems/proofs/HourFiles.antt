@@ -9,7 +9,7 @@ use contract.Lifetimes.{Lfts}
 use Rattle.rules.specs.HourFile.{hourly}
 use Rattle.rules.specs.HourWords.{head_words, record_words}
 use Rattle.rules.specs.Refusals.{accepted, verdict_of, verdict, file_rows}
-use Rattle.rules.specs.Settling.{HourWritten, write_hour}
+use Rattle.rules.specs.Settling.{HourWritten, write_hour as writing_hour}
 use Rattle.rules.specs.RawHour.{raw_rows, raw_written}
 use Rattle.rules.specs.Promised.Finals.{AreBytes}
 use Rattle.rules.specs.Promised.Writing.{AreWords}
@@ -21,21 +21,21 @@ use Rattle.printing.proofs.Showing.{whole_text}
 use Rattle.theorems.specs.Determined.{Gives}
 use Rattle.theorems.specs.Demanded.{KeepsWriting}
 use Rattle.theorems.specs.Texts.{IsPut, IsPutOfCut, SaysRefusal}
-use Rattle.writer.proofs.write_hour.Reads as write-hour
-use Rattle.report.proofs.written.put_written_hour.Reads as write-raw
-use Rattle.writer.proofs.boundary.sneupelaar_write_hour.Reads as sneupelaar-write-hour
+use Rattle.writer.proofs.write_hour.Reads as write_hour
+use Rattle.report.proofs.written.put_written_hour.Reads as write_raw
+use Rattle.writer.proofs.boundary.sneupelaar_write_hour.Reads as sneupelaar_write_hour
 
 module _ (head records before : List ℕ) where
   own_bytes : (s : List ℕ) → AreBytes s → verdict (file_rows s) ≡ accepted → head ≡ head_words s → records ≡ record_words hourly s →
       length s ≤ length before →
-      write_hour head records before ≡ record { verdict = accepted; length = length s; file = s ++ drop (length s) before }
+      writing_hour head records before ≡ record { verdict = accepted; length = length s; file = s ++ drop (length s) before }
   own_bytes s bytes passes heads recs room = rw (heads, recs) (writing.same_bytes s before bytes passes room)
 
-  keeps : AreWords head → AreWords records → KeepsWriting head records before (write_hour head records before)
-  keeps head_words_lem record_words_lem = record {
+  keeps : AreWords head → AreWords records → KeepsWriting head records before (writing_hour head records before)
+  keeps head_are_words records_are_words = record {
     by_the_table = verdict_is head records before;
     unchanged = writing.changes_nothing head records before;
-    read_back = writing.read_back head records before head_words_lem record_words_lem;
+    read_back = writing.read_back head records before head_are_words records_are_words;
     length_told = writing.length_told head records before;
     past_file = writing.past_file head records before;
     same_bytes = own_bytes;
@@ -43,32 +43,32 @@ module _ (head records before : List ℕ) where
     held_to_maximum = engines.written head records before;
   }
 
-  keeps_as : {w : HourWritten} → w ≡ write_hour head records before → AreWords head → AreWords records → KeepsWriting head records before w
-  keeps_as e head_words_lem record_words_lem = subst (KeepsWriting head records before) (sym e) (keeps head_words_lem record_words_lem)
+  keeps_as : {w : HourWritten} → w ≡ writing_hour head records before → AreWords head → AreWords records → KeepsWriting head records before w
+  keeps_as e head_are_words records_are_words = subst (KeepsWriting head records before) (sym e) (keeps head_are_words records_are_words)
 
-pub write_hour_keeps : (κs : Lfts 3) → Gives (write-hour.Learnt κs) (λ a x s. KeepsWriting a.0.now a.1.0.now a.1.1.0.now
+pub write_hour_keeps : (κs : Lfts 3) → Gives (write_hour.Learnt κs) (λ a x s. KeepsWriting a.0.now a.1.0.now a.1.1.0.now
     (record { verdict = verdict_of x.answer; length = x.length; file = s.1.1.0.now }))
 write_hour_keeps κs a x s p =
     keeps_as a.0.now a.1.0.now a.1.1.0.now (as_written _ _ _ p.0 p.1.0 p.1.1.0)
     p.1.1.1.0 p.1.1.1.1
 
-pub sneupelaar_write_hour_keeps : (κs : Lfts 3) → Gives (sneupelaar-write-hour.Learnt κs) (λ a x s.
+pub sneupelaar_write_hour_keeps : (κs : Lfts 3) → Gives (sneupelaar_write_hour.Learnt κs) (λ a x s.
     KeepsWriting a.0.now a.1.0.now a.1.1.0.now
     (record { verdict = record { number = x.number; place = x.place }; length = x.length; file = s.1.1.0.now }))
 sneupelaar_write_hour_keeps κs a x s p = keeps_as a.0.now a.1.0.now a.1.1.0.now p.0 p.1.0 p.1.1
 
 -- with room, the bytes put are the file or the refusal's line, all of it and nothing else
-pub write_raw_is_put : (κs : Lfts 2) → Gives (write-raw.Learnt κs) (λ a x s.
+pub write_raw_is_put : (κs : Lfts 2) → Gives (write_raw.Learnt κs) (λ a x s.
     IsPut 13312 (raw_written a.0.now) a.1.0.now x s.1.0.now)
 write_raw_is_put κs a x s p room = whole_text (record { count_is = p.0; out_is = p.1 }) room
 
 -- read, a refusal gives its number and place
-pub write_raw_says_refusal : (κs : Lfts 2) → Gives (write-raw.Learnt κs) (λ a x s.
+pub write_raw_says_refusal : (κs : Lfts 2) → Gives (write_raw.Learnt κs) (λ a x s.
     SaysRefusal 13312 a.0.now (verdict (raw_rows a.0.now)) a.1.0.now x s.1.0.now)
 write_raw_says_refusal κs a x s p room bytes refused =
     rw (write_raw_is_put κs a x s p room) (refusal_printed a.0.now refused)
 
 -- a reader that stops one byte past the longest input prints what its whole input asks for
-pub cut_input_is_put : (κs : Lfts 2) (input : List ℕ) → Gives (write-raw.Learnt κs) (λ a x s.
+pub cut_input_is_put : (κs : Lfts 2) (input : List ℕ) → Gives (write_raw.Learnt κs) (λ a x s.
     IsPutOfCut 12481 13312 raw_written input a.0.now a.1.0.now x s.1.0.now)
 cut_input_is_put κs input a x s p cut room = write_raw_is_put κs a x s p room ∙ ap raw_written cut ∙ cut_input_same input

@@ -25,9 +25,9 @@ use Rattle.theorems.specs.Texts.{SaysRefusal, SaysAnswer, TellsAnswer, SaysOutco
 use Rattle.theorems.proofs.Explaining.{explanation_is_put}
 use Rattle.explain.proofs.explain.Reads as explain
 use Rattle.report.proofs.explanation.put_explanation.Reads as explanation
-use Rattle.pool.proofs.Port.settle.Reads as settle
-use Rattle.sneupelaar.proofs.Port.sneupelaar_settle.Reads as sneupelaar-settle
-use Rattle.explain.proofs.boundary.sneupelaar_explain.Reads as sneupelaar-explain
+use Rattle.pool.proofs.settle.Reads as settle
+use Rattle.sneupelaar.proofs.sneupelaar_settle.Reads as sneupelaar_settle
+use Rattle.explain.proofs.boundary.sneupelaar_explain.Reads as sneupelaar_explain
 
 -- ---- what the bytes say
 
@@ -66,7 +66,7 @@ settled_is_said κs μs a x s p accepts b y t q long same room there hs d says =
     rw (ap (λ (z : Buffers). z.lines) p.buffers_are, ap (λ (z : Buffers). z.charges) p.buffers_are) e
 
 -- the same for C
-pub sneupelaar_settled_is_said : (κs : Lfts 6) (μs : Lfts 2) → Gives (sneupelaar-settle.Learnt κs) (λ a x s. x.number ≡ 0 → x.place ≡ 0 →
+pub sneupelaar_settled_is_said : (κs : Lfts 6) (μs : Lfts 2) → Gives (sneupelaar_settle.Learnt κs) (λ a x s. x.number ≡ 0 → x.place ≡ 0 →
     Gives (explanation.Learnt μs) (λ b y t. SaysOutcome a.0.now
     (buffers s.1.1.0.now s.1.1.1.0.now s.1.1.1.1.0.now s.1.1.1.1.1.0.now s.1.0.now)
     b.0.now b.1.0.now (take y t.1.0.now)))
@@ -91,7 +91,7 @@ explained_is_said κs μs a x s p b y t q long same same-member room accepts =
     rw (explanation_is_put μs b y t q room) (said_explained b.0.now p long same same-member accepts)
 
 -- the same for C
-pub sneupelaar_explained_is_said : (κs : Lfts 1) (μs : Lfts 2) → Gives (sneupelaar-explain.Learnt κs) (λ a x s.
+pub sneupelaar_explained_is_said : (κs : Lfts 1) (μs : Lfts 2) → Gives (sneupelaar_explain.Learnt κs) (λ a x s.
     Gives (explanation.Learnt μs) (λ b y t.
     SaysExplained a.0.now a.1.0 (explanation_of x) b.0.now b.1.0.now (take y t.1.0.now)))
 sneupelaar_explained_is_said κs μs a x s p b y t q long same same-member room accepts =

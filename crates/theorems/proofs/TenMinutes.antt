@@ -1,6 +1,6 @@
 -- Ten-minute settlement: no second result fits the contracts, and what document 02, A7, asks, said of the contracts as their callers read
 -- them.
-use mathlib.Core.Path.{◌≡◌, refl, sym, ◌∙◌, ap, subst}
+use mathlib.Core.Path.{◌≡◌, refl, sym, ap, subst}
 use mathlib.Core.List.{List}
 use Prim.Native.Nat.{ℕ}
 use lib.IntN.{ℤ}
@@ -13,35 +13,35 @@ use Rattle.theorems.specs.Determined.{OneResult, OneOutcome, Gives}
 use Rattle.theorems.specs.Demanded.{KeepsTenMinutes}
 use Rattle.theorems.proofs.Laws.{agree, agree_answer}
 use Rattle.rules.proofs.layout_of.Reads as layout_of
-use Rattle.wordrules.proofs.head_rule_of.Reads as head-rule-of
-use Rattle.wordrules.proofs.head_end.Reads as head-end
-use Rattle.wordrules.proofs.record_keeps_as.Reads as record-keeps-as
-use Rattle.examine.proofs.examine_ten_minutes.Reads as examine-ten-minutes
+use Rattle.wordrules.proofs.head_rule_of.Reads as head_rule_of
+use Rattle.wordrules.proofs.head_end.Reads as head_end
+use Rattle.wordrules.proofs.record_keeps_as.Reads as record_keeps_as
+use Rattle.examine.proofs.examine_ten_minutes.Reads as examine_ten_minutes
 use Rattle.tenminutes.proofs.settle.Reads as settle
-use Rattle.tenminutes.proofs.boundary.sneupelaar_settle_ten_minutes.Reads as sneupelaar-settle-ten-minutes
+use Rattle.tenminutes.proofs.boundary.sneupelaar_settle_ten_minutes.Reads as sneupelaar_settle_ten_minutes
 
 -- ---- no second result fits
 
 pub one_layout_of : (κs : Lfts 0) → OneResult (layout_of.Learnt κs)
 one_layout_of κs a x y s t = agree
 
-pub one_head_rule_of : (κs : Lfts 0) → OneResult (head-rule-of.Learnt κs)
+pub one_head_rule_of : (κs : Lfts 0) → OneResult (head_rule_of.Learnt κs)
 one_head_rule_of κs a x y s t = agree
 
-pub one_head_end : (κs : Lfts 0) → OneResult (head-end.Learnt κs)
+pub one_head_end : (κs : Lfts 0) → OneResult (head_end.Learnt κs)
 one_head_end κs a x y s t = agree
 
-pub one_record_keeps_as : (κs : Lfts 0) → OneResult (record-keeps-as.Learnt κs)
+pub one_record_keeps_as : (κs : Lfts 0) → OneResult (record_keeps_as.Learnt κs)
 one_record_keeps_as κs a x y s t = agree
 
-pub one_examine_ten_minutes : (κs : Lfts 1) → OneResult (examine-ten-minutes.Learnt κs)
+pub one_examine_ten_minutes : (κs : Lfts 1) → OneResult (examine_ten_minutes.Learnt κs)
 one_examine_ten_minutes κs a x y s t = agree_answer
 
 pub one_settle_ten_minutes : (κs : Lfts 2) → OneOutcome (settle.Learnt κs) (λ s. s.1.0.now)
 one_settle_ten_minutes κs a x y s t p q = (agree_answer p.0 q.0, agree p.1 q.1)
 
 pub one_sneupelaar_settle_ten_minutes : (κs : Lfts 2) →
-    OneOutcome (sneupelaar-settle-ten-minutes.Learnt κs) (λ s. s.1.0.now)
+    OneOutcome (sneupelaar_settle_ten_minutes.Learnt κs) (λ s. s.1.0.now)
 one_sneupelaar_settle_ten_minutes κs a x y s t p q = (
   ap (λ (r : TenMinutesSettlement). record { number = r.verdict.number; place = r.verdict.place }) (agree p q),
   ap (λ (r : TenMinutesSettlement). r.charges) (agree p q),
@@ -61,6 +61,6 @@ pub settle_keeps_ten_minutes : (κs : Lfts 2) → Gives (settle.Learnt κs) (λ 
     KeepsTenMinutes a.0.now a.1.0.now (record { verdict = verdict_of x; charges = s.1.0.now }))
 settle_keeps_ten_minutes κs a x s p = keeps (λ k. record { verdict = p.0 k; charges = p.1 k })
 
-pub sneupelaar_settle_keeps_ten_minutes : (κs : Lfts 2) → Gives (sneupelaar-settle-ten-minutes.Learnt κs) (λ a x s.
+pub sneupelaar_settle_keeps_ten_minutes : (κs : Lfts 2) → Gives (sneupelaar_settle_ten_minutes.Learnt κs) (λ a x s.
     KeepsTenMinutes a.0.now a.1.0.now (settlement x s.1.0.now))
 sneupelaar_settle_keeps_ten_minutes κs a x s p = keeps p

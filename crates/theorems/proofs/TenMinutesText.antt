@@ -16,51 +16,51 @@ use Rattle.printing.proofs.Showing.{whole_text}
 use Rattle.theorems.specs.Determined.{OneOutcome, Gives, AsksNothing}
 use Rattle.theorems.specs.Texts.{IsPut, IsPutOfCut, SaysRefusal, ChargesAreReadBack, TenMinutesCountsAreRead, ShowsSettledCharges}
 use Rattle.theorems.proofs.Laws.{agree}
-use Rattle.printing.proofs.put_charge.Reads as put-charge
-use Rattle.report.proofs.ten_minutes.put_ten_minutes_statement.Reads as ten_minutes_lem
+use Rattle.printing.proofs.put_charge.Reads as put_charge
+use Rattle.report.proofs.ten_minutes.put_ten_minutes_statement.Reads as put_statement
 use Rattle.tenminutes.proofs.settle.Reads as settle
-use Rattle.tenminutes.proofs.boundary.sneupelaar_settle_ten_minutes.Reads as sneupelaar-settle-ten-minutes
+use Rattle.tenminutes.proofs.boundary.sneupelaar_settle_ten_minutes.Reads as sneupelaar_settle_ten_minutes
 
 -- ---- no second result fits, and nothing is asked
 
-pub one_put_charge : (κs : Lfts 1) → OneOutcome (put-charge.Learnt κs) (λ s. s.0.now)
+pub one_put_charge : (κs : Lfts 1) → OneOutcome (put_charge.Learnt κs) (λ s. s.0.now)
 one_put_charge κs a x y s t p q = (agree p.next_is q.next_is, agree p.after_is q.after_is)
 
-pub one_ten_minutes_statement : (κs : Lfts 2) → OneOutcome (ten_minutes_lem.Learnt κs) (λ s. s.1.0.now)
+pub one_ten_minutes_statement : (κs : Lfts 2) → OneOutcome (put_statement.Learnt κs) (λ s. s.1.0.now)
 one_ten_minutes_statement κs a x y s t p q = (agree p.0 q.0, agree p.1 q.1)
 
-pub asks_nothing_put_ten_minutes_statement : (κs : Lfts 2) → AsksNothing (ten_minutes_lem.Asked κs)
+pub asks_nothing_put_ten_minutes_statement : (κs : Lfts 2) → AsksNothing (put_statement.Asked κs)
 asks_nothing_put_ten_minutes_statement κs a = tt
 
 -- ---- what is put
 
-pub ten_minutes_statement_promises : (κs : Lfts 2) → Gives (ten_minutes_lem.Learnt κs) (λ a x s.
+pub ten_minutes_statement_promises : (κs : Lfts 2) → Gives (put_statement.Learnt κs) (λ a x s.
     HasShown 614 (ten_minutes_statement a.0.now) a.1.0.now x s.1.0.now)
 ten_minutes_statement_promises κs a x s p = record { count_is = p.0; out_is = p.1 }
 
-pub ten_minutes_statement_is_put : (κs : Lfts 2) → Gives (ten_minutes_lem.Learnt κs) (λ a x s.
+pub ten_minutes_statement_is_put : (κs : Lfts 2) → Gives (put_statement.Learnt κs) (λ a x s.
     IsPut 614 (ten_minutes_statement a.0.now) a.1.0.now x s.1.0.now)
 ten_minutes_statement_is_put κs a x s p = whole_text (ten_minutes_statement_promises κs a x s p)
 
 -- read, the column of a member's line gives its charge
-pub charges_are_read_back : (κs : Lfts 2) → Gives (ten_minutes_lem.Learnt κs) (λ a x s.
+pub charges_are_read_back : (κs : Lfts 2) → Gives (put_statement.Learnt κs) (λ a x s.
     ChargesAreReadBack a.0.now a.1.0.now x s.1.0.now)
 charges_are_read_back κs a x s p room accepts =
     rw (ten_minutes_statement_is_put κs a x s p room) (ten_minutes_sheet.read_back a.0.now accepts)
 
 -- line 1 gives the hour number and the counts; a refusal its number and place
-pub ten_minutes_counts_are_read : (κs : Lfts 2) → Gives (ten_minutes_lem.Learnt κs) (λ a x s.
+pub ten_minutes_counts_are_read : (κs : Lfts 2) → Gives (put_statement.Learnt κs) (λ a x s.
     TenMinutesCountsAreRead a.0.now a.1.0.now x s.1.0.now)
 ten_minutes_counts_are_read κs a x s p room bytes accepts =
     rw (ten_minutes_statement_is_put κs a x s p room) (ten_minutes_sheet.counts_read a.0.now bytes accepts)
 
-pub ten_minutes_statement_says_refusal : (κs : Lfts 2) → Gives (ten_minutes_lem.Learnt κs) (λ a x s.
+pub ten_minutes_statement_says_refusal : (κs : Lfts 2) → Gives (put_statement.Learnt κs) (λ a x s.
     SaysRefusal 614 a.0.now (verdict (form_rows ten_minutes_form a.0.now)) a.1.0.now x s.1.0.now)
 ten_minutes_statement_says_refusal κs a x s p room bytes refused =
     rw (ten_minutes_statement_is_put κs a x s p room) (ten_minutes_sheet.refused_read a.0.now bytes refused)
 
 -- a reader that stops one byte past the longest file prints what its whole input asks for
-pub cut_ten_minutes_is_put : (κs : Lfts 2) (input : List ℕ) → Gives (ten_minutes_lem.Learnt κs) (λ a x s.
+pub cut_ten_minutes_is_put : (κs : Lfts 2) (input : List ℕ) → Gives (put_statement.Learnt κs) (λ a x s.
     IsPutOfCut 8705 614 ten_minutes_statement input a.0.now a.1.0.now x s.1.0.now)
 cut_ten_minutes_is_put κs input a x s p cut room =
     ten_minutes_statement_is_put κs a x s p room ∙ ap ten_minutes_statement cut ∙ cut_sheet_same input
@@ -68,15 +68,15 @@ cut_ten_minutes_is_put κs input a x s p cut room =
 -- ---- settled, then printed: the column of each member's line, read, gives the charge that settling wrote
 
 pub settled_charges_are_printed : (κs μs : Lfts 2) → Gives (settle.Learnt κs) (λ a x s. x ≡ Accepted →
-    Gives (ten_minutes_lem.Learnt μs) (λ b y t.
+    Gives (put_statement.Learnt μs) (λ b y t.
     ShowsSettledCharges a.0.now s.1.0.now b.0.now b.1.0.now (take y t.1.0.now)))
 settled_charges_are_printed κs μs a x s p accepts b y t q same room =
     let shown = ten_minutes_sheet.as_settled a.0.now a.1.0.now (sym p.0 ∙ ap verdict_of accepts) in
     rw (ten_minutes_statement_is_put μs b y t q room ∙ ap ten_minutes_statement same, p.1) shown
 
 -- the same for C
-pub sneupelaar_settled_charges_are_printed : (κs μs : Lfts 2) → Gives (sneupelaar-settle-ten-minutes.Learnt κs) (λ a x s.
-    x.number ≡ 0 → x.place ≡ 0 → Gives (ten_minutes_lem.Learnt μs) (λ b y t.
+pub sneupelaar_settled_charges_are_printed : (κs μs : Lfts 2) → Gives (sneupelaar_settle_ten_minutes.Learnt κs) (λ a x s.
+    x.number ≡ 0 → x.place ≡ 0 → Gives (put_statement.Learnt μs) (λ b y t.
     ShowsSettledCharges a.0.now s.1.0.now b.0.now b.1.0.now (take y t.1.0.now)))
 sneupelaar_settled_charges_are_printed κs μs a x s p number place b y t q same room =
     let told = sym (ap (λ (z : TenMinutesSettlement). z.verdict) p) ∙ ap₂ refused_at number place in

@@ -2,43 +2,43 @@
 use contract.Lifetimes.{Lfts}
 use Rattle.theorems.specs.Determined.{OneResult}
 use Rattle.theorems.proofs.Laws.{agree, agree_found}
-use Rattle.whole.proofs.size_of.Reads as type_size
-use Rattle.whole.proofs.with_sign_of.Reads as with-sign-of
-use Rattle.answer.proofs.number_of.Reads as number_of_lem
+use Rattle.whole.proofs.size_of.Reads as size_of
+use Rattle.whole.proofs.with_sign_of.Reads as with_sign_of
+use Rattle.answer.proofs.number_of.Reads as number_of
 use Rattle.answer.proofs.place_of.Reads as place_of
 use Rattle.answer.proofs.refused.Reads as refused
 use Rattle.amount.proofs.decimal.digit.Reads as digit
 use Rattle.amount.proofs.decimal.digits.Reads as digits
 use Rattle.wordrules.proofs.keeps.Reads as keeps
-use Rattle.wordrules.proofs.block_rule.Reads as block-rule
-use Rattle.wordrules.proofs.head_rule.Reads as head-rule
-use Rattle.wordrules.proofs.record_keeps.Reads as record-keeps
-use Rattle.wordrules.proofs.scheduled_above.Reads as scheduled-above
-use Rattle.formula.proofs.entry.kind_of.Reads as kind-of
-use Rattle.formula.proofs.entry.is_load.Reads as is-load
+use Rattle.wordrules.proofs.block_rule.Reads as block_rule
+use Rattle.wordrules.proofs.head_rule.Reads as head_rule
+use Rattle.wordrules.proofs.record_keeps.Reads as record_keeps
+use Rattle.wordrules.proofs.scheduled_above.Reads as scheduled_above
+use Rattle.formula.proofs.entry.kind_of.Reads as kind_of
+use Rattle.formula.proofs.entry.is_load.Reads as is_load
 use Rattle.formula.proofs.deviation.deviation.Reads as deviation
 use Rattle.formula.proofs.deviation.entering.Reads as entering
 use Rattle.formula.proofs.deviation.accounted.Reads as accounted
-use Rattle.formula.proofs.posting.empty_tally.Reads as empty-tally
+use Rattle.formula.proofs.posting.empty_tally.Reads as empty_tally
 use Rattle.formula.proofs.posting.tallied.Reads as tallied
-use Rattle.formula.proofs.posting.empty_line.Reads as empty-line
-use Rattle.formula.proofs.posting.line_with.Reads as line-with
-use Rattle.formula.proofs.rounding.cents_of.Reads as cents_of_lem
+use Rattle.formula.proofs.posting.empty_line.Reads as empty_line
+use Rattle.formula.proofs.posting.line_with.Reads as line_with
+use Rattle.formula.proofs.rounding.cents_of.Reads as cents_of
 use Rattle.formula.proofs.posting.cents.Reads as cents
-use Rattle.formula.proofs.posting.charge_of.Reads as charge-of
-use Rattle.byarea.proofs.area_without_demand.Reads as area-without-demand
+use Rattle.formula.proofs.posting.charge_of.Reads as charge_of
+use Rattle.byarea.proofs.area_without_demand.Reads as area_without_demand
 use Rattle.byarea.proofs.nobody_demands.Reads as nobody_demands
 use Rattle.blocks.proofs.signed.Reads as signed
 use Rattle.rules.proofs.hourly.Reads as hourly
-use Rattle.rules.proofs.ten_minutes.Reads as ten_minutes_lem
+use Rattle.rules.proofs.ten_minutes.Reads as ten_minutes
 
-pub one_size_of : (κs : Lfts 0) → OneResult (type_size.Learnt κs)
+pub one_size_of : (κs : Lfts 0) → OneResult (size_of.Learnt κs)
 one_size_of κs a x y s t = agree
 
-pub one_with_sign_of : (κs : Lfts 0) → OneResult (with-sign-of.Learnt κs)
+pub one_with_sign_of : (κs : Lfts 0) → OneResult (with_sign_of.Learnt κs)
 one_with_sign_of κs a x y s t = agree
 
-pub one_number_of : (κs : Lfts 0) → OneResult (number_of_lem.Learnt κs)
+pub one_number_of : (κs : Lfts 0) → OneResult (number_of.Learnt κs)
 one_number_of κs a x y s t = agree
 
 pub one_place_of : (κs : Lfts 0) → OneResult (place_of.Learnt κs)
@@ -56,22 +56,22 @@ one_digits κs a x y s t = agree
 pub one_keeps : (κs : Lfts 0) → OneResult (keeps.Learnt κs)
 one_keeps κs a x y s t = agree
 
-pub one_block_rule : (κs : Lfts 0) → OneResult (block-rule.Learnt κs)
+pub one_block_rule : (κs : Lfts 0) → OneResult (block_rule.Learnt κs)
 one_block_rule κs a x y s t = agree
 
-pub one_head_rule : (κs : Lfts 0) → OneResult (head-rule.Learnt κs)
+pub one_head_rule : (κs : Lfts 0) → OneResult (head_rule.Learnt κs)
 one_head_rule κs a x y s t = agree
 
-pub one_record_keeps : (κs : Lfts 0) → OneResult (record-keeps.Learnt κs)
+pub one_record_keeps : (κs : Lfts 0) → OneResult (record_keeps.Learnt κs)
 one_record_keeps κs a x y s t = agree
 
-pub one_scheduled_above : (κs : Lfts 0) → OneResult (scheduled-above.Learnt κs)
+pub one_scheduled_above : (κs : Lfts 0) → OneResult (scheduled_above.Learnt κs)
 one_scheduled_above κs a x y s t = agree
 
-pub one_kind_of : (κs : Lfts 0) → OneResult (kind-of.Learnt κs)
+pub one_kind_of : (κs : Lfts 0) → OneResult (kind_of.Learnt κs)
 one_kind_of κs a x y s t = agree
 
-pub one_is_load : (κs : Lfts 0) → OneResult (is-load.Learnt κs)
+pub one_is_load : (κs : Lfts 0) → OneResult (is_load.Learnt κs)
 one_is_load κs a x y s t = agree
 
 pub one_deviation : (κs : Lfts 0) → OneResult (deviation.Learnt κs)
@@ -83,28 +83,28 @@ one_entering κs a x y s t = agree
 pub one_accounted : (κs : Lfts 0) → OneResult (accounted.Learnt κs)
 one_accounted κs a x y s t = agree
 
-pub one_empty_tally : (κs : Lfts 0) → OneResult (empty-tally.Learnt κs)
+pub one_empty_tally : (κs : Lfts 0) → OneResult (empty_tally.Learnt κs)
 one_empty_tally κs a x y s t = agree
 
 pub one_tallied : (κs : Lfts 0) → OneResult (tallied.Learnt κs)
 one_tallied κs a x y s t = agree
 
-pub one_empty_line : (κs : Lfts 0) → OneResult (empty-line.Learnt κs)
+pub one_empty_line : (κs : Lfts 0) → OneResult (empty_line.Learnt κs)
 one_empty_line κs a x y s t = agree
 
-pub one_line_with : (κs : Lfts 0) → OneResult (line-with.Learnt κs)
+pub one_line_with : (κs : Lfts 0) → OneResult (line_with.Learnt κs)
 one_line_with κs a x y s t = agree
 
-pub one_cents_of : (κs : Lfts 0) → OneResult (cents_of_lem.Learnt κs)
+pub one_cents_of : (κs : Lfts 0) → OneResult (cents_of.Learnt κs)
 one_cents_of κs a x y s t = agree
 
 pub one_cents : (κs : Lfts 0) → OneResult (cents.Learnt κs)
 one_cents κs a x y s t = agree
 
-pub one_charge_of : (κs : Lfts 0) → OneResult (charge-of.Learnt κs)
+pub one_charge_of : (κs : Lfts 0) → OneResult (charge_of.Learnt κs)
 one_charge_of κs a x y s t = agree
 
-pub one_area_without_demand : (κs : Lfts 0) → OneResult (area-without-demand.Learnt κs)
+pub one_area_without_demand : (κs : Lfts 0) → OneResult (area_without_demand.Learnt κs)
 one_area_without_demand κs a x y s t = agree_found
 
 pub one_nobody_demands : (κs : Lfts 0) → OneResult (nobody_demands.Learnt κs)
@@ -116,5 +116,5 @@ one_signed κs a x y s t = agree
 pub one_hourly : (κs : Lfts 0) → OneResult (hourly.Learnt κs)
 one_hourly κs a x y s t = agree
 
-pub one_ten_minutes : (κs : Lfts 0) → OneResult (ten_minutes_lem.Learnt κs)
+pub one_ten_minutes : (κs : Lfts 0) → OneResult (ten_minutes.Learnt κs)
 one_ten_minutes κs a x y s t = agree
