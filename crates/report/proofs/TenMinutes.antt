@@ -1,10 +1,10 @@
 -- What ten-minute settling's promise says to the statement, where the charges have room for every member.
 use mathlib.Core.Path.{◌≡◌, refl, sym, ◌∙◌, ap}
 use mathlib.Core.List.{List}
-use Prim.Native.Nat.{ℕ, ◌≤◌, ◌<◌}
+use Prim.Native.Nat.{ℕ, ◌≤◌}
 use native.Mathlib.Omega.{arith}
 use lib.IntN.{ℤ, pos}
-use lib.ListN.{length, get_or}
+use lib.ListN.{length}
 use borrow.Author.Tests.{eqb-false, le-ltb}
 use Rattle.whole.proofs.Ranges.{u_le}
 use Rattle.whole.proofs.Buffers.{get_or_replacing, length_replacing}
