@@ -15,11 +15,7 @@ pub struct NumberedFiled {
 }
 
 // Writes the hour file of a head and records at the start of the buffer.
-pub fn sneupelaar_write_hour(
-    head: &[u32],
-    records: &[u32],
-    file: &mut [u8],
-) -> NumberedFiled
+pub fn sneupelaar_write_hour(head: &[u32], records: &[u32], file: &mut [u8]) -> NumberedFiled
     ensures file { hour_written result file.new
         ≡ Settling.write_hour head.now records.now file.old }
     ensures words { AreWords head.now × AreWords records.now }
