@@ -1,0 +1,2 @@
+-- Lemmas for who reads by `streams`.
+pub mod Known
