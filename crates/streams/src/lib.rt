@@ -62,9 +62,11 @@ pub fn tell<R: Eprint + Alloc>(rt: &R, done: Result<(), Trouble>) {
     let _ = said;
 }
 
-// A line: the stream and the system's words.
+// A line: the stream and the system's words; with the error's number behind them where there is no memory to leave it out.
 fn say<R: Eprint + Alloc>(rt: &R, stream: &str, why: io::Error) -> io::Result<()> {
-    let text = format!(in rt.alloc(); "{why}")?;
+    let Ok(text) = format!(in rt.alloc(); "{why}") else {
+        return eprintln!(rt; "{stream}: {why}");
+    };
     let words = without_number(text.as_str());
     eprintln!(rt; "{stream}: {words}")
 }

@@ -21,6 +21,9 @@ small_at [] s i l = omega arith
 small_at (d ∷ ds) s zero l = s.0
 small_at (d ∷ ds) s (suc i) l = small_at ds s.1 i (omega arith)
 
+pub small_fits : (ds : List ℕ) → Small ds → (i : ℕ) → i < length ds → get_or ds i 0 < 9223372036854775808
+small_fits ds s i l = omega (arith, small_at ds s i l)
+
 module _ (ds : List ℕ) (s : Small ds) (few : length ds ≤ 3) (size : ℕ) (most : size ≤ 1000) where
   pub shareable : Shareable ds size ds
   shareable = ufe_shareable ds size ds (omega arith) (omega arith) (λ i l. omega (arith, small_at ds s i l)) (omega arith)

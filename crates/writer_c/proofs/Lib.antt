@@ -1,0 +1,2 @@
+-- That a caller in C is asked nothing.
+pub mod Asked
