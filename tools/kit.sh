@@ -47,7 +47,7 @@ kit_archive() {
     if [ ! -f "$archive" ] || [ -n "$(find "$kit_root/crates.txt" "$kit_root"/crates/*/src -newer "$archive" -print -quit)" ]; then
         echo "proving the library for C and all that it rests on, and making its archive; from nothing this takes some minutes" >&2
         for crate in "${kit_exporting[@]}"; do
-            if ! said=$(cd "$kit_root" && rt lib "$crate" 2>&1); then
+            if ! said=$(cd "$kit_root/crates/$crate" && rt lib 2>&1); then
                 echo "$said" >&2
                 return 1
             fi
