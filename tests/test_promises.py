@@ -177,6 +177,14 @@ class Promises(unittest.TestCase):
                 self.assertEqual(clauses(own), clauses(other))
                 self.assertIn(called, promising)
 
+    def test_functions_for_c_ask_nothing(self):
+        """Each has the law that says so, in its own crate."""
+        for crate, module, name in functions_for_c():
+            with self.subTest(crate=crate, name=name):
+                laws = (CRATES / crate / "proofs" / "Asked.antt").read_text()
+                self.assertIn(f"use Rattle.{crate}.proofs.{name}.Reads as {name}\n", laws)
+                self.assertRegex(laws, rf"\npub asks_nothing_{name} : \(κs : Lfts \d+\) → AsksNothing \({name}\.Asked κs\)\n")
+
     def test_every_exception_is_a_function(self):
         there = {f"{crate}::{name}" for crate, module, name in public_functions()}
         self.assertEqual(WITHOUT_A_LAW - there, set())
