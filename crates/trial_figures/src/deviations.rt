@@ -127,9 +127,8 @@ fn show_ancillary<W: Write>(
 }
 
 // N 30 adds 10,000×N, not H×N, and J doesn't change that. Where O is 600, N also makes less of it unavailable, until nothing is.
-pub fn show_generators<W: Write>(output: &mut W) -> Result<(), Trouble> {
-    print(output, b"generators\n")?;
-    // S, A, J, N, O, M, F, H
+// S, A, J, N, O, M, F, H
+fn show_generators_with_losses<W: Write>(output: &mut W) -> Result<(), Trouble> {
     show_ancillary(
         output,
         Kind::Generator,
@@ -165,7 +164,10 @@ pub fn show_generators<W: Write>(output: &mut W) -> Result<(), Trouble> {
         2000,
         9800,
         9800,
-    )?;
+    )
+}
+
+fn show_generators_with_obligations<W: Write>(output: &mut W) -> Result<(), Trouble> {
     show(
         output,
         Kind::Generator,
@@ -202,6 +204,12 @@ pub fn show_generators<W: Write>(output: &mut W) -> Result<(), Trouble> {
         10000,
         10000,
     )
+}
+
+pub fn show_generators<W: Write>(output: &mut W) -> Result<(), Trouble> {
+    print(output, b"generators\n")?;
+    show_generators_with_losses(output)?;
+    show_generators_with_obligations(output)
 }
 
 // O 400 is below A: nothing is unavailable.

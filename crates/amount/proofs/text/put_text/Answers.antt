@@ -33,12 +33,6 @@ loop-i-preserved c =
           ∙ sym (ap (paste a.field.now start last) (add-one l.i))),
     )
 
--- LOST same-length
--- -- field: &mut [u8]
--- same_length : tie.Need-same-length invariant-loop decreases-loop
--- same_length c = c.before.loop.invariant.1
---
-
 pub returns : goal.returns
 returns c =
     let a = c.args in

@@ -32,23 +32,11 @@ module _ (f t : List ℕ) (whole : length t ≡ 20) where
       to_the_end : wider + length (drop 6 t) ≡ length (replicate wider 32 ++ drop wider f)
       to_the_end = simp (length-append, length-replicate, length-drop) (omega arith)
 
--- LOST same-length
--- -- field: &mut [u8], where width < 14
--- same_length : tie.Need-same-length
--- same_length c = search rules
---
-
 -- return, where width < 14
 pub returns-then-width-lt14 : goal.returns-then-width-lt14
 returns-then-width-lt14 c =
     let s = c in
     in-narrower s.args.field.now s.args.text.now s.requires (omega arith) c.put_text.ensures
-
--- LOST same-length-2
--- -- field: &mut [u8], at the end
--- same-length-2 : tie.Need-same-length-2
--- same-length-2 c = search rules
---
 
 -- text::put_text(field, width, text, 14), at the end
 pub returns : goal.returns

@@ -17,12 +17,6 @@ loop-at-preserved c =
       ap (λ x. set x l.at 32) l.invariant.2 ∙ fill_more l.at 32 f (omega arith),
     )
 
--- LOST same-length
--- -- field: &mut [u8]
--- same_length : tie.Need-same-length invariant-loop decreases-loop
--- same_length c = c.before.loop.invariant.1
---
-
 pub returns : goal.returns
 returns c =
     let end : c.loop-at.at ≡ c.args.end = omega arith in
