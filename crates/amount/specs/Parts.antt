@@ -1,23 +1,14 @@
--- The answers of the reader's parts as the parts of document 01, "Text amounts": a value and the next reading place, or none.
-use Rattle.std.specs.Prelude.{ℕ, Bool}
-use Rattle.std.proofs.Math.Option.{Option, none, some}
-use Rattle.rules.specs.declared.Reading.{Reading}
+-- The answers of the reader's parts as the parts of document 01, "Text amounts": a value and what is left of the field after it, or none.
+use Rattle.std.specs.Prelude.{ℕ, List, drop, Option, None, Some}
 use Rattle.rules.specs.Text.{Part}
-use Rattle.rules.specs.Refusals.{verdict_of}
-use Rattle.rules.specs.Settling.{ReadAmount}
-use Rattle.amount.specs.declared.reading.Sign.{Sign}
-use Rattle.amount.specs.declared.reading.Sign.TheVariants as sign
-use Rattle.amount.specs.declared.reading.Number.{Number}
-use Rattle.amount.specs.declared.reading.Number.TheVariants as number
+use Rattle.amount.specs.declared.reading.Cursor.{Cursor}
 
-abbrev pub sign_part : Sign → Option (Part Bool)
-sign_part (sign.Found isMinus after) = some (record { value = isMinus; next = after.at })
-sign_part sign.Missing = none
+-- a part of the definitions, whose next place is one of this field
+abbrev pub part_of : {A : Type 0} → List ℕ → Option (Part A) → Option (A × List ℕ)
+part_of s None = None
+part_of s (Some part) = Some (part.value, drop part.next s)
 
-abbrev pub number_part : Number → Option (Part ℕ)
-number_part (number.Found n after) = some (record { value = n; next = after.at })
-number_part number.Missing = none
-
--- what reading answered, by the table of refusals
-abbrev pub read_amount : Reading → ReadAmount
-read_amount r = record { verdict = verdict_of r.answer; amount = r.amount }
+-- what the code answered
+abbrev pub taken : {A : Type 0} → Option (A × Cursor) → Option (A × List ℕ)
+taken None = None
+taken (Some part) = Some (part.0, part.1.left.now)

@@ -9,7 +9,7 @@ pub fn last_digit(number: u64, tenth: u64) -> u8
     requires { tenth ≡ number / 10 }
     ensures { result ≡ digit_byte (number % 10) }
 {
-    (48 + (number - 10 * tenth)) as u8
+    b'0' + (number - 10 * tenth) as u8
 }
 
 // The digits before `end`: digit by digit from the right, each time a tenth of what is left, until nothing is left. Hands back the
@@ -28,16 +28,10 @@ pub fn write_digits(text: &mut [u8; 20], end: usize, left: u64) -> usize
     write_digits(text, at, tenth)
 }
 
-// A text's last bytes, so many, before `end`. That a text has twenty is asked, since nothing tells it of a lent array.
+// A text's last bytes, so many, before `end`.
 pub fn put_text(field: &mut [u8], end: usize, text: &[u8; 20], count: usize)
-    requires { (count ≤ end) × (end ≤ length field.old) × (count ≤ 20) × (length text.now ≡ 20) }
+    requires { (count ≤ end) × (end ≤ length field.old) × (count ≤ 20) }
     ensures { field.new ≡ sets field.old (end - count) (drop (20 - count) text.now) }
 {
-    let start = end - count;
-    let first = 20 - count;
-    let mut i = 0;
-    while i < count {
-        field[start + i] = text[first + i];
-        i += 1;
-    }
+    field[end - count..end].copy_from_slice(&text[20 - count..]);
 }

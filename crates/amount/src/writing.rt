@@ -16,7 +16,7 @@ pub fn write_amount(text: &mut [u8; 20], cents: i64) -> usize
     ensures length { result ≡ length (amount_text cents) }
     ensures text { text.new ≡ amount_field 20 cents }
 {
-    let size = whole::size_of(cents);
+    let size = cents.unsigned_abs();
     let tenth = size / 10;
     let dollars = size / 100;
     text[17] = b'.';
@@ -27,22 +27,9 @@ pub fn write_amount(text: &mut [u8; 20], cents: i64) -> usize
     20 - at
 }
 
-// Blanks before `end`.
-fn put_blanks(field: &mut [u8], end: usize)
-    requires { end ≤ length field.old }
-    ensures { field.new ≡ replicate end 32 ++ drop end field.old }
-{
-    let mut at = 0;
-    while at < end {
-        field[at] = b' ';
-        at += 1;
-    }
-}
-
 // A text at the right end of the field: its last 14 bytes, which hold every amount, with blanks before them; in a narrower field as many
 // as there is room for. `write` has seen that the others are blanks.
 pub fn put(field: &mut [u8], text: &[u8; 20])
-    requires { length text.now ≡ 20 }
     ensures { field.new ≡
         replicate (length field.old - 14) 32 ++ drop (6 + (14 - length field.old)) text.now }
 {
@@ -51,6 +38,6 @@ pub fn put(field: &mut [u8], text: &[u8; 20])
         text::put_text(field, width, text, width);
         return;
     }
-    put_blanks(field, width - 14);
+    field[..width - 14].fill(b' ');
     text::put_text(field, width, text, 14)
 }

@@ -3,45 +3,28 @@
 // word, the word is 0. Only `whole_word`, `block`, `whole_body` and `record` ask that what they hand out is there, and test nothing: in a
 // file that was accepted it is, and the sums read thousands of words. A layout comes as a value: where the caller names it, the compiler
 // folds its numbers in.
+// Layout and file stay two arguments: callers hold the file alone and name the layout at one call each, so a struct of both would be made
+// anew for every call.
 #![tactic(auto)]
 
-ghost use Rattle.std.specs.Prelude.{◌≡◌, ◌+◌, ◌*◌, ◌%◌, ◌<◌, ◌≤◌, false, not, ◌&&◌, length, take, drop, ◌==◌, nat_le, slice_index};
-ghost use Rattle.whole.specs.Below.{sum_below, first_below};
+ghost use Rattle.std.specs.Prelude.{◌≡◌, ◌+◌, ◌*◌, ◌<◌, ◌≤◌, length, take, drop, slice_index};
 ghost use Rattle.rules.specs.Record as Record;
 ghost use Rattle.rules.specs.declared.Layout as LayoutOf;
 ghost use Rattle.rules.specs.HourFile as HourFile;
 ghost use Rattle.rules.specs.Inner.Layouts.{FitsBody};
-ghost use Rattle.rules.specs.Ranges as Ranges;
 ghost use Rattle.rules.specs.Refusals as Refusals;
-ghost use Rattle.rules.specs.Refusals.{found_at};
 ghost use Rattle.blocks.specs.Part.{record_part, RecordThere};
 ghost use Rattle.blocks.specs.Broken.{broken_below};
 
-use rules::{Found, Layout};
+use rules::Layout;
 
 // ---- words
-
-fn wide(x: u8) -> u32
-    ensures { (result ≡ x) × (result < 256) }
-{
-    x as u32
-}
-
-// The word that four bytes make, the lowest first.
-fn joined(a: u8, b: u8, c: u8, d: u8) -> u32
-    ensures { result ≡ a + 256 * b + 65536 * c + 16777216 * d }
-{
-    wide(a) + 256 * wide(b) + 65536 * wide(c) + 16777216 * wide(d)
-}
 
 // Byte `i` of a part; 0 past its end.
 fn byte(part: &[u8], i: usize) -> u8
     ensures { result ≡ slice_index part.now i }
 {
-    if i < part.len() {
-        return part[i];
-    }
-    0
+    part.get(i).copied().unwrap_or(0)
 }
 
 // Word `k` where all its bytes are there: one load.
@@ -50,7 +33,7 @@ pub fn whole_word(part: &[u8], k: usize) -> u32
     ensures { result ≡ HourFile.word part.now k }
 {
     let at = 4 * k;
-    joined(part[at], part[at + 1], part[at + 2], part[at + 3])
+    u32::from_le_bytes([part[at], part[at + 1], part[at + 2], part[at + 3]])
 }
 
 // Word `k` where the part ends in it.
@@ -59,12 +42,12 @@ fn cut_word(part: &[u8], k: usize) -> u32
     ensures { result ≡ HourFile.word part.now k }
 {
     let at = 4 * k;
-    joined(
+    u32::from_le_bytes([
         byte(part, at),
         byte(part, at + 1),
         byte(part, at + 2),
         byte(part, at + 3),
-    )
+    ])
 }
 
 // Word `k` of a part, little-endian; bytes past the end are 0.
@@ -73,19 +56,19 @@ pub fn word(part: &[u8], k: usize) -> u32
 {
     let whole = part.len() / 4;
     if k < whole {
-        return whole_word(part, k);
+        whole_word(part, k)
+    } else if k == whole {
+        cut_word(part, k)
+    } else {
+        0
     }
-    if k == whole {
-        return cut_word(part, k);
-    }
-    0
 }
 
-// A word in two's complement: 2^31 is added modulo 2^32 and taken off again as a number, which compiles to one instruction.
+// A word in two's complement.
 pub fn signed(w: u32) -> i64
     ensures { result ≡ Record.signed w }
 {
-    (std::num::wrapping_add_u32(w, 2147483648) as i64) - 2147483648
+    i64::from(w.cast_signed())
 }
 
 // ---- blocks and bodies
@@ -95,13 +78,7 @@ pub fn length_bad(layout: Layout, file: &[u8]) -> bool
     ensures { result ≡ HourFile.length_bad layout file.now }
 {
     let n = file.len();
-    if n == 0 {
-        return true;
-    }
-    if n % 512 != 0 {
-        return true;
-    }
-    layout.blocks < n / 512
+    n == 0 || n % 512 != 0 || layout.blocks < n / 512
 }
 
 // How many blocks a file has.
@@ -116,9 +93,7 @@ fn block(file: &[u8], b: usize) -> &[u8]
     requires { 512 * b + 512 ≤ length file.now }
     ensures { result.now ≡ take 512 (drop (512 * b) file.now) }
 {
-    let from = 512 * b;
-    let to = 512 * b + 512;
-    &file[from..to]
+    &file[512 * b..512 * b + 512]
 }
 
 // The body of block `b`: the 480 bytes behind the block's own words.
@@ -126,20 +101,15 @@ fn whole_body(file: &[u8], b: usize) -> &[u8]
     requires { 512 * b + 512 ≤ length file.now }
     ensures { result.now ≡ take 480 (drop (512 * b + 32) file.now) }
 {
-    let from = 512 * b + 32;
-    let to = 512 * b + 512;
-    &file[from..to]
+    &file[512 * b + 32..512 * b + 512]
 }
 
 // The block reader: the body of block `b`, a part of the file itself, or an empty part.
 pub fn body(layout: Layout, file: &[u8], b: usize) -> &[u8]
     ensures { result.now ≡ HourFile.body layout file.now b }
 {
-    if length_bad(layout, file) {
-        return &file[..0];
-    }
-    if count(file) <= b {
-        return &file[..0];
+    if length_bad(layout, file) || count(file) <= b {
+        return &[];
     }
     whole_body(file, b)
 }
@@ -148,10 +118,7 @@ pub fn body(layout: Layout, file: &[u8], b: usize) -> &[u8]
 fn block_word(file: &[u8], b: usize, w: usize) -> u32
     ensures { result ≡ HourFile.block_word file.now b w }
 {
-    if count(file) < b {
-        return 0;
-    }
-    if file.len() <= w {
+    if count(file) < b || file.len() <= w {
         return 0;
     }
     word(file, 128 * b + w)
@@ -161,91 +128,32 @@ fn block_word(file: &[u8], b: usize, w: usize) -> u32
 pub fn head_word(file: &[u8], w: usize) -> u32
     ensures { (l : LayoutOf.Layout) → result ≡ (HourFile.hour_of l file.now).head w }
 {
-    if w < 8 {
-        return 0;
+    if (8..128).contains(&w) {
+        block_word(file, 0, w)
+    } else {
+        0
     }
-    if w < 128 {
-        return block_word(file, 0, w);
-    }
-    0
 }
 
 // ---- refusal 2: the sums of the blocks
 
-// One word more, modulo 2^32.
-fn added(sum: u32, word: u32) -> u32
-    ensures { result ≡ (sum + word) % 0x1_0000_0000 }
+// The sum of the 128 words of block `b`, modulo 2^32.
+fn block_sum(file: &[u8], b: usize) -> u32
+    requires { 512 * b + 512 ≤ length file.now }
+    ensures { result ≡ HourFile.block_sum file.now b }
 {
-    std::num::wrapping_add_u32(sum, word)
-}
-
-// The sum of a block's 128 words, modulo 2^32.
-fn sum_of(block: &[u8]) -> u32
-    ensures { result ≡ sum_below (HourFile.word block.now) 128 % 0x1_0000_0000 }
-{
-    let mut sum: u32 = 0;
-    let mut w = 0;
-    while w < 128 {
-        sum = added(sum, word(block, w));
-        w += 1;
-    }
-    sum
+    let words = block(file, b);
+    (0..128).fold(0u32, |sum, w| sum.wrapping_add(word(words, w)))
 }
 
 // The first block whose sum isn't zero.
-pub fn bad_sum(file: &[u8]) -> Found
-    ensures { found_at result ≡ Refusals.bad_sum file.now }
+pub fn bad_sum(file: &[u8]) -> Option<usize>
+    ensures { result ≡ Refusals.bad_sum file.now }
 {
-    let n = count(file);
-    let mut b = 0;
-    while b < n {
-        if sum_of(block(file, b)) != 0 {
-            return Found::At(b);
-        }
-        b += 1;
-    }
-    Found::Nothing
+    (0..count(file)).find(|&b| block_sum(file, b) != 0)
 }
 
 // ---- refusal 3: the layout of the blocks
-
-// The first word of a block, from `from` on, that isn't zero.
-fn first_not_zero(block: &[u8], from: usize) -> Found
-    ensures { found_at result ≡ first_below (λ w. nat_le from w && not (HourFile.word block.now w == 0)) 128 }
-{
-    let mut w = from;
-    while w < 128 {
-        if word(block, w) != 0 {
-            return Found::At(w);
-        }
-        w += 1;
-    }
-    Found::Nothing
-}
-
-// Whether word `w` of block `b` of `n` breaks the layout.
-fn block_word_bad(layout: Layout, block: &[u8], n: u32, held: u32, b: u32, w: usize) -> bool
-    requires { FitsBody layout }
-    ensures { result ≡ not (Ranges.keeps (Ranges.block_rule layout n held b w) (HourFile.word block.now w)) }
-{
-    let rule = wordrules::block_rule(layout, n, held, b, w);
-    !wordrules::keeps(rule, word(block, w))
-}
-
-// Whether one of words 0 to 6 of block `b` of `n` breaks the layout.
-fn front_bad(layout: Layout, block: &[u8], n: u32, held: u32, b: u32) -> bool
-    requires { FitsBody layout }
-    ensures { result ≡ broken_below layout 7 n held b block.now }
-{
-    let mut w = 0;
-    while w < 7 {
-        if block_word_bad(layout, block, n, held, b, w) {
-            return true;
-        }
-        w += 1;
-    }
-    false
-}
 
 // Whether block `b` of `n` breaks the layout. The body of the first block is for refusal 4; of another block it is zero past the records.
 fn block_bad(layout: Layout, block: &[u8], n: u32, b: u32) -> bool
@@ -253,33 +161,21 @@ fn block_bad(layout: Layout, block: &[u8], n: u32, b: u32) -> bool
     ensures { result ≡ broken_below layout 128 n (HourFile.word block.now 2) b block.now }
 {
     let held = word(block, 2);
-    let past = 8 + layout.words * (held as usize);
-    if front_bad(layout, block, n, held, b) {
-        return true;
-    }
-    if b == 0 {
-        return false;
-    }
-    match first_not_zero(block, past) {
-        Found::At(_) => true,
-        Found::Nothing => false,
-    }
+    let past = 8 + layout.words * held as usize;
+    let front_bad = (0..7).any(|w| {
+        let rule = wordrules::block_rule(layout, n, held, b, w);
+        !wordrules::keeps(rule, word(block, w))
+    });
+    front_bad || b != 0 && (past..128).any(|w| word(block, w) != 0)
 }
 
 // The first block that breaks the layout.
-pub fn bad_block(layout: Layout, file: &[u8]) -> Found
+pub fn bad_block(layout: Layout, file: &[u8]) -> Option<usize>
     requires { FitsBody layout × (HourFile.blocks file.now < 0x1_0000_0000) }
-    ensures { found_at result ≡ Refusals.bad_block layout file.now }
+    ensures { result ≡ Refusals.bad_block layout file.now }
 {
     let n = count(file);
-    let mut b = 0;
-    while b < n {
-        if block_bad(layout, block(file, b), n as u32, b as u32) {
-            return Found::At(b);
-        }
-        b += 1;
-    }
-    Found::Nothing
+    (0..n).find(|&b| block_bad(layout, block(file, b), n as u32, b as u32))
 }
 
 // ---- records
@@ -293,7 +189,7 @@ pub fn records(layout: Layout, file: &[u8]) -> usize
     if n <= 1 {
         return 0;
     }
-    layout.records * (n - 2) + (block_word(file, n - 1, 2) as usize)
+    layout.records * (n - 2) + block_word(file, n - 1, 2) as usize
 }
 
 // Record `i`, a part of its block's body. Whoever reads several words of a record takes this part once.
@@ -305,6 +201,5 @@ pub fn record(layout: Layout, file: &[u8], i: usize) -> &[u8]
     let size = 4 * layout.words;
     let own = whole_body(file, 1 + i / full);
     let from = size * (i % full);
-    let to = from + size;
-    &own[from..to]
+    &own[from..from + size]
 }

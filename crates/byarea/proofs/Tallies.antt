@@ -23,6 +23,7 @@ use Rattle.rules.specs.Record.{Hour, areas, tie_in, tie_out, area_of, entry_of}
 use Rattle.rules.specs.Deviation.{units_per_kwh}
 use Rattle.rules.specs.Ufe.{ufe, area_demand}
 use Rattle.rules.specs.Neutrality.{hour_demand}
+use Rattle.rules.specs.Inner.Kept.{HourKept}
 use Rattle.rules.specs.Inner.Posting.{accounted, tallied, demand_of, tally_after}
 use Rattle.rules.specs.Settling.{ufe_figures}
 use Rattle.rules.proofs.Posting.{tally_energy, tally_gives_demands, tally_gives_ufe}
@@ -31,41 +32,40 @@ use Rattle.rules.proofs.Bounds.{energy_running}
 use Rattle.rules.proofs.Neutral.{hour_demand_by_area}
 use Rattle.formula.specs.Room.{TallyRoom}
 use Rattle.formula.proofs.Room.{tally_room}
-use Rattle.rules.specs.HourFile.{hour_in}
-use Rattle.hour.specs.declared.Head.{Head}
-use Rattle.hour.specs.Hour.{Headed}
-use Rattle.hour.proofs.Figures.{figure_at, head_areas}
-use Rattle.byarea.specs.Posted.{TalliedUpTo, Tallied, unshared, demand_in}
+use Rattle.hour.specs.declared.examined.Hour as examined
+use Rattle.hour.specs.Held.{held}
+use Rattle.hour.proofs.Figures.{figure_at}
+use Rattle.byarea.specs.Posted.{Tallied, unshared, demand_in}
 
 -- a record's area, demand and energy, as they were read
-module _ {s : List ℕ} {t : Tally} {i : ℕ} (p : TalliedUpTo s t i) {a d : ℕ} {e : ℤ}
-    (area-is : a ≡ area_of (hour_in s) i) (demand-is : d ≡ demand_of (hour_in s) i) (energy-is : e ≡ accounted (entry_of (hour_in s) i)) where
-  pub has_room : TallyRoom t a d e
-  has_room = rw (p.posted, area-is, demand-is, energy-is) (tally_room p.kept.hour_kept i p.there)
+module _ (h : Hour) {t : Tally} (i : ℕ) (posted : t ≡ tally_after h i) {a d : ℕ} {e : ℤ}
+    (area-is : a ≡ area_of h i) (demand-is : d ≡ demand_of h i) (energy-is : e ≡ accounted (entry_of h i)) where
+  pub has_room : HourKept h → i < h.count → TallyRoom t a d e
+  has_room kept there = rw (posted, area-is, demand-is, energy-is) (tally_room kept i there)
 
-  pub next_tally : tallied t a d e ≡ tally_after (hour_in s) (i + 1)
+  pub next_tally : tallied t a d e ≡ tally_after h (i + 1)
   unfolding tally_after
-  next_tally = rw (p.posted, area-is, demand-is, energy-is, add-one)
+  next_tally = rw (posted, area-is, demand-is, energy-is, add-one)
 
 -- ---- once all records are posted: an area's demand, its energy, and its UFE
 
-module _ {s : List ℕ} {t : Tally} (p : Tallied s t) (a : ℕ) (there : a < areas (hour_in s)) where
+module _ (x : examined.Hour) {t : Tally} (p : Tallied x t) (a : ℕ) (there : a < areas (held x)) where
   abbrev hour : Hour
-  hour = hour_in s
+  hour = held x
 
   place : a < 8
-  place = omega (arith, p.kept.hour_kept.areas_most)
+  place = omega (arith, x.kept.hour_kept.areas_most)
 
   demand_at : get_or t.demand a 0 ≡ area_demand hour a
-  demand_at = rw p.posted (tally_gives_demands hour a place)
+  demand_at = rw p (tally_gives_demands hour a place)
 
   -- an area's energy is at most 5×10^11 units in size
   pub energy_under : Under (get_or t.energy a (pos 0)) 500000000000
   energy_under =
-      rw (p.posted, tally_energy hour a place hour.count) (energy_running p.kept.hour_kept a hour.count (le_refl hour.count))
+      rw (p, tally_energy hour a place hour.count) (energy_running x.kept.hour_kept a hour.count (le_refl hour.count))
 
   pub ufe_is : units_per_kwh *ℤ (tie_in hour a -ℤ tie_out hour a) +ℤ get_or t.energy a (pos 0) ≡ ufe hour a
-  ufe_is = rw p.posted (sym (tally_gives_ufe hour a place))
+  ufe_is = rw p (sym (tally_gives_ufe hour a place))
 
 -- ---- what the code's tests of an area say: of a number, and of a number's bits
 
@@ -87,17 +87,17 @@ module _ (t : Tally) (figures : List ℤ) (a : ℕ) where
 
 -- ---- the hour's areas, of which the tally and the figures are: for callers of the functions that read no file
 
-module _ {s : List ℕ} {t : Tally} (p : Tallied s t) {head : Head} (headed : Headed s head) where
-  pub few_areas : head.areas ≤ 8
-  few_areas = omega (arith, head_areas headed, p.kept.hour_kept.areas_most)
+module _ (x : examined.Hour) {t : Tally} (p : Tallied x t) where
+  pub few_areas : x.areas ≤ 8
+  few_areas = omega (arith, x.areas_are, x.kept.hour_kept.areas_most)
 
-  pub demand_is_hours : demand_in t head.areas ≡ hour_demand (hour_in s)
-  demand_is_hours = ap (demand_in t) (head_areas headed)
-      ∙ sum_ext _ (area_demand (hour_in s)) (areas (hour_in s)) (demand_at p)
-      ∙ sym (hour_demand_by_area p.kept.hour_kept)
+  pub demand_is_hours : demand_in t x.areas ≡ hour_demand (held x)
+  demand_is_hours = ap (demand_in t) x.areas_are
+      ∙ sum_ext _ (area_demand (held x)) (areas (held x)) (demand_at x p)
+      ∙ sym (hour_demand_by_area x.kept.hour_kept)
 
-  pub unshared_is_bad : {figures : List ℤ} → figures ≡ ufe_figures (hour_in s) →
-      first_below (unshared t figures) head.areas ≡ bad_area (hour_in s)
+  pub unshared_is_bad : {figures : List ℤ} → figures ≡ ufe_figures (held x) →
+      first_below (unshared t figures) x.areas ≡ bad_area (held x)
   unfolding bad_area
-  unshared_is_bad {figures} e = ap (first_below (unshared t figures)) (head_areas headed) ∙ first_ext _ _ (areas (hour_in s)) (λ a there.
-      rw (demand_at p a there, e, figure_at (hour_in s) p.kept.hour_kept.areas_most a there))
+  unshared_is_bad {figures} e = ap (first_below (unshared t figures)) x.areas_are ∙ first_ext _ _ (areas (held x)) (λ a there.
+      rw (demand_at x p a there, e, figure_at (held x) x.kept.hour_kept.areas_most a there))

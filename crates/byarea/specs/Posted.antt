@@ -1,21 +1,14 @@
 -- How far an hour is posted: what the functions that go on from there ask of their callers. And what a tally gives, whoever's it is.
-use Rattle.std.specs.Prelude.{ℕ, ◌<◌, ◌≡◌, Bool, not, ◌&&◌, List, eqb, ℤ, pos, nat_abs, get_or}
+use Rattle.std.specs.Prelude.{ℕ, ◌≡◌, Bool, not, ◌&&◌, List, eqb, ℤ, pos, nat_abs, get_or}
 use Rattle.whole.specs.Below.{sum_below}
 use Rattle.rules.specs.declared.Tally.{Tally}
 use Rattle.rules.specs.Inner.Posting.{tally_after}
-use Rattle.rules.specs.Inner.Kept.{FileKept}
-use Rattle.rules.specs.HourFile.{hour_in}
-
--- the records before i are in the tally, and record i is there to be posted
-pub record TalliedUpTo (s : List ℕ) (t : Tally) (i : ℕ) : Type 0 where
-  pub kept : FileKept s
-  pub there : i < (hour_in s).count
-  pub posted : t ≡ tally_after (hour_in s) i
+use Rattle.hour.specs.declared.examined.Hour.{Hour}
+use Rattle.hour.specs.Held.{held}
 
 -- all records are in the tally
-pub record Tallied (s : List ℕ) (t : Tally) : Type 0 where
-  pub kept : FileKept s
-  pub posted : t ≡ tally_after (hour_in s) (hour_in s).count
+abbrev pub Tallied : Hour → Tally → Type 0
+Tallied x t = t ≡ tally_after (held x) (held x).count
 
 -- an area in which nobody demands anything and whose figure isn't 0
 abbrev pub unshared : Tally → List ℤ → ℕ → Bool

@@ -7,15 +7,13 @@ ghost use Rattle.whole.specs.Below.{first_below};
 ghost use Rattle.rules.specs.Record as Record;
 ghost use Rattle.rules.specs.Ufe.{ufe};
 ghost use Rattle.rules.specs.Inner.Posting as Posting;
-ghost use Rattle.rules.specs.Refusals.{found_at};
 ghost use Rattle.rules.specs.Settling.{ufe_figures};
 ghost use Rattle.formula.specs.Room.{TallyRoom};
-ghost use Rattle.rules.specs.HourFile.{hour_in};
-ghost use Rattle.hour.specs.Hour.{Headed};
+ghost use Rattle.hour.specs.Held.{held};
 ghost use Rattle.byarea.specs.Posted.{Tallied, unshared, demand_in};
 
-use hour::Head;
-use rules::{Found, Tally};
+use hour::Hour;
+use rules::Tally;
 
 // Brings the lent tally up to date.
 fn post(tally: &mut Tally, area: usize, demand: u32, energy: i64)
@@ -27,63 +25,50 @@ fn post(tally: &mut Tally, area: usize, demand: u32, energy: i64)
 }
 
 // All records, in file order, to one tally that is lent to each posting.
-pub fn tally_of(file: &[u8], head: Head) -> Tally
-    requires { Headed file.now head }
-    ensures { result ≡ Posting.tally_after (hour_in file.now) (hour_in file.now).count }
+pub fn tally_of(hour: &Hour) -> Tally
+    ensures { result ≡ Posting.tally_after (held hour.now) (held hour.now).count }
 {
-    let n = head.records;
     let mut tally = formula::posting::empty_tally();
-    let mut i = 0;
-    while i < n {
-        let area = hour::area_of(file, i);
-        let demand = hour::demand_of(file, i);
-        let energy = formula::deviation::accounted(hour::entry_of(file, i));
-        post(&mut tally, area, demand, energy);
-        i += 1;
+    for i in 0..hour.records {
+        let energy = formula::deviation::accounted(hour.entry_of(i));
+        post(&mut tally, hour.area_of(i), hour.demand_of(i), energy);
     }
     tally
 }
 
 // An area's UFE: its ties, and what its records are accounted for.
-fn ufe_of(file: &[u8], t: Tally, a: usize) -> i64
-    requires { Tallied file.now t × (a < Record.areas (hour_in file.now)) }
-    ensures { result ≡ ufe (hour_in file.now) a }
+fn ufe_of(hour: &Hour, t: Tally, a: usize) -> i64
+    requires { Tallied hour.now t × (a < Record.areas (held hour.now)) }
+    ensures { result ≡ ufe (held hour.now) a }
 {
-    let tie_in = hour::head_word(file, 17 + 4 * a) as i64;
-    let tie_out = hour::head_word(file, 18 + 4 * a) as i64;
+    let tie_in = i64::from(hour::head_word(hour.file, 17 + 4 * a));
+    let tie_out = i64::from(hour::head_word(hour.file, 18 + 4 * a));
     10000 * (tie_in - tie_out) + t.energy[a]
 }
 
 // Eight figures, 0 past the areas.
-pub fn ufe_figures(file: &[u8], head: Head, t: Tally) -> [i64; 8]
-    requires { Headed file.now head × Tallied file.now t }
-    ensures { result ≡ ufe_figures (hour_in file.now) }
+pub fn ufe_figures(hour: &Hour, t: Tally) -> [i64; 8]
+    requires { Tallied hour.now t }
+    ensures { result ≡ ufe_figures (held hour.now) }
 {
-    let areas = head.areas;
     let mut ufe = [0i64; 8];
-    let mut a = 0;
-    while a < areas {
-        ufe[a] = ufe_of(file, t, a);
-        a += 1;
+    for a in 0..hour.areas {
+        ufe[a] = ufe_of(hour, t, a);
     }
     ufe
 }
 
 // Refusal 6: the first area where nobody demands anything and there is something to share.
-pub fn area_without_demand(areas: usize, t: Tally, ufe: [i64; 8]) -> Found
+pub fn area_without_demand(areas: usize, t: Tally, ufe: [i64; 8]) -> Option<usize>
     requires { areas ≤ 8 }
-    ensures { found_at result ≡ first_below (unshared t ufe) areas }
+    ensures { result ≡ first_below (unshared t ufe) areas }
 {
-    let mut a = 0;
-    while a < areas {
-        if t.demand[a] == 0 {
-            if ufe[a] != 0 {
-                return Found::At(a);
-            }
+    for a in 0..areas {
+        if t.demand[a] == 0 && ufe[a] != 0 {
+            return Some(a);
         }
-        a += 1;
     }
-    Found::Nothing
+    None
 }
 
 // Whether nobody demands anything in these areas: in an hour without demand there is nothing to share the neutrality amount by.
@@ -91,12 +76,10 @@ pub fn nobody_demands(areas: usize, t: Tally) -> bool
     requires { areas ≤ 8 }
     ensures { result ≡ eqb (demand_in t areas) 0 }
 {
-    let mut a = 0;
-    while a < areas {
-        if t.demand[a] != 0 {
+    for own in &t.demand[..areas] {
+        if *own != 0 {
             return false;
         }
-        a += 1;
     }
     true
 }

@@ -1,30 +1,27 @@
 -- An hour in which nobody demands anything: no record has a share, and the members' exact amounts are added up record by record.
 use mathlib.Core.Path.{◌≡◌, sym, ◌∙◌, ap}
-use mathlib.Core.List.{List}
+use mathlib.Core.List.{List, map}
 use Prim.Native.Nat.{ℕ, ◌+◌, ◌≤◌, ◌<◌}
-use native.Mathlib.Nat.{le_refl, le_of_lt}
+use native.Mathlib.Nat.{le_of_lt}
 use native.Mathlib.Omega.{arith}
 use lib.IntN.{ℤ, pos, ◌+ℤ◌}
 use lib.ListN.{length, get_or, set}
 use mir.Syntax.{w64}
 use mir.Val.{SFits}
-use Rattle.whole.specs.Below.{total_below, replacing_first}
-use Rattle.whole.proofs.Totals.{total_ext}
-use Rattle.whole.proofs.Ranges.{u_le}
+use Rattle.std.proofs.lemmas.List.{get_or-map, length-map}
+use Rattle.whole.specs.Below.{replacing_first}
 use Rattle.whole.proofs.Buffers.{get_or_replacing, length_replacing}
 use Rattle.whole.proofs.Adding.{Added, totals_by, added_at, next_total, all_added}
 use Rattle.whole.proofs.Machine.{Num, result, ◌:+◌, fits, stored, back}
 use Rattle.rules.specs.Record.{Hour, members, member_of, area_of, entry_of}
 use Rattle.rules.specs.Deviation.{deviation}
 use Rattle.rules.specs.Charge.{share_of, grains, amount, cents, charge}
-use Rattle.rules.specs.Neutrality.{hour_demand, neutrality}
-use Rattle.rules.specs.Refusals.{most_grains}
-use Rattle.rules.specs.Inner.Kept.{HourKept, FileKept}
+use Rattle.rules.specs.Neutrality.{hour_demand}
+use Rattle.rules.specs.Inner.Kept.{HourKept}
 use Rattle.rules.proofs.Fair.{none_to_share}
-use Rattle.rules.proofs.Bounds.{grains_under, amount_running, amount_under}
+use Rattle.rules.proofs.Bounds.{grains_under, amount_running}
 use Rattle.rules.proofs.Neutral.{no_area_demands}
-use Rattle.rules.specs.HourFile.{hour_in}
-use Rattle.bymember.specs.Charged.{Deviated, Empty, Amounts, Bounded}
+use Rattle.bymember.specs.Charged.{Charged, Deviated, Empty}
 
 module _ {h : Hour} (kept : HourKept h) where
   pub no_share : hour_demand h ≡ 0 → (i : ℕ) → i < h.count → pos 0 ≡ share_of h i
@@ -58,32 +55,26 @@ module _ {h : Hour} (kept : HourKept h) where
   amounts_are added ended = all_added added ended
 
 -- the deviations are put where there is room for them
-pub deviations_ready : {s : List ℕ} (lent : List ℤ) {deviations : List ℤ} → (hour_in s).count ≤ length lent →
-    deviations ≡ replacing_first (λ i. deviation (entry_of (hour_in s) i)) (hour_in s).count lent → Deviated s deviations
-deviations_ready {s} lent room put = record {
-  room = rw (put, length_replacing (λ i. deviation (entry_of (hour_in s) i)) (hour_in s).count lent room) room;
-  deviations_are = λ i l. rw put (get_or_replacing (λ i. deviation (entry_of (hour_in s) i)) (hour_in s).count lent i (pos 0) l);
+pub deviations_ready : (h : Hour) (lent : List ℤ) {deviations : List ℤ} → h.count ≤ length lent →
+    deviations ≡ replacing_first (λ i. deviation (entry_of h i)) h.count lent → Deviated h deviations
+deviations_ready h lent room put = record {
+  room = rw (put, length_replacing (λ i. deviation (entry_of h i)) h.count lent room) room;
+  deviations_are = λ i l. rw put (get_or_replacing (λ i. deviation (entry_of h i)) h.count lent i (pos 0) l);
 }
 
--- the amounts are added up where nothing stood
-pub amounts_ready : {s : List ℕ} {lent amounts : List ℤ} → FileKept s → Empty (pos 0) (hour_in s) lent →
-    amounts ≡ replacing_first (amount (hour_in s)) (members (hour_in s)) lent → Amounts s amounts
-amounts_ready {s} {lent} kept empty put = record {
-  kept = kept;
-  as_many = ap length put ∙ length_replacing (amount (hour_in s)) (members (hour_in s)) lent (omega (arith, empty.as_many)) ∙ empty.as_many;
-  amounts_are = λ m l. rw put (get_or_replacing (amount (hour_in s)) (members (hour_in s)) lent m (pos 0) l);
-}
+-- the amounts are added up where nothing stood, and rounded they are the hour's charges
+module _ (h : Hour) {lent amounts charges : List ℤ} (empty : Empty (pos 0) h lent)
+    (put : amounts ≡ replacing_first (amount h) (members h) lent) (rounded : charges ≡ map cents amounts) where
+  amounts_length : length amounts ≡ members h
+  amounts_length = ap length put ∙ length_replacing (amount h) (members h) lent (omega (arith, empty.as_many)) ∙ empty.as_many
 
--- their cents are the hour's charges, and the sum of these is N
-module _ {s : List ℕ} {amounts : List ℤ} (a : Amounts s amounts) where
-  pub amounts_bounded : Bounded amounts (length amounts) most_grains
-  amounts_bounded = record {
-    few = omega (arith, a.as_many, a.kept.hour_kept.members_most);
-    room = le_refl (length amounts);
-    small = λ m l. rw (a.amounts_are m (omega (arith, a.as_many))) (u_le (amount_under a.kept.hour_kept m) (omega arith));
+  pub charges_length : length charges ≡ members h
+  charges_length = ap length rounded ∙ length-map amounts cents ∙ amounts_length
+
+  pub charged : Charged h charges
+  unfolding charge
+  charged = record {
+    room = omega (arith, charges_length);
+    charges_are = λ m l. rw rounded (get_or-map cents amounts m (pos 0) (pos 0) (omega (arith, amounts_length))
+        ∙ ap cents (rw put (get_or_replacing (amount h) (members h) lent m (pos 0) l)));
   }
-
-  pub cents_total : total_below (λ m. cents (get_or amounts m (pos 0))) (length amounts) ≡ neutrality (hour_in s)
-  unfolding neutrality charge
-  cents_total = ap (total_below (λ m. cents (get_or amounts m (pos 0)))) a.as_many
-      ∙ total_ext _ (λ m. cents (amount (hour_in s) m)) (members (hour_in s)) (λ m l. ap cents (a.amounts_are m l))

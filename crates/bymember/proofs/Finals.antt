@@ -7,7 +7,8 @@ use native.Mathlib.Nat.{le_refl, le_of_lt}
 use native.Mathlib.Omega.{arith}
 use lib.Dec.{eqb}
 use lib.IntN.{ℤ, pos, nat_abs, ◌+ℤ◌, ◌-ℤ◌}
-use lib.ListN.{length, get_or}
+use lib.ListN.{length, take, get_or}
+use lib.Seq.{length-take-le, get_or-take}
 use mir.Syntax.{w64}
 use mir.Val.{SFits, to_z}
 use Rattle.whole.specs.Below.{sum_below, total_below, replacing_first}
@@ -29,7 +30,6 @@ use Rattle.rules.proofs.Bounds.{charge_under}
 use Rattle.rules.proofs.Neutral.{member_demand_by_record, hour_demand_most, neutrality_under}
 use Rattle.share.specs.Shareable.{at, everyone, demanded, Shareable, shares_in}
 use Rattle.share.proofs.Uses.{neutrality_shareable}
-use Rattle.rules.specs.HourFile.{hour_in}
 use Rattle.bymember.specs.Charged.{Charged, Bounded, less_share, size_of, Sized}
 
 -- ---- N: a few numbers are added up, and one more
@@ -49,17 +49,24 @@ module _ (f : ℕ → ℤ) (m : ℕ) (few : m < 32) (small : (i : ℕ) → i ≤
   number_added = stored more tt ∙ sym (total_add_one f m)
 
 -- the charges of an hour, of which the sum is N
-module _ {s : List ℕ} {charges : List ℤ} (c : Charged s charges) {n : ℕ} (all : n ≡ members (hour_in s)) where
-  pub charges_bounded : Bounded charges n 400000000000
-  charges_bounded = record {
-    few = omega (arith, all, c.kept.hour_kept.members_most);
+module _ {h : Hour} {charges : List ℤ} (c : Charged h charges) {n : ℕ} (all : n ≡ members h) where
+  pub charges_bounded : HourKept h → Bounded charges n 400000000000
+  charges_bounded kept = record {
+    few = omega (arith, all, kept.members_most);
     room = omega (arith, all, c.room);
-    small = λ m l. rw (c.charges_are m (omega (arith, all))) (u_le (charge_under c.kept.hour_kept m) (omega arith));
+    small = λ m l. rw (c.charges_are m (omega (arith, all))) (u_le (charge_under kept m) (omega arith));
   }
 
-  pub charges_total : total_below (λ m. get_or charges m (pos 0)) n ≡ neutrality (hour_in s)
+  pub charges_total : total_below (λ m. get_or charges m (pos 0)) n ≡ neutrality h
   unfolding neutrality
-  charges_total = ap (total_below (λ m. get_or charges m (pos 0))) all ∙ total_ext _ (charge (hour_in s)) (members (hour_in s)) c.charges_are
+  charges_total = ap (total_below (λ m. get_or charges m (pos 0))) all ∙ total_ext _ (charge h) (members h) c.charges_are
+
+-- the members' charges alone, the first of those places
+pub charged_alone : {h : Hour} {charges : List ℤ} {n : ℕ} → Charged h charges → n ≡ members h → Charged h (take n charges)
+charged_alone {charges = charges} {n = n} c all = record {
+  room = omega (arith, all, c.room, length-take-le n charges (omega (arith, all, c.room)));
+  charges_are = λ m l. get_or-take n charges m (pos 0) (omega (arith, all)) ∙ c.charges_are m l;
+}
 
 module _ {h : Hour} (kept : HourKept h) where
   -- ---- the members' demands, record by record
@@ -129,28 +136,28 @@ module _ {h : Hour} {lent demands : List ℕ} (q : Asked h lent demands) where
         ∙ everybody_takes_part m l
 
 -- N, as it was added up, and the engine's sizes are all that is needed to take the shares off
-pub sized : {s : List ℕ} {lent demands got : List ℕ} {all : ℤ} → Asked (hour_in s) lent demands → all ≡ neutrality (hour_in s) →
-    got ≡ shares_in demands (nat_abs (neutrality (hour_in s))) demands → Sized s all got
+pub sized : {h : Hour} {lent demands got : List ℕ} {all : ℤ} → Asked h lent demands → all ≡ neutrality h →
+    got ≡ shares_in demands (nat_abs (neutrality h)) demands → Sized h all got
 sized q all_is shared = record { all_is = all_is; as_many = got_as_many q shared; sizes_are = got_at q shared }
 
 -- ---- the shares are taken off
 
-module _ {s : List ℕ} {charges : List ℤ} (c : Charged s charges) {all : ℤ} {sizes : List ℕ} (z : Sized s all sizes) where
-  pub sizes_bounded : (m : ℕ) → m < length sizes → get_or sizes m 0 ≤ 400000000000
+module _ {h : Hour} {charges : List ℤ} (c : Charged h charges) {all : ℤ} {sizes : List ℕ} (z : Sized h all sizes) where
+  pub sizes_bounded : HourKept h → (m : ℕ) → m < length sizes → get_or sizes m 0 ≤ 400000000000
   unfolding size_of
-  sizes_bounded m l =
-      let there : m < members (hour_in s) = omega (arith, z.as_many) in
+  sizes_bounded kept m l =
+      let there : m < members h = omega (arith, z.as_many) in
       omega (
         arith,
         z.sizes_are m there,
-        size_at_most every_member (member_demand (hour_in s)) (members (hour_in s)) (nat_abs (neutrality (hour_in s))) m there,
-        (neutrality_under c.kept.hour_kept).under,
+        size_at_most every_member (member_demand h) (members h) (nat_abs (neutrality h)) m there,
+        (neutrality_under kept).under,
       )
 
   pub taken_off : (before : List ℤ) {after : List ℤ} → after ≡ replacing_first (less_share charges all sizes) (length sizes) before →
-      after ≡ replacing_first (final (hour_in s)) (members (hour_in s)) before
+      after ≡ replacing_first (final h) (members h) before
   unfolding final neutrality_share share size_of
   taken_off before e = e
       ∙ ap (λ k. replacing_first (less_share charges all sizes) k before) z.as_many
-      ∙ replacing_ext _ (final (hour_in s)) (members (hour_in s)) before (λ m l. ap₂ ◌-ℤ◌ (c.charges_are m l)
+      ∙ replacing_ext _ (final h) (members h) before (λ m l. ap₂ ◌-ℤ◌ (c.charges_are m l)
       (ap₂ with_sign_of z.all_is (z.sizes_are m l)))

@@ -30,7 +30,8 @@ use Rattle.rules.proofs.Fair.{share_in}
 use Rattle.rules.proofs.Bounds.{ufe_under}
 use Rattle.share.specs.Shareable.{at, everyone, Shareable, shares_in}
 use Rattle.share.proofs.Uses.{ufe_shareable}
-use Rattle.rules.specs.HourFile.{hour_in}
+use Rattle.hour.specs.declared.examined.Hour as examined
+use Rattle.hour.specs.Held.{held}
 use Rattle.byrecord.specs.Shared.{loads_before, shares_below, with_sizes, SharedUpTo, Sized}
 
 -- ---- a record's share before and after its area's turn
@@ -74,12 +75,12 @@ module _ (h : Hour) (a i : ℕ) where
 
 -- ---- the turn of area a
 
-module _ {s : List ℕ} {a : ℕ} {figure : ℤ} {room : List ℕ} {out : List ℤ} (p : SharedUpTo s a figure room out) where
+module _ {x : examined.Hour} {a : ℕ} {figure : ℤ} {room : List ℕ} {out : List ℤ} (p : SharedUpTo x a figure room out) where
   abbrev hour : Hour
-  hour = hour_in s
+  hour = held x
 
   abbrev ranges : HourKept hour
-  ranges = p.kept.hour_kept
+  ranges = x.kept.hour_kept
 
   -- its UFE is a number of 64 bits
   pub figure_read : to_z w64 (of_z w64 figure) ≡ figure
@@ -104,15 +105,15 @@ module _ {s : List ℕ} {a : ℕ} {figure : ℤ} {room : List ℕ} {out : List �
 -- ---- an area with UFE, over its loads
 
 -- what the engine is asked: in the first places of `room` stand the demands of the area's loads, so many
-pub record Asked (s : List ℕ) (a : ℕ) (figure : ℤ) (lent : List ℕ) (out : List ℤ) (loads : ℕ) (room : List ℕ) : Type 0 where
-  pub up_to : SharedUpTo s a figure lent out
-  pub counted : loads ≡ loads_before (hour_in s) a (hour_in s).count
-  pub holds : room ≡ gathered_below (in_area (hour_in s) a is_load) (demand (hour_in s)) (hour_in s).count lent
+pub record Asked (x : examined.Hour) (a : ℕ) (figure : ℤ) (lent : List ℕ) (out : List ℤ) (loads : ℕ) (room : List ℕ) : Type 0 where
+  pub up_to : SharedUpTo x a figure lent out
+  pub counted : loads ≡ loads_before (held x) a (held x).count
+  pub holds : room ≡ gathered_below (in_area (held x) a is_load) (demand (held x)) (held x).count lent
 
-module _ {s : List ℕ} {a : ℕ} {figure : ℤ} {lent : List ℕ} {out : List ℤ} {loads : ℕ} {room : List ℕ}
-    (q : Asked s a figure lent out loads room) where
+module _ {x : examined.Hour} {a : ℕ} {figure : ℤ} {lent : List ℕ} {out : List ℤ} {loads : ℕ} {room : List ℕ}
+    (q : Asked x a figure lent out loads room) where
   abbrev h : Hour
-  h = hour_in s
+  h = held x
 
   abbrev n : ℕ
   n = h.count
@@ -148,17 +149,17 @@ module _ {s : List ℕ} {a : ℕ} {figure : ℤ} {lent : List ℕ} {out : List �
 
   demand_small : (k : ℕ) → k < length demands → at demands k ≤ 100000
   demand_small k m = passer_at load n k (omega (arith, as_many, q.counted)) (λ j l t e.
-      rw (← e) (rw (demand_at j l t) ((ranges q.up_to).record_kept j l).demand_most))
+      rw (← e) (rw (demand_at j l t) (x.kept.hour_kept.record_kept j l).demand_most))
 
   U_most : U ≤ 1000000000000
-  U_most = (ufe_under (ranges q.up_to) a q.up_to.there).under
+  U_most = (ufe_under x.kept.hour_kept a q.up_to.there).under
 
   few : length demands ≤ n
   few = omega (arith, as_many, loads_fit, room_kept, q.up_to.places)
 
   pub shareable : Shareable demands U demands
   shareable =
-      ufe_shareable demands U demands (le_refl (length demands)) (omega (arith, few, (ranges q.up_to).count_most)) demand_small U_most
+      ufe_shareable demands U demands (le_refl (length demands)) (omega (arith, few, x.kept.hour_kept.count_most)) demand_small U_most
 
   -- the sizes stand where the demands stood
   module _ {got : List ℕ} (shared : got ≡ shares_in demands U room) where
@@ -176,9 +177,8 @@ module _ {s : List ℕ} {a : ℕ} {figure : ℤ} {lent : List ℕ} {out : List �
         ∙ ap (λ (m : ℕ). share_size everyone (at demands) m U (place j)) (as_many ∙ q.counted)
         ∙ gathered_shares load (demand h) (at demands) n U demand_at j l t
 
-    pub sized : Sized s a got out
+    pub sized : Sized x a got out
     sized = record {
-      kept = q.up_to.kept;
       as_many = sizes_kept;
       room = omega (arith, sizes_kept, q.up_to.room_out);
       small = λ j l t. rw (got_at j l t) (omega (arith, size_at_most load (demand h) n U j l, U_most));

@@ -1,13 +1,12 @@
 -- An area's loads: how the code tells them, what they demand, and the two loops over them: the demands are put, then the shares.
 use mathlib.Core.Path.{◌≡◌, refl, sym, ◌∙◌, ap, ap₂}
-use mathlib.Core.Bool.{true, false, cond}
+use mathlib.Core.Bool.{true, cond}
 use mathlib.Core.List.{List}
 use Prim.Native.Nat.{ℕ, ◌+◌, ◌≤◌, ◌<◌, zero-le}
 use native.Mathlib.Omega.{arith}
 use lib.Dec.{eqb}
 use lib.IntN.{ℤ, pos}
 use lib.ListN.{length, get_or, set}
-use borrow.Author.Tests.{eq-eqb, ne_eqb}
 use Rattle.whole.specs.Below.{one_if, gathered_below}
 use Rattle.whole.specs.Signed.{with_sign_of}
 use Rattle.whole.proofs.Tests.{split, both}
@@ -16,18 +15,8 @@ use Rattle.whole.proofs.Gathering.{count_none, count_add_one, gathered_none, gat
 use Rattle.whole.proofs.Filling.{Filled, none_filled, next_filled, passed_over}
 use Rattle.rules.specs.Record.{Hour, area_of, is_load}
 use Rattle.rules.specs.Ufe.{in_area, demand}
-use Rattle.rules.specs.HourFile.{word, hour_in}
 use Rattle.rules.specs.Inner.Posting.{demand_by, demand_of}
-use Rattle.hour.proofs.Rows.{PartOf, part_area}
 use Rattle.byrecord.specs.Shared.{loads_before, with_sizes}
-
--- a record's area, as the code reads and tests it
-module _ {s words : List ℕ} {i r : ℕ} (own : PartOf s i words) (told : r ≡ word words 2) {a : ℕ} where
-  pub in_area_lem : r ≡ a → eqb (area_of (hour_in s) i) a ≡ true
-  in_area_lem e = eq-eqb _ _ (sym (told ∙ part_area own) ∙ e)
-
-  pub elsewhere : (r ≡ a → ⊥) → eqb (area_of (hour_in s) i) a ≡ false
-  elsewhere n = ne_eqb _ _ (λ e. n (told ∙ part_area own ∙ e))
 
 -- a load demands its D
 pub load_demands : (h : Hour) (a i : ℕ) → in_area h a is_load i ≡ true → demand_of h i ≡ demand h i

@@ -6,8 +6,8 @@ use Rattle.rules.specs.Record.{Hour, areas, area_of, is_load}
 use Rattle.rules.specs.Ufe.{in_area, ufe}
 use Rattle.rules.specs.Charge.{share_of}
 use Rattle.rules.specs.Settling.{ufe_figures}
-use Rattle.rules.specs.Inner.Kept.{FileKept}
-use Rattle.rules.specs.HourFile.{hour_in}
+use Rattle.hour.specs.declared.examined.Hour as examined
+use Rattle.hour.specs.Held.{held}
 
 module _ (h : Hour) (a : ℕ) where
   -- how many of area a's loads stand before record i: where a load has its demand and its size
@@ -23,30 +23,27 @@ module _ (h : Hour) (a : ℕ) where
   with_sizes figure sizes out i = cond (in_area h a is_load i) (with_sign_of figure (get_or sizes (loads_before i) 0)) (get_or out i (pos 0))
 
 -- the figures are the hour's, and there is a place for each record's share, and one for each record in the room
-pub record Sharing (s : List ℕ) (figures : List ℤ) (room : List ℕ) (out : List ℤ) : Type 0 where
-  pub kept : FileKept s
-  pub figures_of : figures ≡ ufe_figures (hour_in s)
-  pub places : length room ≡ (hour_in s).count
-  pub room_out : (hour_in s).count ≤ length out
+pub record Sharing (x : examined.Hour) (figures : List ℤ) (room : List ℕ) (out : List ℤ) : Type 0 where
+  pub figures_of : figures ≡ ufe_figures (held x)
+  pub places : length room ≡ (held x).count
+  pub room_out : (held x).count ≤ length out
 
 -- no share is put yet
-pub record Cleared (s : List ℕ) (figures : List ℤ) (room : List ℕ) (out : List ℤ) : Type 0 where
-  pub sharing : Sharing s figures room out
-  pub zeros : (i : ℕ) → i < (hour_in s).count → get_or out i (pos 0) ≡ pos 0
+pub record Cleared (x : examined.Hour) (figures : List ℤ) (room : List ℕ) (out : List ℤ) : Type 0 where
+  pub sharing : Sharing x figures room out
+  pub zeros : (i : ℕ) → i < (held x).count → get_or out i (pos 0) ≡ pos 0
 
 -- the areas before a are shared, and a is there to be shared with its UFE
-pub record SharedUpTo (s : List ℕ) (a : ℕ) (figure : ℤ) (room : List ℕ) (out : List ℤ) : Type 0 where
-  pub kept : FileKept s
-  pub there : a < areas (hour_in s)
-  pub figure_of : figure ≡ ufe (hour_in s) a
-  pub places : length room ≡ (hour_in s).count
-  pub room_out : (hour_in s).count ≤ length out
-  pub shared : (i : ℕ) → i < (hour_in s).count → get_or out i (pos 0) ≡ shares_below (hour_in s) a i
+pub record SharedUpTo (x : examined.Hour) (a : ℕ) (figure : ℤ) (room : List ℕ) (out : List ℤ) : Type 0 where
+  pub there : a < areas (held x)
+  pub figure_of : figure ≡ ufe (held x) a
+  pub places : length room ≡ (held x).count
+  pub room_out : (held x).count ≤ length out
+  pub shared : (i : ℕ) → i < (held x).count → get_or out i (pos 0) ≡ shares_below (held x) a i
 
 -- sizes of area a's loads in their order, each small enough for a sign, and room for the records' shares
-pub record Sized (s : List ℕ) (a : ℕ) (sizes : List ℕ) (out : List ℤ) : Type 0 where
-  pub kept : FileKept s
-  pub as_many : length sizes ≡ (hour_in s).count
+pub record Sized (x : examined.Hour) (a : ℕ) (sizes : List ℕ) (out : List ℤ) : Type 0 where
+  pub as_many : length sizes ≡ (held x).count
   pub room : length sizes ≤ length out
-  pub small : (i : ℕ) → i < (hour_in s).count → in_area (hour_in s) a is_load i ≡ true →
-      get_or sizes (loads_before (hour_in s) a i) 0 < 9223372036854775808
+  pub small : (i : ℕ) → i < (held x).count → in_area (held x) a is_load i ≡ true →
+      get_or sizes (loads_before (held x) a i) 0 < 9223372036854775808

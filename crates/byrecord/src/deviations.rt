@@ -4,31 +4,25 @@ ghost use Rattle.std.specs.Prelude.{◌≡◌, ◌≤◌, ◌<◌, length};
 ghost use Rattle.whole.specs.Below.{replacing_first};
 ghost use Rattle.rules.specs.Record.{entry_of};
 ghost use Rattle.rules.specs.Deviation.{deviation};
-ghost use Rattle.rules.specs.Inner.Kept.{FileKept};
-ghost use Rattle.rules.specs.HourFile.{hour_in};
-ghost use Rattle.hour.specs.Hour.{Headed};
+ghost use Rattle.hour.specs.Held.{held};
 
-use hour::Head;
+use hour::Hour;
 
 // Record `i`'s.
-fn deviation_of(file: &[u8], i: usize) -> i64
-    requires { FileKept file.now × (i < (hour_in file.now).count) }
-    ensures { result ≡ deviation (entry_of (hour_in file.now) i) }
+fn deviation_of(hour: &Hour, i: usize) -> i64
+    requires { i < (held hour.now).count }
+    ensures { result ≡ deviation (entry_of (held hour.now) i) }
 {
-    formula::deviation::deviation(hour::entry_in(hour::record(file, i)))
+    formula::deviation::deviation(hour.entry_of(i))
 }
 
 // One a record, into the first places; the places past them are unchanged.
-pub fn put_deviations(file: &[u8], head: Head, out: &mut [i64])
-    requires { Headed file.now head × ((hour_in file.now).count ≤ length out.old) }
+pub fn put_deviations(hour: &Hour, out: &mut [i64])
+    requires { (held hour.now).count ≤ length out.old }
     ensures { out.new
-        ≡ replacing_first (λ i. deviation (entry_of (hour_in file.now) i)) (hour_in file.now).count
-        out.old }
+        ≡ replacing_first (λ i. deviation (entry_of (held hour.now) i)) (held hour.now).count out.old }
 {
-    let n = head.records;
-    let mut i = 0;
-    while i < n {
-        out[i] = deviation_of(file, i);
-        i += 1;
+    for i in 0..hour.records {
+        out[i] = deviation_of(hour, i);
     }
 }

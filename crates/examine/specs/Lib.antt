@@ -1,5 +1,4 @@
 -- What the contracts of `examine` cite beside `rules`.
 pub mod Whole
-pub mod Sources
 pub mod Fault
 pub mod Span

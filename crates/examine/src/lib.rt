@@ -4,52 +4,47 @@
 // accepted one.
 #![tactic(auto)]
 
-ghost use Rattle.std.specs.Prelude.{◌≡◌, false};
-ghost use Rattle.rules.specs.HourFile as HourFile;
-ghost use Rattle.rules.specs.Ranges.{form_of, ten_minutes_form};
+ghost use Rattle.std.specs.Prelude.{◌≡◌};
+ghost use Rattle.rules.specs.Ranges.{ten_minutes_form};
 ghost use Rattle.rules.specs.Refusals as Refusals;
 ghost use Rattle.examine.specs.Fault.{examine_rows};
 
-use rules::{Answer, Found, Mode};
+use rules::Refusal;
 
 pub mod search;
 mod spans;
+pub mod words;
 
-use search::Source;
+use search::Searched;
+pub use wordrules::{Hourly, TenMinutes};
+use words::FileHour;
 
-// A file of this kind that has passed row 1: accepted, or the first of its rows that it breaks, with its place.
-fn examine_as(mode: Mode, file: &[u8]) -> Answer
-    requires { HourFile.length_bad (form_of mode).layout file.now ≡ false }
-    ensures { Refusals.verdict_of result ≡ Refusals.verdict (examine_rows mode file.now) }
+// A file of this kind, any bytes: accepted, or the first of its rows that it breaks, with its place.
+fn examine_form<F: Searched>(file: &[u8]) -> Result<(), Refusal>
+    ensures { Refusals.verdict_of result ≡ Refusals.verdict (examine_rows F.Form.form F.compares file.now) }
 {
-    if let Found::At(b) = blocks::bad_sum(file) {
-        return Answer::BadSum(b);
+    if blocks::length_bad(F::layout(), file) {
+        return Err(Refusal::BadLength);
     }
-    if let Found::At(b) = blocks::bad_block(rules::layout_of(mode), file) {
-        return Answer::BadBlock(b);
+    if let Some(b) = blocks::bad_sum(file) {
+        return Err(Refusal::BadSum(b));
     }
-    let words = [0u32; 1];
-    let no_list = &words[..0];
-    search::examine_hour(mode, Source::File, file, no_list, no_list)
+    if let Some(b) = blocks::bad_block(F::layout(), file) {
+        return Err(Refusal::BadBlock(b));
+    }
+    search::examine_hour(&FileHour::<F>::new(file))
 }
 
-// An hour file, any bytes: accepted, or the first of refusals 1 to 5 and 14. The length is tested here, in the layout that is named: tested by
-// mode, it would cost six instructions at the next count of records.
-pub fn examine(file: &[u8]) -> Answer
+// An hour file, any bytes: accepted, or the first of refusals 1 to 5 and 14.
+pub fn examine(file: &[u8]) -> Result<(), Refusal>
     ensures { Refusals.verdict_of result ≡ Refusals.verdict (Refusals.file_rows file.now) }
 {
-    if blocks::length_bad(rules::hourly(), file) {
-        return Answer::BadLength;
-    }
-    examine_as(Mode::Hourly, file)
+    examine_form::<Hourly>(file)
 }
 
 // A ten-minute file, any bytes: accepted, or the first of refusals 1 to 5.
-pub fn examine_ten_minutes(file: &[u8]) -> Answer
+pub fn examine_ten_minutes(file: &[u8]) -> Result<(), Refusal>
     ensures { Refusals.verdict_of result ≡ Refusals.verdict (Refusals.form_rows ten_minutes_form file.now) }
 {
-    if blocks::length_bad(rules::ten_minutes(), file) {
-        return Answer::BadLength;
-    }
-    examine_as(Mode::TenMinutes, file)
+    examine_form::<TenMinutes>(file)
 }

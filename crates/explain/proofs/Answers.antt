@@ -1,69 +1,88 @@
--- What is answered, refused or accepted, is what `explain` says.
+-- What is answered, refused or explained, is what `explain` says.
 use mathlib.Core.Path.{◌≡◌, refl, sym, ◌∙◌, ap, ap₂}
-use mathlib.Core.Option.{Option}
+use Rattle.std.specs.Prelude.{Option, Result, Ok, Err}
 use mathlib.Core.List.{List}
 use Prim.Native.Nat.{ℕ, ◌≤◌, ◌<◌}
-use native.Mathlib.Omega.{arith}
-use lib.IntN.{ℤ}
+use lib.IntN.{ℤ, pos}
+use lib.ListN.{get_or, replicate}
+use native.Mathlib.Nat.{le_refl}
 use borrow.Author.Tests.{eqb-false}
-use Rattle.whole.proofs.Tests.{never}
-use Rattle.rules.specs.declared.Answer.{Answer}
-use Rattle.rules.specs.declared.Answer.TheVariants.{Accepted, NoMember}
+use Rattle.rules.specs.declared.Refusal.{Refusal}
+use Rattle.rules.specs.declared.Refusal.TheVariants.{NoMember}
 use Rattle.rules.specs.declared.Explained.{Explained}
-use Rattle.rules.specs.declared.Found.TheVariants.{Nothing}
 use Rattle.rules.specs.Record.{members}
-use Rattle.rules.specs.Refusals.{accepted, verdict_of, verdict, hour_rows, explain_rows}
-use Rattle.rules.specs.Settling.{is_accepted}
-use Rattle.rules.specs.Explanation.{heads, no_heads, decided, explain}
+use Rattle.rules.specs.Charge.{charge}
+use Rattle.rules.specs.Refusals.{accepted, refusal_verdict, verdict_of, verdict, hour_rows, explain_rows}
+use Rattle.rules.specs.Explanation.{heads, decided, decided_by, explanation_of, explain}
 use Rattle.rules.specs.Promised.Demands.{AllWhole}
-use Rattle.rules.proofs.Rows.{accepts_when_whole, hour_numbered}
+use Rattle.rules.specs.Inner.Kept.{FileKept}
+use Rattle.whole.proofs.Ranges.{u_fits}
+use Rattle.whole.proofs.Machine.{back, read_back}
+use Rattle.rules.proofs.Bounds.{charge_under}
+use Rattle.rules.proofs.Stated.{accepted_kept}
+use Rattle.rules.proofs.Rows.{accepts_when_whole, hour_numbered, numbered, never_accepted}
 use Rattle.rules.proofs.Explaining.{rows_refused_alike, rows_member, rows_no_member, explain_accepted, explain_refused}
-use Rattle.answer.proofs.Refusing.{numbered}
 use Rattle.rules.specs.HourFile.{hour_in}
-use Rattle.rules.specs.declared.Settled.{Settled as Settlement}
-use Rattle.pool.specs.Unlined.{Unlined, FitsUnlined}
+use Rattle.explain.specs.Settled.{Settled}
+use Rattle.pool.specs.Unlined.{Unlined, unlined, FitsUnlined}
 use Rattle.pool.proofs.Rooms.{Rooms, same_verdict, figured}
-use Rattle.explain.specs.Answered.{answered, Settled}
 
--- an answer but acceptance, and nothing explained
-abbrev pub unexplained : Answer → Explained
-unexplained a = record { answer = a; heads = no_heads; decided = Nothing }
+-- the room that explaining has for settling: room for every hour
+abbrev pub room : Unlined
+room = unlined (replicate 32 (pos 0)) (replicate 32 (pos 0)) (replicate 250 (pos 0)) (replicate 250 (pos 0))
+
+room_for_all : Rooms room
+room_for_all = record {
+  charges_room = le_refl 32;
+  finals_room = le_refl 32;
+  shares_room = le_refl 250;
+  deviations_room = le_refl 250;
+}
 
 module _ (s : List ℕ) (m : ℕ) where
-  refused_with : {a : Answer} {r : Explained} → verdict_of a ≡ verdict (explain_rows s m) → (a ≡ Accepted → ⊥) → r ≡ unexplained a →
-      answered r ≡ explain s m
-  refused_with {a} v n e = rw (e, explain_refused s m (eqb-false _ _ (rw v at (numbered a n))), v) refl
+  refused_with : (e : Refusal) → refusal_verdict e ≡ verdict (explain_rows s m) → explanation_of (Err e) ≡ explain s m
+  refused_with e v = rw (explain_refused s m (eqb-false _ _ (rw v at (numbered e))), v) refl
 
   -- what settling refuses
-  pub refused_alike : {a : Answer} {r : Explained} → verdict_of a ≡ verdict (hour_rows s) → (a ≡ Accepted → ⊥) → r ≡ unexplained a →
-      answered r ≡ explain s m
-  refused_alike {a} v n =
-      refused_with (v ∙ sym (rows_refused_alike s m (λ e. never (ap is_accepted (v ∙ e)) (numbered a n)))) n
+  pub refused_alike : {after : Unlined} {r : Result (List ℤ) Refusal} {e : Refusal} → FitsUnlined s room r after → r ≡ Err e →
+      explanation_of (Err e) ≡ explain s m
+  refused_alike {e = e} settled is =
+      let v : refusal_verdict e ≡ verdict (hour_rows s) = sym (ap verdict_of is) ∙ same_verdict room_for_all settled in
+      refused_with e (v ∙ sym (rows_refused_alike s m (λ a. never_accepted e (v ∙ a))))
 
+  -- what it accepts
   module _ {charges shares deviations : List ℤ} (p : Settled s charges shares deviations) where
+    pub kept : FileKept s
+    kept = accepted_kept s p.passes
+
     whole : AllWhole (hour_rows s)
     whole = (accepts_when_whole (hour_rows s) (hour_numbered s)).0 p.passes
 
-    pub no_member : {r : Explained} → members (hour_in s) ≤ m → r ≡ unexplained NoMember → answered r ≡ explain s m
-    no_member l = refused_with (sym (rows_no_member s m whole l)) (λ e. absurd (omega (arith, ap (λ (a : Answer). (verdict_of a).number) e)))
+    pub no_member : members (hour_in s) ≤ m → explanation_of (Err NoMember) ≡ explain s m
+    no_member l = refused_with NoMember (sym (rows_no_member s m whole l))
 
-    pub explained-as : {hs : List ℤ} {d : Option ℕ} → m < members (hour_in s) → hs ≡ heads (hour_in s) m → d ≡ decided (hour_in s) m →
-        record { verdict = accepted; heads = hs; decided = d } ≡ explain s m
-    explained-as l x y =
-        ap₂ (λ (hs : List ℤ) (d : Option ℕ). record { verdict = accepted; heads = hs; decided = d }) x y
-        ∙ sym (explain_accepted s m (rows_member s m whole l))
+    module _ (there : m < members (hour_in s)) where
+      -- the charge as it is read
+      charge_is : back (get_or charges m (pos 0)) ≡ charge (hour_in s) m
+      charge_is = rw (p.charged.charges_are m there) (read_back (u_fits (charge_under kept.hour_kept m) tt))
 
--- what settling leaves, where every buffer has room for every hour
-pub settled : {s : List ℕ} {b after : Unlined} {r : Settlement} → Rooms b → FitsUnlined s b r after → r.answer ≡ Accepted →
-    Settled s after.charges after.shares after.deviations
-settled rooms fits accepts = let f = figured rooms fits accepts in record {
-  passes = sym (same_verdict rooms fits) ∙ ap verdict_of accepts;
-  charged = record { kept = f.kept; room = f.charges.room; charges_are = f.charges.figures_are };
+      pub explained : {told : Explained} → told.heads ≡ heads (hour_in s) m →
+          told.decided ≡ decided_by (back (get_or charges m (pos 0))) told.heads → explanation_of (Ok told) ≡ explain s m
+      unfolding decided
+      explained x y =
+          ap₂ (λ (hs : List ℤ) (d : Option ℕ). record { verdict = accepted; heads = hs; decided = d }) x (y ∙ ap₂ decided_by charge_is x)
+          ∙ sym (explain_accepted s m (rows_member s m whole there))
+
+-- what settling leaves of an hour that it accepts
+pub settled : {s : List ℕ} {after : Unlined} {r : Result (List ℤ) Refusal} {figures : List ℤ} → FitsUnlined s room r after →
+    r ≡ Ok figures → Settled s after.charges after.shares after.deviations
+settled fits is = let left = figured room_for_all fits (ap verdict_of is) in record {
+  passes = sym (same_verdict room_for_all fits) ∙ ap verdict_of is;
+  charged = record { room = left.charges.room; charges_are = left.charges.figures_are };
   worked = record {
-    kept = f.kept;
-    deviations_room = f.deviations.room;
-    shares_room = f.shares.room;
-    deviations_are = f.deviations.figures_are;
-    shares_are = f.shares.figures_are;
+    deviations_room = left.deviations.room;
+    shares_room = left.shares.room;
+    deviations_are = left.deviations.figures_are;
+    shares_are = left.shares.figures_are;
   };
 }

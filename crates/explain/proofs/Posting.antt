@@ -1,19 +1,18 @@
 -- A record posted to a member's heads, or not.
-use mathlib.Core.Path.{◌≡◌, refl, ◌∙◌}
+use mathlib.Core.Path.{◌≡◌, refl}
 use mathlib.Core.List.{List, [], ◌∷◌}
 use Prim.Native.Nat.{ℕ, zero, suc, ◌+◌}
 use native.Mathlib.Nat.{le-add_right}
 use native.Mathlib.Numerals.{add-one}
-use lib.IntN.{ℤ, ◌*ℤ◌}
+use lib.IntN.{ℤ}
 use lib.ListN.{set}
 use borrow.Author.Tests.{eq-eqb, ne_eqb}
 use Rattle.whole.specs.Signed.{Under}
 use Rattle.whole.proofs.Ranges.{◌u+◌, u_le, u_zero}
-use Rattle.rules.specs.declared.Kind.{Kind}
-use Rattle.rules.specs.Record.{Hour, price, member_of, area_of, entry_of}
-use Rattle.rules.specs.Charge.{entering, share_of}
+use Rattle.rules.specs.Record.{Hour, member_of}
 use Rattle.rules.specs.Explanation.{head_at}
-use Rattle.rules.specs.Inner.Posting.{head_with, heads_with, heads_after}
+use Rattle.rules.specs.Inner.Posting.{head_with, heads_after}
+use Rattle.explain.specs.Posted.{with_record}
 
 -- one head replaced
 set_under : (hs : List ℤ) (p k : ℕ) {v : ℤ} {K : ℕ} → Under v K → ((j : ℕ) → Under (head_at hs j) K) → Under (head_at (set hs p v) k) K
@@ -34,11 +33,6 @@ module _ (h : Hour) (m i : ℕ) where
   unfolding heads_after
   not_posted other = rw (add-one i, ne_eqb (member_of h i) m other) refl
 
-  pub is_posted : {hs : List ℤ} {kind : Kind} {d s : ℤ} → member_of h i ≡ m → hs ≡ heads_after h m i → kind ≡ (entry_of h i).kind →
-      d ≡ price h (area_of h i) *ℤ entering (entry_of h i) → s ≡ price h (area_of h i) *ℤ share_of h i →
-      heads_with hs kind d s ≡ heads_after h m (i + 1)
+  pub is_posted : {hs : List ℤ} → member_of h i ≡ m → hs ≡ heads_after h m i → with_record h i hs ≡ heads_after h m (i + 1)
   unfolding heads_after
-  is_posted own before k deviated shared = alike before k deviated shared ∙ rw (add-one i, eq-eqb (member_of h i) m own) refl
-    where
-      alike : {a b : List ℤ} {j k : Kind} {d e s t : ℤ} → a ≡ b → j ≡ k → d ≡ e → s ≡ t → heads_with a j d s ≡ heads_with b k e t
-      alike p q r s = cc
+  is_posted own before = rw (before, add-one i, eq-eqb (member_of h i) m own) refl

@@ -1,23 +1,35 @@
--- A charge's sign decides which test a head has to pass.
+-- Two numbers of which the first has a sign have the same where their signums are the same.
 use mathlib.Core.Path.{◌≡◌, refl}
-use mathlib.Core.Bool.{true, false, or-false}
-use Prim.Native.Nat.{zero-le}
+use mathlib.Core.Bool.{true, false}
+use Prim.Native.Nat.{ℕ, zero, suc, min, zero-le}
+use native.Mathlib.Omega.{arith}
+use lib.Dec.{eqb, ltb}
 use lib.IntN.{ℤ, pos, negsuc}
-use lib.Signed.{lt_z}
-use borrow.Author.Tests.{le-ltb}
-use Rattle.whole.proofs.Tests.{never}
+use mir.Syntax.{w64}
+use mir.Val.{of_z}
+use borrow.Author.Tests.{lt-ltb, le-ltb}
+use Rattle.std.specs.Int.{int_signum}
 use Rattle.rules.specs.Explanation.{same_sign}
 
-pub above_sign : (y z : ℤ) → lt_z (pos 0) y ≡ true → lt_z (pos 0) z ≡ same_sign y z
-unfolding same_sign
-above_sign (pos n) z e = rw (e, le-ltb n 0 zero-le, or-false (lt_z (pos 0) z)) refl
-above_sign (negsuc n) z e = never e refl
+above_is_1 : (n : ℕ) → min (suc n) 1 ≡ 1
+above_is_1 n = omega arith
 
-pub below_sign : (y z : ℤ) → lt_z y (pos 0) ≡ true → lt_z z (pos 0) ≡ same_sign y z
-unfolding same_sign
-below_sign (pos n) z e = never e (le-ltb n 0 zero-le)
-below_sign (negsuc n) z e = refl
+above : (n : ℕ) → ltb 0 (suc n) ≡ true
+above n = lt-ltb 0 (suc n) (omega arith)
 
-pub no_sign : (y z : ℤ) → lt_z (pos 0) y ≡ false → lt_z y (pos 0) ≡ false → false ≡ same_sign y z
+not_below : (n : ℕ) → ltb n 0 ≡ false
+not_below n = le-ltb n 0 zero-le
+
+pub signs_alike : (y z : ℤ) → (y ≡ pos 0 → ⊥) → eqb (of_z w64 (int_signum y)) (of_z w64 (int_signum z)) ≡ same_sign y z
 unfolding same_sign
-no_sign y z a b = rw (a, b) refl
+signs_alike (pos zero) z e = absurd (e refl)
+signs_alike (pos (suc n)) (pos zero) e = rw (above_is_1 n, above n, not_below (suc n)) refl
+signs_alike (pos (suc n)) (pos (suc m)) e = rw (above_is_1 n, above_is_1 m, above n, above m) refl
+signs_alike (pos (suc n)) (negsuc m) e = rw (above_is_1 n, above n, not_below (suc n)) refl
+signs_alike (negsuc n) (pos zero) e = refl
+signs_alike (negsuc n) (pos (suc m)) e = rw (above_is_1 m, not_below (suc m)) refl
+signs_alike (negsuc n) (negsuc m) e = refl
+
+pub zero_has_none : (z : ℤ) → false ≡ same_sign (pos 0) z
+unfolding same_sign
+zero_has_none z = refl

@@ -1,5 +1,4 @@
 -- What the contracts of `explain` cite beside `rules`.
-pub mod Room
-pub mod Leading
-pub mod Answered
+pub mod Posted
+pub mod Settled
 pub mod HandedOut

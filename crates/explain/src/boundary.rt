@@ -1,14 +1,11 @@
-// The explanation for programs in C (include/sneupelaar.h): the answer goes out as its number and place, the head that decided as a count.
+// The explanation for programs in C (include/sneupelaar.h): a refusal goes out as its number and place, the head that decided as a count.
 // It stands here and not in `sneupelaar`: what is called from two functions of one archive is compiled as a function apart, and settling
 // would take a call and 280 bytes of stack more.
-ghost use Rattle.std.specs.Prelude.{◌≡◌, ℕ, ◌<◌};
-ghost use Rattle.std.proofs.Math.Option.{some};
+ghost use Rattle.std.specs.Prelude.{◌≡◌, ℕ, ◌<◌, Some};
 ghost use Rattle.rules.specs.Explanation as Explanation;
-ghost use Rattle.rules.specs.Refusals.{found_at};
 ghost use Rattle.explain.specs.HandedOut.{explanation_of, head_counted};
 
-use rules::Found;
-
+// Stays numbers: the C interface.
 #[repr(C)]
 #[derive(Drop)]
 pub struct NumberedExplained {
@@ -19,28 +16,36 @@ pub struct NumberedExplained {
 }
 
 // The head that decided, counted from 1; 0 where none did.
-fn head_number(decided: Found) -> u64
-    requires { (k : ℕ) → found_at decided ≡ some k → k < 5 }
-    ensures { head_counted result ≡ found_at decided }
+fn head_number(decided: Option<usize>) -> u64
+    requires { (k : ℕ) → decided ≡ Some k → k < 5 }
+    ensures { head_counted result ≡ decided }
 {
-    let Found::At(place) = decided else {
-        return 0;
-    };
-    place as u64 + 1
+    match decided {
+        Some(place) => place as u64 + 1,
+        None => 0,
+    }
 }
 
 // Explains a member's charge.
 pub fn sneupelaar_explain(file: &[u8], member: u32) -> NumberedExplained
     ensures { explanation_of result ≡ Explanation.explain file.now member }
 {
-    let explained = crate::explain(file, member);
-    let answer = explained.answer;
-    let heads = explained.heads;
-    let decided = explained.decided;
-    NumberedExplained {
-        number: answer::number_of(answer),
-        place: answer::place_of(answer) as u64,
-        heads: heads,
-        decided: head_number(decided),
+    match crate::explain(file, member) {
+        Ok(told) => {
+            // An array that a struct has goes into a local first: no proof is made of it otherwise.
+            let heads = told.heads;
+            NumberedExplained {
+                number: 0,
+                place: 0,
+                heads,
+                decided: head_number(told.decided),
+            }
+        }
+        Err(refusal) => NumberedExplained {
+            number: refusal.number(),
+            place: refusal.place() as u64,
+            heads: [0; 5],
+            decided: 0,
+        },
     }
 }

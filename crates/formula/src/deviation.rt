@@ -1,6 +1,7 @@
-// What a record was scheduled for, against what it did, in units of 1/10,000 kWh: document 01's formulas, a line each.
+// What a record was scheduled for, against what it did, in units of 1/10,000 kWh: document 01's formulas, a line each. What an entry's numbers
+// keep stays a `requires`: `hour` makes entries of any words, and an invariant of `Entry` would ask more there.
 ghost use Rattle.std.specs.Prelude.{◌≡◌};
-ghost use Rattle.whole.specs.Signed.{Under, min_ℤ, max_ℤ};
+ghost use Rattle.whole.specs.Signed.{Under};
 ghost use Rattle.rules.specs.Deviation as Deviation;
 ghost use Rattle.rules.specs.Charge.{entering_as};
 ghost use Rattle.rules.specs.Inner.Posting as Posting;
@@ -10,30 +11,18 @@ ghost use Rattle.formula.specs.Meant.{meant};
 use crate::entry::Entry;
 use rules::Kind;
 
-fn least(x: i64, y: i64) -> i64
-    ensures { result ≡ min_ℤ x y }
-{
-    if x <= y { x } else { y }
-}
-
-fn most(x: i64, y: i64) -> i64
-    ensures { result ≡ max_ℤ x y }
-{
-    if x <= y { y } else { x }
-}
-
 fn generator_deviation(r: Entry) -> i64
     requires { EntryRoom (meant r) }
     ensures { result ≡ Deviation.generator_deviation (meant r) }
 {
-    r.s * r.f - ((r.a - r.j) * r.h - 10000 * r.n) - 10000 * least(0, r.m - r.a - (r.o - r.n))
+    r.s * r.f - ((r.a - r.j) * r.h - 10000 * r.n) - 10000 * (r.m - r.a - (r.o - r.n)).min(0)
 }
 
 fn load_deviation(r: Entry) -> i64
     requires { EntryRoom (meant r) }
     ensures { result ≡ Deviation.load_deviation (meant r) }
 {
-    10000 * (r.s - ((r.a - r.j) + r.n) - most(0, (r.o - r.n) - r.a))
+    10000 * (r.s - ((r.a - r.j) + r.n) - ((r.o - r.n) - r.a).max(0))
 }
 
 fn import_deviation(r: Entry) -> i64
@@ -54,11 +43,9 @@ pub fn deviation(r: Entry) -> i64
     requires { EntryRoom (meant r) }
     ensures { result ≡ Deviation.deviation (meant r) }
 {
-    let kind = r.kind;
-    match kind {
+    match r.kind {
         Kind::Generator => generator_deviation(r),
-        Kind::RealTimeLoad => load_deviation(r),
-        Kind::ProfileLoad => load_deviation(r),
+        Kind::RealTimeLoad | Kind::ProfileLoad => load_deviation(r),
         Kind::Import => import_deviation(r),
         Kind::Export => export_deviation(r),
         Kind::Unknown => 0,
@@ -71,11 +58,8 @@ pub fn entering(kind: Kind, deviation: i64) -> i64
     ensures { result ≡ entering_as kind deviation }
 {
     match kind {
-        Kind::Generator => deviation,
-        Kind::RealTimeLoad => -deviation,
-        Kind::ProfileLoad => -deviation,
-        Kind::Import => deviation,
-        Kind::Export => -deviation,
+        Kind::Generator | Kind::Import => deviation,
+        Kind::RealTimeLoad | Kind::ProfileLoad | Kind::Export => -deviation,
         Kind::Unknown => 0,
     }
 }
@@ -85,15 +69,12 @@ pub fn accounted(r: Entry) -> i64
     requires { EntryKept (meant r) }
     ensures { result ≡ Posting.accounted (meant r) }
 {
-    let kind = r.kind;
     let metered = 10000 * r.a;
     let lost = r.a * (10000 - r.h);
-    match kind {
+    match r.kind {
         Kind::Generator => metered - lost,
-        Kind::RealTimeLoad => -metered,
-        Kind::ProfileLoad => -metered,
+        Kind::RealTimeLoad | Kind::ProfileLoad => -metered,
         Kind::Import => -lost,
-        Kind::Export => 0,
-        Kind::Unknown => 0,
+        Kind::Export | Kind::Unknown => 0,
     }
 }

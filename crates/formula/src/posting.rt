@@ -8,18 +8,20 @@ ghost use Rattle.formula.specs.Room.{TallyRoom, LineRoom};
 
 use rules::{Line, Tally};
 
+#[tactic(auto, unfolding(rules::specs::Inner::Posting::empty_tally))]
 pub fn empty_tally() -> Tally
     ensures { result ≡ Posting.empty_tally }
 {
     Tally {
         records: 0,
-        demand: [0u32; 8],
-        energy: [0i64; 8],
+        demand: [0; 8],
+        energy: [0; 8],
     }
 }
 
 // A record of an area, with its demand and its energy, brings the tally up to date. `t` is not read again once `next` is made: the compiler
 // then makes a copy less of the tally at each posting.
+#[tactic(auto, unfolding(rules::specs::Inner::Posting::tallied))]
 pub fn tallied(t: Tally, area: usize, demand: u32, energy: i64) -> Tally
     requires { TallyRoom t area demand energy }
     ensures { result ≡ Posting.tallied t area demand energy }
@@ -31,6 +33,7 @@ pub fn tallied(t: Tally, area: usize, demand: u32, energy: i64) -> Tally
     next
 }
 
+#[tactic(auto, unfolding(rules::specs::Settling::empty_line))]
 pub fn empty_line() -> Line
     ensures { result ≡ Settling.empty_line }
 {
@@ -41,6 +44,7 @@ pub fn empty_line() -> Line
 }
 
 // A member's line with one record more, of so many grains.
+#[tactic(auto, unfolding(rules::specs::Inner::Posting::line_with))]
 pub fn line_with(l: Line, grains: i64) -> Line
     requires { LineRoom l grains }
     ensures { result ≡ Posting.line_with l grains }
@@ -52,6 +56,7 @@ pub fn line_with(l: Line, grains: i64) -> Line
 }
 
 // Grains to the nearest cent: half a cent is 5,000,000 grains.
+#[tactic(auto, unfolding(rules::specs::Charge::cents))]
 pub fn cents(grains: i64) -> i64
     ensures { result ≡ Charge.cents grains }
 {

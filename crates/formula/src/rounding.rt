@@ -8,7 +8,7 @@ pub fn cents_of(amount: i64, half: u32) -> i64
     requires { 0 < half }
     ensures { result ≡ Charge.cents_of (2 * half) amount }
 {
-    let h = half as i64;
+    let h = i64::from(half);
     let cent = 2 * h;
     let whole = amount / cent;
     whole + (amount % cent + whole % 2) / (h + 1)

@@ -1,5 +1,5 @@
 -- Eight figures, one an area and 0 past the areas: as a loop fills them, and an area's own among them. And the head that was read once.
-use mathlib.Core.Path.{◌≡◌, sym, ◌∙◌, ap}
+use mathlib.Core.Path.{◌≡◌, sym, ◌∙◌}
 use mathlib.Core.Bool.{cond}
 use mathlib.Core.List.{List}
 use Prim.Native.Nat.{ℕ, ◌≤◌, ◌<◌}
@@ -12,12 +12,10 @@ use borrow.Author.Tests.{lt-ltb, ltb-true, ltb-false}
 use Rattle.whole.specs.Below.{values_below, replacing_first}
 use Rattle.whole.proofs.Tests.{split}
 use Rattle.whole.proofs.Buffers.{length_values, get_or_values, length_replacing, get_or_replacing, get_d_kept}
-use Rattle.rules.specs.Record.{Hour, members, areas, price}
+use Rattle.rules.specs.Record.{Hour, areas, price}
 use Rattle.rules.specs.Ufe.{ufe}
 use Rattle.rules.specs.Settling.{ufe_figures}
-use Rattle.hour.specs.declared.Head.{Head}
-use Rattle.rules.specs.HourFile.{hour_in}
-use Rattle.hour.specs.Hour.{prices_of, head_of, Headed}
+use Rattle.hour.specs.Prices.{prices_of}
 
 module _ (f : ℕ → ℤ) (n : ℕ) (few : n ≤ 8) where
   abbrev zeros : List ℤ
@@ -46,28 +44,3 @@ module _ (h : Hour) (few : areas h ≤ 8) (a : ℕ) (there : a < areas h) where
   pub price_at : get_or (prices_of h) a (pos 0) ≡ price h a
   unfolding prices_of
   price_at = own_figure (price h) (areas h) few a there
-
--- ---- the head that was read once
-
-module _ {s : List ℕ} {x : Head} (p : Headed s x) where
-  abbrev hour : Hour
-  hour = hour_in s
-
-  pub head_members : x.members ≡ members hour
-  unfolding head_of
-  head_members = ap (λ (y : Head). y.members) p.head_is
-
-  pub head_areas : x.areas ≡ areas hour
-  unfolding head_of
-  head_areas = ap (λ (y : Head). y.areas) p.head_is
-
-  pub head_records : x.records ≡ hour.count
-  unfolding head_of
-  head_records = ap (λ (y : Head). y.records) p.head_is
-
-  pub head_prices : x.prices ≡ prices_of hour
-  unfolding head_of
-  head_prices = ap (λ (y : Head). y.prices) p.head_is
-
-  pub head_price : (a : ℕ) → a < areas hour → get_or x.prices a (pos 0) ≡ price hour a
-  head_price a there = rw head_prices (price_at hour p.kept.hour_kept.areas_most a there)

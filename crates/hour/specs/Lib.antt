@@ -1,2 +1,3 @@
 -- What the contracts of `hour`, and of the crates that sum over an hour, cite beside `rules`.
-pub mod Hour
+pub mod Prices
+pub mod Held

@@ -1,6 +1,5 @@
 -- Amounts read and written at each limit and one past it, shares by both engines, columns and lines, computed.
 use mathlib.Core.Path.{refl}
-use mathlib.Core.Option.{bind}
 use Rattle.whole.specs.Below.{values_below, sum_below, total_below, count_below}
 use Rattle.rules.specs.Record
 use Rattle.rules.specs.Ufe
@@ -13,7 +12,7 @@ use Rattle.rules.specs.Statement
 use Rattle.rules.specs.Figures.Amounts
 
 pub amounts_right : Amounts.AmountsRight
-unfolding values_below sum_below total_below count_below bind Record.signed Record.kind_of Record.zone_of Record.tie_in Record.tie_out Ufe.in_area
+unfolding values_below sum_below total_below count_below Record.signed Record.kind_of Record.zone_of Record.tie_in Record.tie_out Ufe.in_area
     Ufe.area_sum Ufe.losses Ufe.ufe HourWords.hour_from Share.better Share.first_largest Share.is_at Share.handed_out Share.all_demand
     Share.whole_part Share.remainder Share.units_left Share.share_size Share.ahead Share.ranked_size Share.share Text.digits_up_to Text.decimal
     Text.amount_text Text.amount_field Text.blank_count Text.digit_count Text.digits_value Text.past_blanks Text.sign_at Text.dollars_at

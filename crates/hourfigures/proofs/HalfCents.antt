@@ -1,6 +1,5 @@
 -- Half cents, computed: amounts beside a half, hours in which half cents decide on row 12, a ten-minute hour.
 use mathlib.Core.Path.{refl}
-use mathlib.Core.Option.{or_else}
 use Rattle.whole.specs.Below
 use Rattle.rules.specs.Record
 use Rattle.rules.specs.Deviation
@@ -17,7 +16,7 @@ use Rattle.rules.specs.Figures.Files.{word_bytes, used_buffers, sealed}
 use Rattle.rules.specs.Figures.HalfCents as Figures
 
 pub half_cents_right : Figures.HalfCentsRight
-unfolding Below.count_below Below.sum_below Below.total_below Below.values_below Below.replacing_first Below.first_below or_else Record.signed
+unfolding Below.count_below Below.sum_below Below.total_below Below.values_below Below.replacing_first Below.first_below Record.signed
     Record.kind_of Record.actual Record.entry Record.member_of Record.area_of Record.entry_of Record.zone_price Record.zone_of Record.tie_in
     Record.tie_out Record.price Deviation.export_deviation Deviation.deviation Ufe.in_area Ufe.area_sum Ufe.losses Ufe.ufe Ufe.area_demand
     Share.better Share.first_largest Share.is_at Share.handed_out Share.all_demand Share.whole_part Share.remainder Share.units_left

@@ -1,6 +1,5 @@
 -- Records and heads at each limit and one past it, computed.
 use mathlib.Core.Path.{refl}
-use mathlib.Core.Option.{or_else}
 use Rattle.whole.specs.Below
 use Rattle.rules.specs.Record
 use Rattle.rules.specs.HourFile
@@ -12,7 +11,7 @@ use Rattle.rules.specs.Figures.Printed.{printed_file}
 use Rattle.rules.specs.Figures.Limits
 
 pub limits_right : Limits.LimitsRight
-unfolding Below.values_below Below.first_below or_else Record.signed Record.kind_of HourWords.hour_from Ranges.keeps Ranges.first_broken
+unfolding Below.values_below Below.first_below Record.signed Record.kind_of HourWords.hour_from Ranges.keeps Ranges.first_broken
     Ranges.area_rule Ranges.head_rule Ranges.rules_of Ranges.record_rule Refusals.bad_head Refusals.bad_word Limits.faults Limits.own_places
     Limits.record_fault Limits.record_limits Limits.head_fault Limits.full_head Limits.head_limits Ranges.count_rule Ranges.past_rule
     Ranges.block_rule Limits.block_fault Limits.block_limits Limits.word_figures

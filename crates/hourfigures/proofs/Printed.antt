@@ -1,6 +1,5 @@
 -- The printed case of document 01, computed: the promises are not empty.
 use mathlib.Core.Path.{refl}
-use mathlib.Core.Option.{or_else}
 use Rattle.whole.specs.Below
 use Rattle.whole.specs.Signed.{min_ℤ, max_ℤ}
 use Rattle.rules.specs.Record
@@ -19,7 +18,7 @@ use Rattle.rules.specs.Figures.Files.{word_bytes, used_buffers}
 use Rattle.rules.specs.Figures.Printed.{PrintedRight, printed_file, printed_settlement}
 
 pub printed_right : PrintedRight
-unfolding Below.count_below Below.sum_below Below.total_below Below.values_below Below.replacing_first Below.first_below or_else min_ℤ max_ℤ
+unfolding Below.count_below Below.sum_below Below.total_below Below.values_below Below.replacing_first Below.first_below min_ℤ max_ℤ
     Record.signed Record.kind_of Record.actual Record.entry Record.member_of Record.area_of Record.entry_of Record.zone_price Record.zone_of
     Record.tie_in Record.tie_out Record.price Deviation.generator_unavailable Deviation.generator_deviation Deviation.load_unavailable
     Deviation.load_deviation Deviation.deviation Ufe.in_area Ufe.area_sum Ufe.losses Ufe.ufe Ufe.area_demand Share.better Share.first_largest

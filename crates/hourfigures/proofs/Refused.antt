@@ -1,6 +1,5 @@
 -- A refusal of settling for each row, computed.
 use mathlib.Core.Path.{refl}
-use mathlib.Core.Option.{or_else}
 use Rattle.whole.specs.Below
 use Rattle.rules.specs.Record
 use Rattle.rules.specs.Deviation
@@ -16,7 +15,7 @@ use Rattle.rules.specs.Figures.Files.{word_bytes, used_buffers, sealed}
 use Rattle.rules.specs.Figures.Refused.{RefusedRight, refusals}
 
 pub refused_right : RefusedRight
-unfolding Below.sum_below Below.total_below Below.first_below or_else Record.signed Record.kind_of Record.zone_of Record.tie_in Record.tie_out
+unfolding Below.sum_below Below.total_below Below.first_below Record.signed Record.kind_of Record.zone_of Record.tie_in Record.tie_out
     Ufe.area_sum Ufe.losses Ufe.ufe Ufe.area_demand Share.all_demand Charge.amount HourFile.word HourFile.blocks HourFile.block_word
     HourFile.block_sum HourFile.length_bad HourFile.record_count HourFile.record_word HourFile.hour_of Ranges.keeps Ranges.first_broken
     Ranges.count_rule Ranges.past_rule Ranges.block_rule Ranges.area_rule Ranges.head_rule Ranges.rules_of Ranges.record_rule Refusals.verdict

@@ -8,13 +8,13 @@ use lib.IntN.{ℤ, pos}
 use lib.ListN.{length, get_or}
 use Rattle.whole.specs.Below.{replacing_first}
 use Rattle.whole.proofs.Buffers.{get_or_replacing, length_replacing}
-use Rattle.rules.specs.declared.Answer.TheVariants.{Accepted}
-use Rattle.rules.specs.declared.Settled.{Settled}
+use Rattle.std.specs.Prelude.{Result}
+use Rattle.rules.specs.declared.Refusal.{Refusal}
 use Rattle.rules.specs.Record.{members, entry_of}
 use Rattle.rules.specs.Deviation.{deviation}
 use Rattle.rules.specs.Charge.{share_of, charge}
 use Rattle.rules.specs.Neutrality.{final}
-use Rattle.rules.specs.Refusals.{verdict_of, verdict, hour_rows, Buffers}
+use Rattle.rules.specs.Refusals.{accepted, verdict_of, verdict, hour_rows, Buffers}
 use Rattle.rules.specs.Settling.{filled}
 use Rattle.rules.specs.Inner.Kept.{FileKept}
 use Rattle.rules.proofs.Rows.{settle_verdict, settle_fills}
@@ -48,23 +48,23 @@ stand_in figure n old enough put = record {
   figures_are = λ k l. rw put (get_or_replacing figure n old k (pos 0) l);
 }
 
-module _ {s : List ℕ} {b after : Unlined} {r : Settled} (rooms : Rooms b) (settled : FitsUnlined s b r after) where
+module _ {s : List ℕ} {b after : Unlined} {r : Result (List ℤ) Refusal} (rooms : Rooms b) (settled : FitsUnlined s b r after) where
   -- the buffers that were settled into
   abbrev lent : Buffers
   lent = with_lines b own_lines
 
-  pub same_verdict : verdict_of r.answer ≡ verdict (hour_rows s)
+  pub same_verdict : verdict_of r ≡ verdict (hour_rows s)
   same_verdict = settled.fits.verdict_is ∙ settle_verdict s lent
       ∙ room_for_all s lent rooms.charges_room rooms.finals_room (omega arith) rooms.shares_room rooms.deviations_room
 
-  pub figured : r.answer ≡ Accepted → Figured s after
+  pub figured : verdict_of r ≡ accepted → Figured s after
   unfolding filled
   figured accepts =
-      let kept = accepted_kept s (sym same_verdict ∙ ap verdict_of accepts) in
+      let kept = accepted_kept s (sym same_verdict ∙ accepts) in
       let most-members = kept.hour_kept.members_most in
       let most-records = kept.hour_kept.count_most in
       let all_filled : with_lines after settled.lines ≡ filled (hour_in s) lent =
-      settled.fits.buffers_are ∙ (settle_fills s lent (sym settled.fits.verdict_is ∙ ap verdict_of accepts)).0 in
+      settled.fits.buffers_are ∙ (settle_fills s lent (sym settled.fits.verdict_is ∙ accepts)).0 in
       record {
         kept = kept;
         charges = stand_in _ _ b.charges (omega (arith, rooms.charges_room)) (ap (λ (x : Buffers). x.charges) all_filled);

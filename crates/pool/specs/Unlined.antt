@@ -1,7 +1,7 @@
 -- Settling for a caller that lends no lines: 32 are made for it, as many as an hour can have members, and let go again.
-use Rattle.std.specs.Prelude.{ℕ, List, ℤ, replicate}
+use Rattle.std.specs.Prelude.{ℕ, List, ℤ, Result, replicate}
 use Rattle.rules.specs.declared.Line.{Line}
-use Rattle.rules.specs.declared.Settled.{Settled}
+use Rattle.rules.specs.declared.Refusal.{Refusal}
 use Rattle.rules.specs.Refusals.{Buffers}
 use Rattle.rules.specs.Settling.{empty_line}
 use Rattle.rules.specs.Promised.Demands.{Fits}
@@ -24,6 +24,6 @@ abbrev pub own_lines : List Line
 own_lines = replicate 32 empty_line
 
 -- what was answered and left behind is what `settle` says, with the lines that it was let see
-pub record FitsUnlined (s : List ℕ) (b : Unlined) (answered : Settled) (after : Unlined) : Type 0 where
+pub record FitsUnlined (s : List ℕ) (b : Unlined) (answered : Result (List ℤ) Refusal) (after : Unlined) : Type 0 where
   pub lines : List Line
   pub fits : Fits s (with_lines b own_lines) answered (with_lines after lines)

@@ -1,4 +1,5 @@
--- Laws of text that is put, for the proofs here and of whoever puts line after line.
+-- Laws of text that is put on a page, for the proofs here and of whoever puts line after line.
 pub mod Putting
-pub mod Charged
+pub mod Pages
+pub mod Heads
 pub mod Showing

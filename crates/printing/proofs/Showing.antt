@@ -10,7 +10,11 @@ use borrow.Author.Tests.{lt-ltb, le-ltb}
 use Rattle.whole.proofs.Tests.{split}
 use Rattle.printing.specs.Put.{Put}
 use Rattle.printing.specs.Shown.{shown, HasShown}
+use denote.Ref.{MutBor}
+use Rattle.printing.specs.declared.page.Page.{Page}
+use Rattle.printing.specs.Page.{Adds, Opens}
 use Rattle.printing.proofs.Putting.{put_first}
+use Rattle.printing.proofs.Pages.{put_by_page}
 
 -- what a function answers and leaves that looks at the room, and then puts the text
 pub no_room : {longest : ℕ} (text : List ℕ) {out : List ℕ} → length out < longest →
@@ -43,3 +47,8 @@ module _ {longest : ℕ} {text out : List ℕ} where
     unfolding shown
     count_within =
         rw (f.count_is, f.out_is) (split (ltb (length out) longest) (λ e. rw e zero-le) (λ e. rw (e, length-append) (omega arith)))
+
+-- the text, put by a page on the slice
+pub page_shown : {longest m : ℕ} {text after : List ℕ} {o : MutBor (List ℕ)} {p q : Page} → longest ≤ length o.now → length text ≤ longest → Opens o p →
+    Adds p q m text → after ≡ q.out.now → (q.at ≡ (shown longest text o.now).count) × (after ≡ (shown longest text o.now).out)
+page_shown room fits opens put e = put_shown room fits (put_by_page opens put e)

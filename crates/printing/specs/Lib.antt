@@ -2,3 +2,4 @@
 pub mod Put
 pub mod Charged
 pub mod Shown
+pub mod Page

@@ -12,17 +12,17 @@ use borrow.Author.Tests.{ltb-true, ltb-false, eqb-true, eqb-false, eq-eqb, ne_eq
 use Rattle.whole.proofs.Tests.{split, never, neither}
 use Rattle.whole.specs.Below.{values_below, replacing_first}
 use Rattle.whole.proofs.Buffers.{length_values}
-use Rattle.rules.specs.declared.Filed.{Filed}
-use Rattle.rules.specs.declared.Answer.TheVariants.{Accepted}
+use Rattle.std.specs.Prelude.{Result, Ok, Err}
+use Rattle.rules.specs.declared.Refusal.{Refusal}
 use Rattle.rules.specs.HourFile.{hourly, word}
 use Rattle.rules.specs.HourWords.{hour_from, file_byte, file_of, file_length}
-use Rattle.rules.specs.Refusals.{verdict_of, accepted, refused_at, verdict, bad_lists, list_form_rows, list_rows}
-use Rattle.rules.specs.Settling.{is_accepted, write_hour}
+use Rattle.rules.specs.Refusals.{verdict_of, refusal_verdict, accepted, refused_at, verdict, bad_lists, list_form_rows, list_rows}
+use Rattle.rules.specs.Settling.{write_hour}
 use Rattle.rules.specs.Statement.{refused_line}
 use Rattle.rules.specs.RawHour.{raw_words, raw_rows, raw_written}
 use Rattle.rules.proofs.Writing.{verdict_is, changes_nothing, written, room_there}
 use Rattle.rules.proofs.Raw.{too_long_refused, room_for_file}
-use Rattle.answer.proofs.Refusing.{numbered}
+use Rattle.rules.proofs.Rows.{numbered, never_accepted}
 use Rattle.writer.specs.Promised.{HasFiled}
 use Rattle.printing.specs.Put.{Put}
 use Rattle.report.specs.Filing.{input_bad, words_written}
@@ -93,33 +93,34 @@ module _ (words : List ℕ) where
   rest_is : rest ≡ records
   rest_is = take_all (length words - 120) records (omega (arith, length-drop 120 words))
 
-  module _ {out after : List ℕ} (r : Filed) (room : 13312 ≤ length out) (cut : HasFiled head rest out r after) where
+  module _ {out after : List ℕ} {r : Result ℕ Refusal} (room : 13312 ≤ length out) (cut : HasFiled head rest out r after) where
     filed : HasFiled head records out r after
     filed = subst (λ (l : List ℕ). HasFiled head l out r after) rest_is cut
 
-    same_verdict : verdict (list_rows head records) ≡ verdict_of r.answer
+    same_verdict : verdict (list_rows head records) ≡ verdict_of r
     same_verdict = sym (filed.verdict_is ∙ verdict_is head records out ∙ room_for_file head records (length out) room)
 
-    pub file_put : r.answer ≡ Accepted → Put out 0 (words_written words) r.length after
+    pub file_put : (n : ℕ) → r ≡ Ok n → Put out 0 (words_written words) n after
     unfolding words_written replacing_first file_of
-    file_put e =
+    file_put n e =
         let accepts : (write_hour head records out).verdict ≡ accepted = sym filed.verdict_is ∙ ap verdict_of e in
+        let long : n ≡ (write_hour head records out).length = rw e at filed.length_is in
         let h = hour_from hourly head records in
         let length_is = length_values (file_byte hourly h) (file_length hourly h) in
         let room-for-it = room_there head records out accepts in
         rw (same_verdict, e) (record {
-          next_is = filed.length_is ∙ rw (written head records out accepts) (omega (arith, length_is));
+          next_is = long ∙ rw (written head records out accepts) (omega (arith, length_is));
           after_is = filed.file_is ∙ rw (written head records out accepts) (sym (
               sets-eq (values_below (file_byte hourly h) (file_length hourly h)) out 0 (omega (arith, length_is, room-for-it))
               ∙ rw (length_is, zero-add) refl));
         })
 
     -- a refused buffer is what it was
-    pub line_put : {n : ℕ} {end : List ℕ} → (r.answer ≡ Accepted → ⊥) → Put after 0 (refused_line (verdict_of r.answer)) n end →
+    pub line_put : {n : ℕ} {end : List ℕ} (refusal : Refusal) → r ≡ Err refusal → Put after 0 (refused_line (refusal_verdict refusal)) n end →
         Put out 0 (words_written words) n end
     unfolding words_written
-    line_put {n} {end} refused put =
-        let number_is : is_accepted (verdict_of r.answer) ≡ false = numbered r.answer refused in
-        let same = (changes_nothing head records out (λ e. never (rw (filed.verdict_is ∙ e) refl) number_is)).1 in
-        rw (same_verdict, number_is)
-        (subst (λ (l : List ℕ). Put l 0 (refused_line (verdict_of r.answer)) n end) (filed.file_is ∙ same) put)
+    line_put {n} {end} refusal e put =
+        let told : verdict_of r ≡ refusal_verdict refusal = ap verdict_of e in
+        let same = (changes_nothing head records out (λ yes. never_accepted refusal (sym told ∙ filed.verdict_is ∙ yes))).1 in
+        rw (same_verdict, told, numbered refusal)
+        (subst (λ (l : List ℕ). Put l 0 (refused_line (refusal_verdict refusal)) n end) (filed.file_is ∙ same) put)

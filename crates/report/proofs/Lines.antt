@@ -1,8 +1,7 @@
 -- Lines of members one after the other, whatever a line says, and the numbers that stand in them.
 use mathlib.Core.Path.{◌≡◌, refl}
-use mathlib.Core.List.{List, ◌++◌}
-use Prim.Native.Nat.{ℕ, zero, suc, ◌+◌, ◌<◌}
-use native.Mathlib.Numerals.{add-one}
+use mathlib.Core.List.{List}
+use Prim.Native.Nat.{ℕ, zero, suc, ◌<◌}
 use native.Mathlib.Omega.{arith}
 use mir.Syntax.{w64}
 use mir.Val.{to_z, of_z}
@@ -12,18 +11,8 @@ use Rattle.whole.proofs.Machine.{read_back}
 use Rattle.whole.proofs.Ranges.{u_fits}
 use Rattle.rules.specs.Statement.{member_lines}
 use Rattle.bymember.specs.Charged.{Bounded}
-use Rattle.printing.specs.Put.{Put}
-use Rattle.printing.proofs.Putting.{put_nothing}
 
 module _ (line : ℕ → List ℕ) where
-  pub put_none : (o : List ℕ) (at : ℕ) → Put o at (member_lines line 0) at o
-  unfolding member_lines
-  put_none o at = put_nothing o at
-
-  pub next_line : (m : ℕ) → member_lines line m ++ line m ≡ member_lines line (m + 1)
-  unfolding member_lines
-  next_line m = rw (add-one m)
-
   pub same_lines : (other : ℕ → List ℕ) (n : ℕ) → ((m : ℕ) → m < n → line m ≡ other m) → member_lines line n ≡ member_lines other n
   unfolding member_lines
   same_lines other zero each = refl

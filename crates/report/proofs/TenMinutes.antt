@@ -1,5 +1,5 @@
 -- What ten-minute settling's promise says to the statement, where the charges have room for every member.
-use mathlib.Core.Path.{◌≡◌, refl, sym, ◌∙◌, ap}
+use mathlib.Core.Path.{◌≡◌, refl, sym, ◌∙◌}
 use mathlib.Core.List.{List}
 use Prim.Native.Nat.{ℕ, ◌≤◌}
 use native.Mathlib.Omega.{arith}
@@ -8,20 +8,19 @@ use lib.ListN.{length}
 use borrow.Author.Tests.{eqb-false, le-ltb}
 use Rattle.whole.proofs.Ranges.{u_le}
 use Rattle.whole.proofs.Buffers.{get_or_replacing, length_replacing}
-use Rattle.rules.specs.declared.Answer.{Answer}
-use Rattle.rules.specs.declared.Answer.TheVariants.{Accepted}
+use Rattle.std.specs.Prelude.{Result, Err}
+use Rattle.rules.specs.declared.Refusal.{Refusal}
 use Rattle.rules.specs.Record.{members}
 use Rattle.rules.specs.Ranges.{ten_minutes_form}
-use Rattle.rules.specs.Refusals.{accepted, verdict_of, verdict, form_rows}
+use Rattle.rules.specs.Refusals.{accepted, verdict_of, refusal_verdict, verdict, form_rows}
 use Rattle.rules.specs.TenMinutes.{ten_minutes_in, ten_minutes_charge, ten_minutes_rows, settle_ten_minutes}
 use Rattle.rules.specs.Statement.{member_lines, charge_line, charged_lines, refused_line, ten_minutes_statement}
 use Rattle.rules.specs.Promised.TenMinutes.{AcceptsTenMinutes}
-use Rattle.rules.proofs.Rows.{last_decides_nothing}
+use Rattle.rules.proofs.Rows.{last_decides_nothing, numbered}
 use Rattle.rules.proofs.IntervalsKept.{ten_minutes_file_kept}
 use Rattle.rules.proofs.IntervalBounds.{charge_under}
 use Rattle.rules.proofs.TenMinutes.{fills}
 use Rattle.rules.proofs.TenMinutesSheet.{ten_minutes_kept, sheet_accepted, sheet_refused}
-use Rattle.answer.proofs.Refusing.{numbered}
 use Rattle.bymember.specs.Charged.{Bounded}
 use Rattle.tenminutes.proofs.Settled.{Settles}
 use Rattle.report.specs.TenMinutes.{charge_lines_of, ChargesPrintable}
@@ -47,22 +46,24 @@ room_for_all s c room = last_decides_nothing (form_rows ten_minutes_form s) 11 _
     rw (le-ltb (length c) (members (ten_minutes_in s)) (omega (arith, kept.members_most))) refl)
 
 -- what settling answered and left: the statement by the answer, and the charges that stand in it
-module _ {s : List ℕ} {before after : List ℤ} {a : Answer} (room : 32 ≤ length before) (settled : Settles s before a after) where
+module _ {s : List ℕ} {before after : List ℤ} {a : Result Unit Refusal} (room : 32 ≤ length before) (settled : Settles s before a after) where
   same_verdict : verdict_of a ≡ verdict (form_rows ten_minutes_form s)
   same_verdict = settled.verdict_is ∙ room_for_all s before room
 
-  pub refused_sheet : (a ≡ Accepted → ⊥) → refused_line (verdict_of a) ≡ ten_minutes_statement s
-  refused_sheet n = rw same_verdict (sym (sheet_refused s (eqb-false _ _ (rw same_verdict at (numbered a n)))))
+  pub refused_sheet : (r : Refusal) → a ≡ Err r → refused_line (refusal_verdict r) ≡ ten_minutes_statement s
+  refused_sheet r e =
+      let told : refusal_verdict r ≡ verdict (form_rows ten_minutes_form s) = rw e at same_verdict in
+      rw told (sym (sheet_refused s (eqb-false _ _ (rw told at (numbered r)))))
 
-  module _ (accepts : a ≡ Accepted) where
+  module _ (accepts : verdict_of a ≡ accepted) where
     passed : verdict (form_rows ten_minutes_form s) ≡ accepted
-    passed = sym same_verdict ∙ ap verdict_of accepts
+    passed = sym same_verdict ∙ accepts
 
     pub accepted_sheet : charged_lines (ten_minutes_in s) ≡ ten_minutes_statement s
     accepted_sheet = sym (sheet_accepted s passed)
 
     written : AcceptsTenMinutes s before
-    written = sym settled.verdict_is ∙ ap verdict_of accepts
+    written = sym settled.verdict_is ∙ accepts
 
     pub printable : ChargesPrintable s after
     printable =

@@ -3,23 +3,22 @@ use mathlib.Core.Path.{◌≡◌, refl, sym}
 use mathlib.Core.List.{List}
 use Prim.Native.Nat.{ℕ, ◌≤◌}
 use lib.ListN.{length}
-use Rattle.rules.specs.declared.Answer.TheVariants.{Accepted}
+use Rattle.std.specs.Prelude.{Ok, Err}
+use Rattle.rules.specs.declared.Refusal.{Refusal}
 use Rattle.rules.specs.declared.Explained.{Explained}
-use Rattle.rules.specs.Refusals.{verdict_of}
+use Rattle.rules.specs.Refusals.{refusal_verdict}
 use Rattle.rules.specs.Statement.{refused_line}
-use Rattle.rules.specs.Explanation.{explain, explanation_lines, member_asked, hour_asked, explanation, worded}
+use Rattle.rules.specs.Explanation.{explain, explanation_lines, member_asked, hour_asked, explanation, explanation_of, worded}
 use Rattle.rules.proofs.Worded.{four_bytes}
-use Rattle.answer.proofs.Refusing.{numbered}
-use Rattle.explain.specs.Answered.{answered}
+use Rattle.rules.proofs.Rows.{numbered}
 
-pub worded_refused : (e : Explained) → (e.answer ≡ Accepted → ⊥) → refused_line (verdict_of e.answer) ≡ worded (answered e)
+pub worded_refused : (r : Refusal) → refused_line (refusal_verdict r) ≡ worded (explanation_of (Err r))
 unfolding worded
-worded_refused e n = sym (rw (numbered e.answer n) refl)
+worded_refused r = sym (rw (numbered r) refl)
 
-pub worded_accepted : (e : Explained) → e.answer ≡ Accepted →
-    explanation_lines e.heads (answered e).decided ≡ worded (answered e)
+pub worded_accepted : (told : Explained) → explanation_lines told.heads told.decided ≡ worded (explanation_of (Ok told))
 unfolding worded
-worded_accepted e a = sym (rw a refl)
+worded_accepted told = refl
 
 -- of an input with four bytes or more
 pub asked : (s : List ℕ) → 4 ≤ length s → worded (explain (hour_asked s) (member_asked s)) ≡ explanation s

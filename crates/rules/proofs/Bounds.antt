@@ -2,7 +2,7 @@
 -- on the way to them. All fit 64 bits, and row 7 is never broken. Document 01, "Units and ranges", "The sums".
 use mathlib.Core.Path.{◌≡◌, refl}
 use mathlib.Core.Bool.{Bool, cond, ◌&&◌}
-use mathlib.Core.Option.{none}
+use Rattle.std.specs.Prelude.{None}
 use Prim.Native.Nat.{ℕ, ◌+◌, ◌*◌, ◌≤◌, ◌<◌, zero-le}
 use native.Mathlib.Nat.{le_refl, le_trans}
 use native.Mathlib.Omega.{arith}
@@ -286,7 +286,7 @@ module _ {h : Hour} (kept : HourKept h) where
       (le_trans (sum_prefix (λ i. (6000000000 + nat_abs (share_of h i)) * 1000000) n h.count l) allowed_most)
 
   -- Row 7 is never broken.
-  pub row_7_never : bad_amount h ≡ none
+  pub row_7_never : bad_amount h ≡ None
   unfolding bad_amount
   row_7_never = none_below _ (members h) (λ m l. le-ltb most_grains (nat_abs (amount h m)) (let u = amount_under m in omega arith))
 

@@ -3,7 +3,7 @@
 use mathlib.Core.Path.{◌≡◌, refl, ap, subst}
 use mathlib.Core.Logic.{◌↔◌}
 use mathlib.Core.Bool.{true, false, ◌&&◌, and-false}
-use mathlib.Core.Option.{Option, none, some}
+use Rattle.std.specs.Prelude.{Option, None, Some}
 use mathlib.Core.List.{List}
 use Prim.Native.Nat.{ℕ, zero, suc, ◌<◌}
 use native.Mathlib.Omega.{arith}
@@ -53,12 +53,12 @@ none_below_zero = all5 _ (λ a b c d e. simp zr (omega arith))
 -- ---- the head that decided
 
 module _ (charge : ℤ) (hs : List ℤ) where
-  pub named_decides : (k : ℕ) → decided_by charge hs ≡ some k → Decides charge hs k
+  pub named_decides : (k : ℕ) → decided_by charge hs ≡ Some k → Decides charge hs k
   unfolding decided_by
   named_decides k e = let f = found (λ k. nat_abs (head_at hs k)) (λ k. same_sign charge (head_at hs k)) 5 k e in
       record { one_of_five = f.there; sign_is = f.waiting; largest = f.largest; first = f.first }
 
-  none_has_sign : decided_by charge hs ≡ none → (k : ℕ) → k < 5 → same_sign charge (head_at hs k) ≡ false
+  none_has_sign : decided_by charge hs ≡ None → (k : ℕ) → k < 5 → same_sign charge (head_at hs k) ≡ false
   unfolding decided_by
   none_has_sign = none_waits (λ k. nat_abs (head_at hs k)) (λ k. same_sign charge (head_at hs k)) 5
 
@@ -73,21 +73,21 @@ module _ (charge : ℤ) (hs : List ℤ) where
       (λ g. omega (arith, ltb-false j k f, ltb-false k j g)))
 
   -- The head that decided is named, and no other.
-  pub decides : (k : ℕ) → (decided_by charge hs ≡ some k) ↔ Decides charge hs k
+  pub decides : (k : ℕ) → (decided_by charge hs ≡ Some k) ↔ Decides charge hs k
   decides k = (named_decides k, λ d. named (decided_by charge hs) refl d)
     where
-      named : (o : Option ℕ) → decided_by charge hs ≡ o → Decides charge hs k → o ≡ some k
-      named none e d = never d.sign_is (none_has_sign e k d.one_of_five)
-      named (some j) e d = ap some (one_decides j k (named_decides j e) d)
+      named : (o : Option ℕ) → decided_by charge hs ≡ o → Decides charge hs k → o ≡ Some k
+      named None e d = never d.sign_is (none_has_sign e k d.one_of_five)
+      named (Some j) e d = ap Some (one_decides j k (named_decides j e) d)
 
 -- no head of its sign, and a charge of zero
-either_one : (o : Option ℕ) → (o ≡ none → ⊥) → (k : ℕ) × (o ≡ some k)
-either_one none n = absurd (n refl)
-either_one (some k) n = (k, refl)
+either_one : (o : Option ℕ) → (o ≡ None → ⊥) → (k : ℕ) × (o ≡ Some k)
+either_one None n = absurd (n refl)
+either_one (Some k) n = (k, refl)
 
 module _ (hs : List ℤ) (amount : ℤ) (add_up : total_below (head_at hs) 5 ≡ amount) where
   -- if no head had the amount's sign, their sum would not have it either
-  some_head : (cents amount ≡ pos 0 → ⊥) → decided_by (cents amount) hs ≡ none → ⊥
+  some_head : (cents amount ≡ pos 0 → ⊥) → decided_by (cents amount) hs ≡ None → ⊥
   unfolding total_below cents
   some_head other e =
       let without = none_has_sign (cents amount) hs e in
@@ -102,17 +102,17 @@ module _ (hs : List ℤ) (amount : ℤ) (add_up : total_below (head_at hs) 5 ≡
       (none_below_zero _ _ _ _ _ (at 0 (omega arith)) (at 1 (omega arith)) (at 2 (omega arith)) (at 3 (omega arith)) (at 4 (omega arith)))))
 
   -- A charge other than zero always has a head that decided.
-  pub always_one : (cents amount ≡ pos 0 → ⊥) → (k : ℕ) × (decided_by (cents amount) hs ≡ some k)
+  pub always_one : (cents amount ≡ pos 0 → ⊥) → (k : ℕ) × (decided_by (cents amount) hs ≡ Some k)
   always_one other = either_one (decided_by (cents amount) hs) (some_head other)
 
   -- None decided exactly where the charge is zero.
-  pub none_for_zero : (decided_by (cents amount) hs ≡ none) ↔ (cents amount ≡ pos 0)
+  pub none_for_zero : (decided_by (cents amount) hs ≡ None) ↔ (cents amount ≡ pos 0)
   none_for_zero = (
     λ e. split (eqb (nat_abs (cents amount)) 0) (λ t. abs_zero (cents amount) (eqb-true _ _ t))
         (λ t. absurd (some_head (λ z. eqb-false _ _ t (ap nat_abs z)) e)),
     λ z. rw z (nobody_waits (decided_by (pos 0) hs) (named_decides (pos 0) hs)),
   )
     where
-      nobody_waits : (o : Option ℕ) → ((k : ℕ) → o ≡ some k → Decides (pos 0) hs k) → o ≡ none
-      nobody_waits none d = refl
-      nobody_waits (some k) d = never (d k refl).sign_is (zero_has_none (head_at hs k))
+      nobody_waits : (o : Option ℕ) → ((k : ℕ) → o ≡ Some k → Decides (pos 0) hs k) → o ≡ None
+      nobody_waits None d = refl
+      nobody_waits (Some k) d = never (d k refl).sign_is (zero_has_none (head_at hs k))

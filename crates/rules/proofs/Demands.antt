@@ -2,7 +2,7 @@
 -- that come out whole.
 use mathlib.Core.Path.{◌≡◌, ◌∙◌, ap, ap₂}
 use mathlib.Core.Bool.{not, cond, ◌&&◌, ◌||◌}
-use mathlib.Core.Option.{none}
+use Rattle.std.specs.Prelude.{None}
 use mathlib.Core.List.{List, ◌∷◌, ◌++◌}
 use Prim.Native.Nat.{ℕ, ◌/◌, ◌%◌, ◌≤◌, ◌<◌}
 use native.Mathlib.Omega.{arith}
@@ -43,7 +43,7 @@ use Rattle.rules.proofs.Fair.{Sound, shares_by_rank, fair_alike}
 -- what the rows of the hour say of it
 record Passed (h : Hour) : Type 0 where
   kept : HourKept h
-  no_bad_area : bad_area h ≡ none
+  no_bad_area : bad_area h ≡ None
 
 hour_passed : (s : List ℕ) → AllWhole (hour_rows s) → Passed (hour_in s)
 hour_passed s w = record { kept = (passed_kept s w).hour_kept; no_bad_area = areas_whole s w }
@@ -56,7 +56,7 @@ pub record Room (h : Hour) (b : Buffers) : Type 0 where
   pub shares_room : h.count ≤ length b.shares
   pub deviations_room : h.count ≤ length b.deviations
 
-pub buffers_room : (h : Hour) (b : Buffers) → too_short h b ≡ none → Room h b
+pub buffers_room : (h : Hour) (b : Buffers) → too_short h b ≡ None → Room h b
 unfolding too_short
 buffers_room h b enough =
     let c = ltb (length b.charges) (members h) in

@@ -2,7 +2,7 @@
 use mathlib.Core.Path.{◌≡◌, refl, sym, ◌∙◌}
 use mathlib.Core.Logic.{◌↔◌}
 use mathlib.Core.Bool.{true, false}
-use mathlib.Core.Option.{none, some}
+use Rattle.std.specs.Prelude.{None, Some}
 use mathlib.Core.List.{List, [], ◌∷◌, ◌++◌}
 use Prim.Native.Nat.{ℕ}
 use native.Mathlib.Omega.{arith}
@@ -56,7 +56,7 @@ module _ (h : Hour) where
   fails_when : (i : ℕ) → WithinMaximum h i → over_scheduled h i ≡ false
   fails_when i within = split (over_scheduled h i) (λ t. let a = tested_above i t in clash_ℤ a.1 (within a.0)) (λ f. f)
 
-  pub first_above : (i : ℕ) → (above_maximum h ≡ some i) ↔ FirstAbove h i
+  pub first_above : (i : ℕ) → (above_maximum h ≡ Some i) ↔ FirstAbove h i
   unfolding above_maximum
   first_above i = let first = first_some (over_scheduled h) h.count i in (
     λ e. let f = first.0 e in let a = tested_above i f.1 in record {
@@ -68,7 +68,7 @@ module _ (h : Hour) where
     λ f. first.1 (f.there, holds_when i f.is_generator_lem f.above, λ j l. fails_when j (f.before j l)),
   )
 
-  pub all_within : above_maximum h ≡ none → AllWithin h
+  pub all_within : above_maximum h ≡ None → AllWithin h
   unfolding above_maximum
   all_within e i l = tested_within i (first_none (over_scheduled h) h.count e i l)
 

@@ -1,7 +1,7 @@
 -- What is asked of an explanation, proved for every input. Document 02, A5.
 use mathlib.Core.Path.{◌≡◌, refl, sym, ◌∙◌, ap}
 use mathlib.Core.Logic.{◌↔◌}
-use mathlib.Core.Option.{none, some}
+use Rattle.std.specs.Prelude.{None, Some}
 use mathlib.Core.List.{List, [], ◌∷◌}
 use Prim.Native.Nat.{ℕ, ◌≤◌, ◌<◌}
 use native.Mathlib.Omega.{arith}
@@ -56,9 +56,9 @@ module _ (s : List ℕ) (m : ℕ) where
   unfolding no_member verdict
   rows_no_member w l = rows_passed w ∙ rw (le-leb (members h) m l) refl
 
-  past_count : no_member h m ≡ some 0 → members h ≤ m
+  past_count : no_member h m ≡ Some 0 → members h ≤ m
   unfolding no_member
-  past_count e = leb-true (members h) m (if_some (leb (members h) m) (some 0) 0 e).0
+  past_count e = leb-true (members h) m (if_some (leb (members h) m) (Some 0) 0 e).0
 
   -- ---- what is answered
 
@@ -72,14 +72,14 @@ module _ (s : List ℕ) (m : ℕ) where
   explain_accepted e = rw e refl
 
   pub explain_refused : ((verdict (explain_rows s m)).number ≡ 0 → ⊥) →
-      explain s m ≡ record { verdict = verdict (explain_rows s m); heads = no_heads; decided = none }
+      explain s m ≡ record { verdict = verdict (explain_rows s m); heads = no_heads; decided = None }
   unfolding explain
   explain_refused r = rw (ne_eqb (verdict (explain_rows s m)).number 0 r) refl
 
   explain_by_the_table : ByTheTable (explain_rows s m) (explain s m).verdict
   explain_by_the_table = by_the_table explain_numbered explain_verdict
 
-  nothing_said : ((explain s m).verdict ≡ accepted → ⊥) → ((explain s m).heads ≡ no_heads) × ((explain s m).decided ≡ none)
+  nothing_said : ((explain s m).verdict ≡ accepted → ⊥) → ((explain s m).heads ≡ no_heads) × ((explain s m).decided ≡ None)
   nothing_said r = let e = explain_refused (λ z. r (explain_verdict ∙ zero_accepts (explain_rows s m) explain_numbered z)) in
       rw e (refl, refl)
 
@@ -91,7 +91,7 @@ module _ (s : List ℕ) (m : ℕ) where
   )
 
   -- the head that decided is one of the five
-  pub one_of_five : (k : ℕ) → (explain s m).decided ≡ some k → k < 5
+  pub one_of_five : (k : ℕ) → (explain s m).decided ≡ Some k → k < 5
   unfolding decided
   one_of_five k e = split (is_accepted (verdict (explain_rows s m)))
       (λ t. (named_decides _ (heads h m) k

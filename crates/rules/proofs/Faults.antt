@@ -1,7 +1,9 @@
 -- The searches of rows 3 to 5 as the code makes them: which words of a block and of the head must be zero; the first fault of the records.
 use mathlib.Core.Path.{◌≡◌, refl, sym, ◌∙◌, ap, ap₂}
 use mathlib.Core.Bool.{Bool, true, false, not, cond, ◌&&◌}
-use mathlib.Core.Option.{Option, none, some, bind, some-injective}
+use Rattle.std.specs.Prelude.{Option, None, Some}
+use Rattle.std.proofs.lemmas.Option.{same_Some}
+use Rattle.rules.specs.Text.{bind}
 use mathlib.Core.List.{List}
 use Prim.Native.Nat.{ℕ, ◌+◌, ◌-◌, ◌*◌, ◌≤◌, ◌<◌, zero-le}
 use native.Mathlib.Omega.{arith}
@@ -12,14 +14,11 @@ use Rattle.whole.proofs.Tests.{split, never, never_some}
 use Rattle.whole.specs.Below.{first_below}
 use Rattle.whole.proofs.Search.{first_some, first_more, first_rest, first_ext, none_below}
 use Rattle.rules.specs.declared.Layout.{Layout}
-use Rattle.rules.specs.declared.Mode.{Mode}
-use Rattle.rules.specs.declared.Mode.TheVariants.{Hourly, TenMinutes}
 use Rattle.rules.specs.declared.Rule.TheVariants.{Any}
 use Rattle.rules.specs.Record.{Hour}
 use Rattle.rules.specs.HourFile.{word, blocks, block_word, record_count}
-use Rattle.rules.specs.Ranges.{keeps, first_broken, past_rule, block_rule, head_rule, ten_minutes_head_rule, Form, form_of}
+use Rattle.rules.specs.Ranges.{keeps, first_broken, past_rule, block_rule, head_rule, Form}
 use Rattle.rules.specs.Refusals.{is_broken, bad_block, bad_word, bad_record, first_fault}
-use Rattle.rules.specs.Inner.Layouts.{head_end}
 use Rattle.rules.proofs.RuleTables.{zero_kept, block_words}
 use Rattle.rules.proofs.PartWords.{block_part_word}
 use Rattle.rules.proofs.Kept.{unbroken, held_most}
@@ -30,8 +29,8 @@ broken_more : (p : ℕ → Bool) (n m : ℕ) → n ≤ m → is_broken (first_be
 broken_more p n m l e = step (first_below p n) refl e
   where
     step : (o : Option ℕ) → first_below p n ≡ o → is_broken o ≡ true → is_broken (first_below p m) ≡ true
-    step none q e = never e refl
-    step (some i) q e = ap is_broken (first_more p n m i q l)
+    step None q e = never e refl
+    step (Some i) q e = ap is_broken (first_more p n m i q l)
 
 module _ (layout : Layout) (n held b : ℕ) where
   -- where the records end
@@ -96,67 +95,47 @@ module _ (zones areas : ℕ) where
   head_zero w v l =
       rw (le-ltb w 9 (omega arith), le-ltb w 12 (omega arith), le-ltb w 16 (omega arith), le-ltb w 48 l) (ap not (zero_kept v))
 
--- of either kind of file
-module _ (zones areas : ℕ) where
-  pub mode_any : (m : Mode) (w v : ℕ) → w < 9 → not (keeps ((form_of m).head_rule zones areas w) v) ≡ false
-  unfolding ten_minutes_head_rule keeps
-  mode_any Hourly w v l = head_any zones areas w v l
-  mode_any TenMinutes w v l = rw (lt-ltb w 9 l)
-
-  pub mode_zero : (m : Mode) (w v : ℕ) → head_end m ≤ w → not (keeps ((form_of m).head_rule zones areas w) v) ≡ not (eqb v 0)
-  unfolding ten_minutes_head_rule
-  mode_zero Hourly w v l = head_zero zones areas w v l
-  mode_zero TenMinutes w v l = rw (
-    le-ltb w 9 (omega arith),
-    le-ltb w 12 (omega arith),
-    le-ltb w 16 (omega arith),
-    le-ltb w 48 (omega arith),
-    le-ltb w 96 l,
-  ) (ap not (zero_kept v))
-
 -- ---- the first fault: the first bad record, and in it the first bad word
 
 -- a bad word, if there is one, as the fault of record i
 abbrev in_record : ℕ → Option ℕ → Option (ℕ × ℕ)
-in_record i word = bind {B = ℕ × ℕ} word (λ w. some (i, w))
+in_record i word = bind {B = ℕ × ℕ} word (λ w. Some (i, w))
 
-same_record : (j i w : ℕ) (o : Option ℕ) → in_record j o ≡ some (i, w) → j ≡ i
-unfolding bind
-same_record j i w none e = never_some (sym e)
-same_record j i w (some v) e = ap (λ (fault : ℕ × ℕ). fault.0) (some-injective (j, v) (i, w) e)
+same_record : (j i w : ℕ) (o : Option ℕ) → in_record j o ≡ Some (i, w) → j ≡ i
+same_record j i w None e = never_some (sym e)
+same_record j i w (Some v) e = ap (λ (fault : ℕ × ℕ). fault.0) (same_Some (j, v) (i, w) e)
 
-has_a_word : (j : ℕ) (o : Option ℕ) → is_broken o ≡ true → in_record j o ≡ none → ⊥
-unfolding bind
-has_a_word j none b e = never b refl
-has_a_word j (some v) b e = never_some e
+has_a_word : (j : ℕ) (o : Option ℕ) → is_broken o ≡ true → in_record j o ≡ None → ⊥
+has_a_word j None b e = never b refl
+has_a_word j (Some v) b e = never_some e
 
 -- in any kind of file
 module _ (f : Form) (h : Hour) where
   -- what the search finds
-  pub fault_at_lem : (i w : ℕ) → bad_record f h ≡ some i → bad_word f h i ≡ some w → first_fault f h ≡ some (i, w)
-  unfolding first_fault bind
+  pub fault_at_lem : (i w : ℕ) → bad_record f h ≡ Some i → bad_word f h i ≡ Some w → first_fault f h ≡ Some (i, w)
+  unfolding first_fault
   fault_at_lem i w e g = rw (e, g)
 
-  pub no_fault : bad_record f h ≡ none → first_fault f h ≡ none
-  unfolding first_fault bind
+  pub no_fault : bad_record f h ≡ None → first_fault f h ≡ None
+  unfolding first_fault
   no_fault e = rw e
 
   -- what it found says which record is bad, or that none is
-  pub fault_record : (i w : ℕ) → first_fault f h ≡ some (i, w) → bad_record f h ≡ some i
-  unfolding first_fault bind
+  pub fault_record : (i w : ℕ) → first_fault f h ≡ Some (i, w) → bad_record f h ≡ Some i
+  unfolding first_fault
   fault_record i w e = step (bad_record f h) e
     where
-      step : (o : Option ℕ) → bind o (λ j. in_record j (bad_word f h j)) ≡ some (i, w) → o ≡ some i
-      step none e = never_some (sym e)
-      step (some j) e = ap some (same_record j i w (bad_word f h j) e)
+      step : (o : Option ℕ) → bind o (λ j. in_record j (bad_word f h j)) ≡ Some (i, w) → o ≡ Some i
+      step None e = never_some (sym e)
+      step (Some j) e = ap Some (same_record j i w (bad_word f h j) e)
 
-  pub fault_nowhere : first_fault f h ≡ none → bad_record f h ≡ none
-  unfolding first_fault bad_record bind
+  pub fault_nowhere : first_fault f h ≡ None → bad_record f h ≡ None
+  unfolding first_fault bad_record
   fault_nowhere e = step (bad_record f h) refl e
     where
-      step : (o : Option ℕ) → bad_record f h ≡ o → bind o (λ j. in_record j (bad_word f h j)) ≡ none → bad_record f h ≡ none
-      step none q e = q
-      step (some j) q e = absurd (has_a_word j (bad_word f h j) ((first_some (λ i. is_broken (bad_word f h i)) h.count j).0 q).1 e)
+      step : (o : Option ℕ) → bad_record f h ≡ o → bind o (λ j. in_record j (bad_word f h j)) ≡ None → bad_record f h ≡ None
+      step None q e = q
+      step (Some j) q e = absurd (has_a_word j (bad_word f h j) ((first_some (λ i. is_broken (bad_word f h i)) h.count j).0 q).1 e)
 
 -- ---- a file whose blocks keep the layout holds no more records than its blocks may
 
@@ -169,7 +148,7 @@ one_block_more full n m = ap (λ (k : ℕ). full * k) back ∙ more full (n - 2)
     more : (full k : ℕ) → full * (k + 1) ≡ full * k + full
     more full k = omega arith
 
-pub few_records : (layout : Layout) (s : List ℕ) → bad_block layout s ≡ none →
+pub few_records : (layout : Layout) (s : List ℕ) → bad_block layout s ≡ None →
     record_count layout s ≤ layout.records * (blocks s - 1)
 unfolding record_count
 few_records layout s f = split (leb (blocks s) 1)

@@ -4,7 +4,7 @@ use native.Mathlib.Nat.{mul-le-mul}
 use native.Mathlib.Omega.{arith}
 use mathlib.Core.Path.{◌≡◌}
 use mathlib.Core.Bool.{not, ◌&&◌}
-use mathlib.Core.Option.{none}
+use Rattle.std.specs.Prelude.{None}
 use mathlib.Core.List.{List}
 use lib.IntN.{pos, nat_abs}
 use lib.Dec.{eqb}
@@ -28,13 +28,13 @@ use Rattle.rules.proofs.NoDemand.{settle_held, statement_held, explain_held}
 use Rattle.rules.proofs.Neutral.{hour_demand_by_area, hour_demand_most, neutrality_under, neutral_alike}
 
 -- row 12: where nobody demands anything, N is 0
-shareable : (h : Hour) → no_demand h ≡ none → hour_demand h ≡ 0 → neutrality h ≡ pos 0
+shareable : (h : Hour) → no_demand h ≡ None → hour_demand h ≡ 0 → neutrality h ≡ pos 0
 unfolding no_demand
 shareable h whole z =
     let some = no_place (eqb (hour_demand h) 0 && not (eqb (nat_abs (neutrality h)) 0)) whole in
     abs_zero (neutrality h) (eqb-true _ _ (not-false _ (rw (eq-eqb (hour_demand h) 0 z) at some)))
 
-filled_neutral : (h : Hour) (b : Buffers) → Room h b → no_demand h ≡ none → NeutralOutcome h b (filled h b)
+filled_neutral : (h : Hour) (b : Buffers) → Room h b → no_demand h ≡ None → NeutralOutcome h b (filled h b)
 unfolding filled
 filled_neutral h b room whole = record {
   neutral = neutral_alike h (shareable h whole)

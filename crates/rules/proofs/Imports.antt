@@ -1,7 +1,7 @@
 -- What is asked of imports. Document 02, A3.
 use mathlib.Core.Path.{◌≡◌, refl, ◌∙◌}
 use mathlib.Core.Bool.{true}
-use mathlib.Core.Option.{none, some}
+use Rattle.std.specs.Prelude.{None, Some}
 use mathlib.Core.List.{List, [], ◌∷◌, ◌++◌}
 use Prim.Native.Nat.{ℕ, ◌≤◌}
 use native.Mathlib.Omega.{arith}
@@ -32,7 +32,7 @@ module _ {h : Hour} {i : ℕ} (m : FirstMetered h i) where
       absurd (m.metered (omega arith)))
 
   -- So it is the record at which row 5 is broken.
-  pub record_broken : bad_record hourly_form h ≡ some i
+  pub record_broken : bad_record hourly_form h ≡ Some i
   unfolding bad_record
   record_broken = (first_some (λ j. is_broken (bad_word hourly_form h j)) h.count i).1 (m.there, word_broken, λ j l. rw (m.before j l))
 
@@ -50,7 +50,7 @@ metered_refused s b i passed m = let h = hour_in s in
     ((accepts_when_whole (block_rows hourly s) (block_numbered hourly s)).0 passed)
     ∙ words_refused _ m
 
-metered_unwritten : (head records file : List ℕ) (i : ℕ) → bad_lists head records ≡ none →
+metered_unwritten : (head records file : List ℕ) (i : ℕ) → bad_lists head records ≡ None →
     FirstMetered (hour_from hourly head records) i → (write_hour head records file).verdict ≡ refused_at 5 i
 unfolding verdict word_rows list_form_rows list_rows write_hour_rows
 metered_unwritten head records file i passed m = let h = hour_from hourly head records in

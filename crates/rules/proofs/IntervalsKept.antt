@@ -1,7 +1,7 @@
 -- A ten-minute file that passes rows 1 to 5 keeps its ranges. Document 02, A7.
 use mathlib.Core.Path.{◌≡◌, refl}
 use mathlib.Core.Bool.{Bool, true, false, cond}
-use mathlib.Core.Option.{none}
+use Rattle.std.specs.Prelude.{None}
 use mathlib.Core.List.{List}
 use Prim.Native.Nat.{ℕ, zero, suc, ◌+◌, ◌-◌, ◌*◌, ◌/◌, ◌%◌, ◌≤◌, ◌<◌, zero-le}
 use native.Mathlib.Nat.{le_refl}
@@ -129,7 +129,7 @@ module _ (v : ℕ → ℕ) (kept : IntervalWords v) (k : ℕ) (there : k < 6) wh
 
 -- ---- an hour
 
-module _ (h : Hour) (head_whole : bad_head ten_minutes_form h ≡ none) (records_whole : bad_record ten_minutes_form h ≡ none) where
+module _ (h : Hour) (head_whole : bad_head ten_minutes_form h ≡ None) (records_whole : bad_record ten_minutes_form h ≡ None) where
   head_holds : (w : ℕ) → w < 128 → Holds (ten_minutes_head_rule (zones h) (areas h) w) (h.head w)
   unfolding bad_head
   head_holds w l = all_hold (ten_minutes_head_rule (zones h) (areas h)) h.head 128 head_whole w l
@@ -211,7 +211,7 @@ module _ (h : Hour) (head_whole : bad_head ten_minutes_form h ≡ none) (records
 
 -- ---- a file
 
-module _ (s : List ℕ) (length_whole : bad_length ten_minutes s ≡ none) (blocks_whole : bad_block ten_minutes s ≡ none) where
+module _ (s : List ℕ) (length_whole : bad_length ten_minutes s ≡ None) (blocks_whole : bad_block ten_minutes s ≡ None) where
   length_good : length_bad ten_minutes s ≡ false
   unfolding bad_length
   length_good = no_place (length_bad ten_minutes s) length_whole
@@ -230,8 +230,8 @@ pub ten_minutes_file_kept : (s : List ℕ) → AllWhole (form_rows ten_minutes_f
 unfolding form_rows block_rows word_rows
 ten_minutes_file_kept s w =
     let parts = (whole_parts (block_rows ten_minutes s) (word_rows ten_minutes_form (ten_minutes_in s))).0 w in
-    let length_whole : bad_length ten_minutes s ≡ none = parts.0.0 in
-    let blocks_whole : bad_block ten_minutes s ≡ none = parts.0.1.1.0 in
+    let length_whole : bad_length ten_minutes s ≡ None = parts.0.0 in
+    let blocks_whole : bad_block ten_minutes s ≡ None = parts.0.1.1.0 in
     record {
       length_good = length_good s length_whole blocks_whole;
       hour_kept = ten_minutes_kept (ten_minutes_in s) parts.1.0 parts.1.1.0 (count_most s length_whole blocks_whole);

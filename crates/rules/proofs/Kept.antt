@@ -1,7 +1,7 @@
 -- A file that passes rows 1 to 5 keeps its ranges. Document 01, "Units and ranges", "Refusal numbers and their order".
 use mathlib.Core.Path.{◌≡◌, refl}
 use mathlib.Core.Bool.{true, false, ◌||◌}
-use mathlib.Core.Option.{Option, none, some}
+use Rattle.std.specs.Prelude.{Option, None, Some}
 use mathlib.Core.List.{List}
 use Prim.Native.Nat.{ℕ, ◌+◌, ◌-◌, ◌*◌, ◌/◌, ◌%◌, ◌≤◌, ◌<◌, zero-le}
 use native.Mathlib.Omega.{arith}
@@ -30,12 +30,12 @@ use Rattle.rules.proofs.Words.{Holds, holds, length_is_whole}
 -- ---- a search that found nothing
 
 -- no broken word
-pub unbroken : (o : Option ℕ) → is_broken o ≡ false → o ≡ none
-unbroken none e = refl
-unbroken (some w) e = never refl e
+pub unbroken : (o : Option ℕ) → is_broken o ≡ false → o ≡ None
+unbroken None e = refl
+unbroken (Some w) e = never refl e
 
 -- no first broken word: every word keeps its rule
-pub all_hold : (rule : ℕ → Rule) (word : ℕ → ℕ) (n : ℕ) → first_broken rule word n ≡ none → (w : ℕ) → w < n → Holds (rule w) (word w)
+pub all_hold : (rule : ℕ → Rule) (word : ℕ → ℕ) (n : ℕ) → first_broken rule word n ≡ None → (w : ℕ) → w < n → Holds (rule w) (word w)
 unfolding first_broken
 all_hold rule word n e w l = holds (rule w) (word w) (not-false _ (first_none _ n e w l))
 
@@ -92,7 +92,7 @@ multipliers_least Unknown v f used = never used refl
 
 -- ---- an hour
 
-module _ (h : Hour) (head_whole : bad_head hourly_form h ≡ none) (records_whole : bad_record hourly_form h ≡ none) where
+module _ (h : Hour) (head_whole : bad_head hourly_form h ≡ None) (records_whole : bad_record hourly_form h ≡ None) where
   head_holds : (w : ℕ) → w < 128 → Holds (head_rule (zones h) (areas h) w) (h.head w)
   unfolding bad_head
   head_holds w l = all_hold (head_rule (zones h) (areas h)) h.head 128 head_whole w l
@@ -187,7 +187,7 @@ module _ (h : Hour) (head_whole : bad_head hourly_form h ≡ none) (records_whol
 -- ---- a file
 
 -- in any layout
-module _ (l : Layout) (s : List ℕ) (blocks_whole : bad_block l s ≡ none) where
+module _ (l : Layout) (s : List ℕ) (blocks_whole : bad_block l s ≡ None) where
   -- word 2 of a block other than the first: at most so many records as a block may hold
   pub held_most : (b : ℕ) → 1 ≤ b → b < blocks s → block_word s b 2 ≤ l.records
   unfolding bad_block block_rule count_rule
@@ -197,7 +197,7 @@ module _ (l : Layout) (s : List ℕ) (blocks_whole : bad_block l s ≡ none) whe
       (unbroken _ (first_none _ (blocks s) blocks_whole b n)) 2 (omega arith) in
       split (ltb (b + 1) (blocks s)) (λ e. (rw (other, e) at k).1) (λ e. (rw (other, e) at k).1)
 
-module _ (s : List ℕ) (length_whole : bad_length hourly s ≡ none) (blocks_whole : bad_block hourly s ≡ none) where
+module _ (s : List ℕ) (length_whole : bad_length hourly s ≡ None) (blocks_whole : bad_block hourly s ≡ None) where
   length_good : length_bad hourly s ≡ false
   unfolding bad_length
   length_good = no_place (length_bad hourly s) length_whole
@@ -216,8 +216,8 @@ pub file_kept : (s : List ℕ) → AllWhole (form_rows hourly_form s) → FileKe
 unfolding form_rows block_rows word_rows
 file_kept s w =
     let parts = (whole_parts (block_rows hourly s) (word_rows hourly_form (hour_in s))).0 w in
-    let length_whole : bad_length hourly s ≡ none = parts.0.0 in
-    let blocks_whole : bad_block hourly s ≡ none = parts.0.1.1.0 in
+    let length_whole : bad_length hourly s ≡ None = parts.0.0 in
+    let blocks_whole : bad_block hourly s ≡ None = parts.0.1.1.0 in
     record {
       length_good = length_good s length_whole blocks_whole;
       hour_kept = hour_kept (hour_in s) parts.1.0 parts.1.1.0 (count_most s length_whole blocks_whole);

@@ -3,9 +3,6 @@ use Prim.Native.Nat.{ℕ, ◌+◌, ◌*◌, ◌%◌, ◌≤◌}
 use native.Mathlib.Nat.{mod-lt, mul-le-mul_left, mul-le-mul_right}
 use native.Mathlib.Omega.{arith}
 use Rattle.rules.specs.declared.Layout.{Layout}
-use Rattle.rules.specs.declared.Mode.{Mode}
-use Rattle.rules.specs.declared.Mode.TheVariants.{Hourly, TenMinutes}
-use Rattle.rules.specs.Ranges.{form_of}
 use Rattle.rules.specs.HourFile.{hourly, ten_minutes}
 use Rattle.rules.specs.Inner.Layouts.{FitsBody}
 
@@ -14,10 +11,6 @@ hourly_fits = record { some_records = omega arith; some_words = omega arith; no_
 
 pub ten_minutes_fits : FitsBody ten_minutes
 ten_minutes_fits = record { some_records = omega arith; some_words = omega arith; no_longer = omega arith }
-
-pub mode_fits : (m : Mode) → FitsBody (form_of m).layout
-mode_fits Hourly = hourly_fits
-mode_fits TenMinutes = ten_minutes_fits
 
 module _ {l : Layout} (fit : FitsBody l) where
   abbrev records : ℕ

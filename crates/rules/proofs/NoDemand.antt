@@ -2,7 +2,7 @@
 use mathlib.Core.Path.{◌≡◌, refl, sym, ◌∙◌, ap}
 use mathlib.Core.Logic.{◌↔◌}
 use mathlib.Core.Bool.{Bool, true, false, not}
-use mathlib.Core.Option.{some}
+use Rattle.std.specs.Prelude.{Some}
 use mathlib.Core.List.{List, [], ◌∷◌, ◌++◌, append_assoc}
 use Prim.Native.Nat.{ℕ, ◌<◌}
 use native.Mathlib.Omega.{arith}
@@ -35,7 +35,7 @@ use Rattle.rules.proofs.Explaining.{explain_verdict}
 
 -- ---- the row's test, by the records
 
-is_place : (b : Bool) → place_zero_if b ≡ some 0 → b ≡ true
+is_place : (b : Bool) → place_zero_if b ≡ Some 0 → b ≡ true
 is_place true e = refl
 is_place false e = never_some (sym e)
 
@@ -55,7 +55,7 @@ module _ {h : Hour} (kept : HourKept h) where
     λ none. hour_demand_by_record kept ∙ sum_ext (demand_of h) (λ i. 0) h.count (demands_nothing h none) ∙ sum_zero h.count,
   )
 
-  tested : (no_demand h ≡ some 0) ↔ (NobodyDemands h × (total_below (charge h) (members h) ≡ pos 0 → ⊥))
+  tested : (no_demand h ≡ Some 0) ↔ (NobodyDemands h × (total_below (charge h) (members h) ≡ pos 0 → ⊥))
   unfolding no_demand neutrality
   tested = (
     λ e. let t = both (eqb (hour_demand h) 0) (not (eqb (nat_abs (neutrality h)) 0)) (is_place _ e) in (

@@ -3,7 +3,8 @@
 use mathlib.Core.Path.{◌≡◌, refl, sym, ◌∙◌, ap, ap₂}
 use mathlib.Core.Logic.{◌↔◌}
 use mathlib.Core.Bool.{Bool, true, false, not, cond, ◌&&◌, ◌||◌, or-false}
-use mathlib.Core.Option.{some, bind, some-injective, bind-eq-some_iff}
+use Rattle.std.specs.Prelude.{Option, None, Some}
+use Rattle.std.proofs.lemmas.Option.{same_Some}
 use mathlib.Core.List.{List, [], ◌∷◌, ◌++◌}
 use Prim.Native.Nat.{ℕ, zero, suc, ◌+◌, ◌-◌, ◌*◌, ◌/◌, ◌%◌, ◌^◌, ◌≤◌, ◌<◌}
 use native.Mathlib.Nat.{zero-add, add-zero, pow-le-pow_right, lt_of_lt_of_le, le_trans, le_refl}
@@ -14,7 +15,7 @@ use lib.ListN.{length, take, drop, get_or, replicate, take-append-drop}
 use lib.Seq.{drop-drop, get_or-drop, length-take-le}
 use borrow.Author.Tests.{leb-true, eqb-true, le-leb, eq-eqb}
 use Rattle.whole.proofs.Tests.{split, never, never_some, all_three, if_some}
-use Rattle.rules.specs.Text.{digit_byte, is_digit, sign_byte, decimal, Part, blank_count, digit_count, digits_value, past_blanks, sign_at}
+use Rattle.rules.specs.Text.{bind, digit_byte, is_digit, sign_byte, decimal, Part, blank_count, digit_count, digits_value, past_blanks, sign_at}
 use Rattle.rules.specs.Text.{dollars_at, cents_at, with_minus, amount_in}
 use Rattle.rules.proofs.Digits.{first_byte, is_digit_lem, all_counted, make_the_number, no_leading_zero, digits_are_written, digit_range}
 use Rattle.rules.proofs.Digits.{counted_stand, value_below_power, read_digits, decimal_digits, decimal_at_least_1}
@@ -90,34 +91,34 @@ cents_of_lem (a ∷ b ∷ c ∷ t) e =
 -- ---- a part that is found stands at its place, and what stands there is found
 
 module _ (s : List ℕ) (at : ℕ) where
-  pub sign_found : (p : Part Bool) → sign_at s at ≡ some p → drop at s ≡ cond p.value 45 43 ∷ drop p.next s
+  pub sign_found : (p : Part Bool) → sign_at s at ≡ Some p → drop at s ≡ cond p.value 45 43 ∷ drop p.next s
   unfolding sign_at
   sign_found p e =
       let c = get_or s at 0 in
-      let f = if_some (eqb c 43 || eqb c 45) (some (record { value = eqb c 45; next = at + 1 })) p e in
-      rw (← some-injective _ p f.1, ← drop-drop 1 at s, ← first_byte s at)
+      let f = if_some (eqb c 43 || eqb c 45) (Some (record { value = eqb c 45; next = at + 1 })) p e in
+      rw (← same_Some _ p f.1, ← drop-drop 1 at s, ← first_byte s at)
       (sign_of (drop at s) (rw (← first_byte s at) at f.0))
 
   pub sign_there : (z : ℤ) (t : List ℕ) → drop at s ≡ sign_byte z ∷ t →
-      sign_at s at ≡ some (record { value = eqb (sign_byte z) 45; next = at + 1 })
+      sign_at s at ≡ Some (record { value = eqb (sign_byte z) 45; next = at + 1 })
   unfolding sign_at
   sign_there (pos n) t e = rw (← first_byte s at, e)
   sign_there (negsuc n) t e = rw (← first_byte s at, e)
 
-  pub dollars_found : (p : Part ℕ) → dollars_at s at ≡ some p → (p.value < 10 ^ 10) × (drop at s ≡ decimal p.value ++ drop p.next s)
+  pub dollars_found : (p : Part ℕ) → dollars_at s at ≡ Some p → (p.value < 10 ^ 10) × (drop at s ≡ decimal p.value ++ drop p.next s)
   unfolding dollars_at
   dollars_found p e =
       let t = drop at s in
       let n = digit_count t in
       let front = eqb n 1 || not (eqb (get_or s at 0) 48) in
-      let f = if_some (leb 1 n && leb n 10 && front) (some (record { value = digits_value t n; next = at + n })) p e in
+      let f = if_some (leb 1 n && leb n 10 && front) (Some (record { value = digits_value t n; next = at + n })) p e in
       let g = all_three (leb 1 n) (leb n 10) front f.0 in
-      rw (← some-injective _ p f.1, ← drop-drop n at s)
+      rw (← same_Some _ p f.1, ← drop-drop n at s)
       (dollars_of t n (leb-true 1 n g.0) (leb-true n 10 g.1) (le_refl n) (rw (← first_byte s at) at g.2))
 
   -- digits end at the point
   pub dollars_there : (n : ℕ) (t : List ℕ) → n < 10 ^ 10 → drop at s ≡ decimal n ++ 46 ∷ t →
-      dollars_at s at ≡ some (record { value = n; next = at + length (decimal n) })
+      dollars_at s at ≡ Some (record { value = n; next = at + length (decimal n) })
   unfolding dollars_at digit_count
   dollars_there n t h e =
       let d = decimal_digits n (omega arith) in
@@ -133,15 +134,15 @@ module _ (s : List ℕ) (at : ℕ) where
         make_the_number d (46 ∷ t),
       )
 
-  pub cents_found : (p : Part ℕ) → cents_at s at ≡ some p → (p.value < 100) × (drop at s ≡ cents_text p.value ++ drop p.next s)
+  pub cents_found : (p : Part ℕ) → cents_at s at ≡ Some p → (p.value < 100) × (drop at s ≡ cents_text p.value ++ drop p.next s)
   unfolding cents_at
   cents_found p e =
       let f = if_some (eqb (get_or s at 0) 46 && is_digit (get_or s (at + 1) 0) && is_digit (get_or s (at + 2) 0))
-      (some (record { value = digits_value (drop (at + 1) s) 2; next = at + 3 })) p e in
+      (Some (record { value = digits_value (drop (at + 1) s) 2; next = at + 3 })) p e in
       let c = cents_of_lem (drop at s) (rw (← first_byte s at, ← get_or-drop at s 1 0, ← get_or-drop at s 2 0) at f.0) in
-      rw (← some-injective _ p f.1, ← drop-drop 3 at s, ← drop-drop 1 at s, c.1) (c.2, c.3)
+      rw (← same_Some _ p f.1, ← drop-drop 3 at s, ← drop-drop 1 at s, c.1) (c.2, c.3)
 
-  pub cents_there : (w : ℕ) → w < 100 → drop at s ≡ cents_text w → cents_at s at ≡ some (record { value = w; next = at + 3 })
+  pub cents_there : (w : ℕ) → w < 100 → drop at s ≡ cents_text w → cents_at s at ≡ Some (record { value = w; next = at + 3 })
   unfolding cents_at digits_value
   cents_there w h e =
       rw (
@@ -153,19 +154,19 @@ module _ (s : List ℕ) (at : ℕ) where
         is_digit_lem (w / 10) (omega arith),
         is_digit_lem (w % 10) (omega arith),
       )
-      (ap (λ (v : ℕ). some (record { value = v; next = at + 3 })) value)
+      (ap (λ (v : ℕ). Some (record { value = v; next = at + 3 })) value)
     where
       value : 10 * (10 * 0 + (digit_byte (w / 10) - 48)) + (digit_byte (w % 10) - 48) ≡ w
       value = omega arith
 
 -- the sign and the size make the amount
-pub minus_found : (m : Bool) (c : ℕ) (z : ℤ) → with_minus m c ≡ some z → (nat_abs z ≡ c) × (sign_byte z ≡ cond m 45 43)
+pub minus_found : (m : Bool) (c : ℕ) (z : ℤ) → with_minus m c ≡ Some z → (nat_abs z ≡ c) × (sign_byte z ≡ cond m 45 43)
 unfolding with_minus
-minus_found false c z e = rw (← some-injective (pos c) z e) (refl, refl)
+minus_found false c z e = rw (← same_Some (pos c) z e) (refl, refl)
 minus_found true zero z e = never_some (sym e)
-minus_found true (suc c) z e = rw (← some-injective (negsuc c) z e) (refl, refl)
+minus_found true (suc c) z e = rw (← same_Some (negsuc c) z e) (refl, refl)
 
-pub minus_there : (z : ℤ) → with_minus (eqb (sign_byte z) 45) (nat_abs z) ≡ some z
+pub minus_there : (z : ℤ) → with_minus (eqb (sign_byte z) 45) (nat_abs z) ≡ Some z
 unfolding with_minus
 minus_there (pos c) = refl
 minus_there (negsuc c) = refl
@@ -176,22 +177,28 @@ pub record WasRead (s : List ℕ) (z : ℤ) : Type 0 where
   pub sign : Part Bool
   pub dollars : Part ℕ
   pub cents : Part ℕ
-  pub sign_is : sign_at s (past_blanks s 0) ≡ some sign
-  pub dollars_are : dollars_at s sign.next ≡ some dollars
-  pub cents_are : cents_at s dollars.next ≡ some cents
+  pub sign_is : sign_at s (past_blanks s 0) ≡ Some sign
+  pub dollars_are : dollars_at s sign.next ≡ Some dollars
+  pub cents_are : cents_at s dollars.next ≡ Some cents
   pub at_end : cents.next ≡ length s
-  pub amount_is : with_minus sign.value (100 * dollars.value + cents.value) ≡ some z
+  pub amount_is : with_minus sign.value (100 * dollars.value + cents.value) ≡ Some z
+
+-- a part that is there, and what follows it
+part_there : {A B : Type 0} (part : Option A) {next : A → Option B} {b : B} → bind part next ≡ Some b →
+    (a : A) × (part ≡ Some a) × (next a ≡ Some b)
+part_there None e = never_some (sym e)
+part_there (Some a) e = (a, refl, e)
 
 -- an amount is read exactly if each part is found where the one before it ends
-pub read_by_parts : (s : List ℕ) (z : ℤ) → (amount_in s ≡ some z) ↔ WasRead s z
-unfolding amount_in bind
+pub read_by_parts : (s : List ℕ) (z : ℤ) → (amount_in s ≡ Some z) ↔ WasRead s z
+unfolding amount_in
 read_by_parts s z = (to, from)
   where
-    to : amount_in s ≡ some z → WasRead s z
+    to : amount_in s ≡ Some z → WasRead s z
     to e =
-        let sign = (bind-eq-some_iff (sign_at s (past_blanks s 0)) _).0 e in
-        let dollars = (bind-eq-some_iff (dollars_at s sign.0.next) _).0 sign.2 in
-        let cents = (bind-eq-some_iff (cents_at s dollars.0.next) _).0 dollars.2 in
+        let sign = part_there (sign_at s (past_blanks s 0)) e in
+        let dollars = part_there (dollars_at s sign.0.next) sign.2 in
+        let cents = part_there (cents_at s dollars.0.next) dollars.2 in
         let end = if_some (eqb cents.0.next (length s)) (with_minus sign.0.value (100 * dollars.0.value + cents.0.value)) z
         cents.2 in
         record {
@@ -205,5 +212,5 @@ read_by_parts s z = (to, from)
           amount_is = end.1;
         }
 
-    from : WasRead s z → amount_in s ≡ some z
+    from : WasRead s z → amount_in s ≡ Some z
     from r = rw (r.sign_is, r.dollars_are, r.cents_are, eq-eqb r.cents.next (length s) r.at_end) r.amount_is

@@ -2,7 +2,8 @@
 -- the decimal digits of a number are read as that number. Document 02, A5.
 use mathlib.Core.Path.{◌≡◌, refl, ◌∙◌, ap}
 use mathlib.Core.Bool.{Bool, true, false, not, cond, ◌&&◌}
-use mathlib.Core.Option.{some, bind}
+use Rattle.std.specs.Prelude.{Some}
+use Rattle.rules.specs.Text.{bind}
 use mathlib.Core.List.{List, [], ◌∷◌, ◌++◌, append_assoc, append-nil}
 use Prim.Native.Nat.{ℕ, zero, suc, ◌/◌, ◌%◌, ◌^◌, ◌≤◌, ◌<◌}
 use native.Mathlib.Nat.{add-zero}
@@ -70,7 +71,7 @@ begins_with_digit : {n : ℕ} {s : List ℕ} → DigitsOf n s → (t : List ℕ)
 begins_with_digit (one n l) t = omega arith
 begins_with_digit (more {s = s} d p l r) t = rw (append_assoc s (digit_byte d ∷ []) t) (begins_with_digit r (digit_byte d ∷ t))
 
-pub natural_read : (n : ℕ) → n < 10 ^ 20 → natural_in (decimal n) ≡ some n
+pub natural_read : (n : ℕ) → n < 10 ^ 20 → natural_in (decimal n) ≡ Some n
 unfolding natural_in digit_count
 natural_read n h =
     let digits = decimal_digits n h in
@@ -83,8 +84,8 @@ unfolding number_in
 no_sign [] l = absurd (omega arith)
 no_sign (c ∷ s) l = rw (ne_eqb c 45 (λ e. omega arith))
 
-pub number_read : (z : ℤ) → nat_abs z < 10 ^ 20 → number_in (signed_decimal z) ≡ some z
-unfolding number_in signed_decimal with_minus bind
+pub number_read : (z : ℤ) → nat_abs z < 10 ^ 20 → number_in (signed_decimal z) ≡ Some z
+unfolding number_in signed_decimal with_minus
 number_read (pos n) h =
     no_sign (decimal n) (rw append-nil at (begins_with_digit (decimal_digits n h) [])) ∙ rw (natural_read n h)
 number_read (negsuc n) h = rw (natural_read (suc n) h)

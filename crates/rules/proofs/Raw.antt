@@ -2,7 +2,7 @@
 -- Document 02, A2.
 use mathlib.Core.Path.{◌≡◌, refl, sym, ◌∙◌, ap}
 use mathlib.Core.Bool.{not, ◌||◌, or-true}
-use mathlib.Core.Option.{none}
+use Rattle.std.specs.Prelude.{None}
 use mathlib.Core.List.{List}
 use Prim.Native.Nat.{ℕ, ◌-◌, ◌/◌, ◌%◌, ◌^◌, ◌≤◌, ◌<◌}
 use native.Mathlib.Omega.{arith}
@@ -32,7 +32,7 @@ use Rattle.rules.proofs.Writing.{lists_whole}
 -- ---- room for the longest file is enough for every one: row 11 decides nothing
 
 -- no hour that the writer accepts has more than 26 blocks
-file_most : (head records : List ℕ) → bad_lists head records ≡ none → file_length hourly (hour_from hourly head records) ≤ 13312
+file_most : (head records : List ℕ) → bad_lists head records ≡ None → file_length hourly (hour_from hourly head records) ≤ 13312
 unfolding file_length hour_from
 file_most head records e = omega (arith, some_blocks (hour_from hourly head records), (lists_whole head records e).2)
 

@@ -2,7 +2,7 @@
 -- hour than its file. Document 02, A2; document 01, "The hour file".
 use mathlib.Core.Path.{◌≡◌, sym, ◌∙◌, ap, ap₂, fun_ext}
 use mathlib.Core.Bool.{not, ◌&&◌}
-use mathlib.Core.Option.{none}
+use Rattle.std.specs.Prelude.{None}
 use mathlib.Core.List.{List}
 use Prim.Native.Nat.{ℕ, ◌+◌, ◌-◌, ◌*◌, ◌/◌, ◌%◌, ◌≤◌, ◌<◌}
 use native.Mathlib.Nat.{mod-eq_of_lt}
@@ -64,7 +64,7 @@ module _ (s : List ℕ) (h : Hour) (says : Says s h) where
   blocks_are = omega (arith, says.length_is)
 
   module _ (few : h.count ≤ 250) where
-    pub length_whole : bad_length hourly s ≡ none
+    pub length_whole : bad_length hourly s ≡ None
     unfolding bad_length length_bad file_length
     length_whole =
         let one = some_blocks h in
@@ -74,14 +74,14 @@ module _ (s : List ℕ) (h : Hour) (says : Says s h) where
           le-ltb 13312 (length s) (omega (arith, says.length_is)),
         )
 
-  pub sums_whole : bad_sum s ≡ none
+  pub sums_whole : bad_sum s ≡ None
   unfolding bad_sum block_sum file_word
   sums_whole = none_below _ (blocks s) (λ b l. ap not (eq-eqb _ 0 (
       ap (λ (k : ℕ). k % 0x1_0000_0000)
       (sum_ext (block_word s b) (file_word hourly h b) 128 (λ w m. says.word_is b w (rw blocks_are at l) m))
       ∙ closed_sum (open_word hourly h b) 128 (omega arith) (still_zero h b))))
 
-  pub blocks_whole : bad_block hourly s ≡ none
+  pub blocks_whole : bad_block hourly s ≡ None
   unfolding bad_block first_broken
   blocks_whole = none_below _ (blocks s) (λ b l.
       let there : b < blocks_for hourly h = rw blocks_are at l in

@@ -7,7 +7,7 @@ use native.Mathlib.Omega.{arith}
 use mathlib.Core.Path.{◌≡◌, refl, sym, ◌∙◌, ap, ap₂, subst}
 use mathlib.Core.Logic.{⊎_elim}
 use mathlib.Core.Bool.{Bool, true, false, not, cond, and-false, ◌&&◌}
-use mathlib.Core.Option.{Option, none, some}
+use Rattle.std.specs.Prelude.{Option, None, Some}
 use lib.Dec.{ltb, eqb}
 use borrow.Author.Tests.{ltb-true, ltb-false, eqb-false, not-true, not-false, lt-ltb, le-ltb, ne_eqb}
 use Rattle.whole.specs.Below.{one_if, count_below, sum_below}
@@ -29,13 +29,13 @@ module _ (rem : ℕ → ℕ) (waits : ℕ → Bool) where
     pub first : (j : ℕ) → j < b → waits j ≡ true → rem j < rem b
 
   abbrev Chosen : Option ℕ → ℕ → Type 0
-  Chosen none m = (j : ℕ) → j < m → waits j ≡ false
-  Chosen (some b) m = FirstLargestAt m b
+  Chosen None m = (j : ℕ) → j < m → waits j ≡ false
+  Chosen (Some b) m = FirstLargestAt m b
 
   -- place m doesn't wait
   passed : (o : Option ℕ) (m : ℕ) → waits m ≡ false → Chosen o m → Chosen o (suc m)
-  passed none m f c = λ j l. last_or_below j m l (λ e. rw e f) (c j)
-  passed (some b) m f c = record {
+  passed None m f c = λ j l. last_or_below j m l (λ e. rw e f) (c j)
+  passed (Some b) m f c = record {
     there = omega (arith, c.there);
     waiting = c.waiting;
     largest = λ j l w. last_or_below j m l (λ e. never (rw e at w) f) (λ k. c.largest j k w);
@@ -45,13 +45,13 @@ module _ (rem : ℕ → ℕ) (waits : ℕ → Bool) where
   -- it waits, and is better than what was chosen, or not
   compared : (o : Option ℕ) (m : ℕ) → waits m ≡ true → Chosen o m → Chosen (better rem o m) (suc m)
   unfolding better
-  compared none m t c = record {
+  compared None m t c = record {
     there = le_refl (suc m);
     waiting = t;
     largest = λ j l w. last_or_below j m l (λ e. rw e (le_refl (rem m))) (λ k. never w (c j k));
     first = λ j l w. never w (c j l);
   }
-  compared (some b) m t c = split (ltb (rem b) (rem m))
+  compared (Some b) m t c = split (ltb (rem b) (rem m))
       (λ s. let more = ltb-true (rem b) (rem m) s in rw s (record {
         there = le_refl (suc m);
         waiting = t;
@@ -71,10 +71,10 @@ module _ (rem : ℕ → ℕ) (waits : ℕ → Bool) where
   chosen (suc m) = split (waits m) (λ t. rw t (compared (first_largest rem waits m) m t (chosen m)))
       (λ f. rw f (passed (first_largest rem waits m) m f (chosen m)))
 
-  pub none_waits : (m : ℕ) → first_largest rem waits m ≡ none → (j : ℕ) → j < m → waits j ≡ false
+  pub none_waits : (m : ℕ) → first_largest rem waits m ≡ None → (j : ℕ) → j < m → waits j ≡ false
   none_waits m e = subst (λ (o : Option ℕ). Chosen o m) e (chosen m)
 
-  pub found : (m b : ℕ) → first_largest rem waits m ≡ some b → FirstLargestAt m b
+  pub found : (m b : ℕ) → first_largest rem waits m ≡ Some b → FirstLargestAt m b
   found m b e = subst (λ (o : Option ℕ). Chosen o m) e (chosen m)
 
 -- ---- handing out is by rank

@@ -2,7 +2,7 @@
 -- Document 01, "The printed statement".
 use mathlib.Core.Path.{◌≡◌, refl, sym, ◌∙◌, ap}
 use mathlib.Core.Bool.{true, false}
-use mathlib.Core.Option.{some}
+use Rattle.std.specs.Prelude.{Some}
 use mathlib.Core.List.{List, [], ◌∷◌, ◌++◌, append_assoc, append-nil}
 use Prim.Native.Nat.{ℕ, zero, suc, ◌+◌, ◌-◌, ◌/◌, ◌%◌, ◌^◌, ◌≤◌, ◌<◌}
 use native.Mathlib.Omega.{arith}
@@ -78,9 +78,9 @@ module _ (m : ℕ) (c : ℤ) (behind : List ℕ) where
   pub charge_in_text : take 14 (drop 3 member_text) ≡ column c
   charge_in_text = take_at (column c) behind 14 (column_width c)
 
-  pub number_in_text : m < 100 → natural_in (take 2 member_text) ≡ some m
+  pub number_in_text : m < 100 → natural_in (take 2 member_text) ≡ Some m
   unfolding natural_in digit_count digits_value
-  number_in_text l = rw (is_digit_lem (m / 10) (omega arith), is_digit_lem (m % 10) (omega arith)) (ap some (omega arith))
+  number_in_text l = rw (is_digit_lem (m / 10) (omega arith), is_digit_lem (m % 10) (omega arith)) (ap Some (omega arith))
 
 -- ---- line 1
 

@@ -2,7 +2,8 @@
 use mathlib.Core.Path.{◌≡◌, refl, sym, ◌∙◌, ap}
 use mathlib.Core.Logic.{◌↔◌}
 use mathlib.Core.Bool.{true, cond}
-use mathlib.Core.Option.{Option, none, some, some-injective}
+use Rattle.std.specs.Prelude.{Option, None, Some}
+use Rattle.std.proofs.lemmas.Option.{same_Some}
 use mathlib.Core.List.{List, [], ◌∷◌, ◌++◌, append_assoc}
 use Prim.Native.Nat.{ℕ, zero, suc, ◌+◌, ◌^◌, ◌≤◌, ◌<◌}
 use native.Mathlib.Nat.{le_refl}
@@ -53,8 +54,8 @@ name_lacks (suc (suc (suc (suc (suc k))))) = (refl, refl)
 
 decided_lacks : (d : Option ℕ) → (lacks 10 (decided_name d) ≡ true) × (lacks 32 (decided_name d) ≡ true)
 unfolding lacks
-decided_lacks none = (refl, refl)
-decided_lacks (some k) = name_lacks k
+decided_lacks None = (refl, refl)
+decided_lacks (Some k) = name_lacks k
 
 line_cut : (k : ℕ) (z : ℤ) (rest : List ℕ) → lines_of (head_line k z ++ rest) ≡ head_text k z ∷ lines_of rest
 unfolding head_line lacks
@@ -93,11 +94,11 @@ says_number k z h = record {
 }
 
 same_name : (d : Option ℕ) → decided_name d ≡ name_or_none d
-same_name none = refl
-same_name (some k) = refl
+same_name None = refl
+same_name (Some k) = refl
 
 module _ (hs : List ℤ) (d : Option ℕ) (five : length hs ≡ 5) (small : (k : ℕ) → nat_abs (head_at hs k) < 10 ^ 20)
-    (one_of_five : (k : ℕ) → d ≡ some k → k < 5) where
+    (one_of_five : (k : ℕ) → d ≡ Some k → k < 5) where
   head_said : (k : ℕ) → k < 5 → SaysNumber (line_at (explanation_lines hs d) k) (name_at k) (head_at hs k)
   head_said zero l = rw (cut hs d) (says_number 0 (head_at hs 0) (small 0))
   head_said (suc zero) l = rw (cut hs d) (says_number 1 (head_at hs 1) (small 1))
@@ -119,22 +120,22 @@ module _ (hs : List ℤ) (d : Option ℕ) (five : length hs ≡ 5) (small : (k :
 -- ---- a text says one thing
 
 one_number : {line word : List ℕ} {y z : ℤ} → SaysNumber line word y → SaysNumber line word z → y ≡ z
-one_number a b = some-injective _ _ (sym a.number_read ∙ b.number_read)
+one_number a b = same_Some _ _ (sym a.number_read ∙ b.number_read)
 
 -- the names differ in their first letter
 head_named : (letter : ℕ) → Option ℕ
 head_named c =
-    cond (eqb c 103) (some 0) (cond (eqb c 108) (some 1) (cond (eqb c 105) (some 2) (cond (eqb c 101) (some 3) (cond (eqb c 115) (some 4) none))))
+    cond (eqb c 103) (Some 0) (cond (eqb c 108) (Some 1) (cond (eqb c 105) (Some 2) (cond (eqb c 101) (Some 3) (cond (eqb c 115) (Some 4) None))))
 
-by_first_letter : (d : Option ℕ) → ((k : ℕ) → d ≡ some k → k < 5) → head_named (get_or (name_or_none d) 0 0) ≡ d
+by_first_letter : (d : Option ℕ) → ((k : ℕ) → d ≡ Some k → k < 5) → head_named (get_or (name_or_none d) 0 0) ≡ d
 unfolding head_named
-by_first_letter none five = refl
-by_first_letter (some zero) five = refl
-by_first_letter (some (suc zero)) five = refl
-by_first_letter (some (suc (suc zero))) five = refl
-by_first_letter (some (suc (suc (suc zero)))) five = refl
-by_first_letter (some (suc (suc (suc (suc zero))))) five = refl
-by_first_letter (some (suc (suc (suc (suc (suc k)))))) five = absurd (omega (arith, five _ refl))
+by_first_letter None five = refl
+by_first_letter (Some zero) five = refl
+by_first_letter (Some (suc zero)) five = refl
+by_first_letter (Some (suc (suc zero))) five = refl
+by_first_letter (Some (suc (suc (suc zero)))) five = refl
+by_first_letter (Some (suc (suc (suc (suc zero))))) five = refl
+by_first_letter (Some (suc (suc (suc (suc (suc k)))))) five = absurd (omega (arith, five _ refl))
 
 one_reading : (text : List ℕ) (hs gs : List ℤ) (d e : Option ℕ) → SaysHeads text hs d → SaysHeads text gs e → (hs ≡ gs) × (d ≡ e)
 one_reading text hs gs d e a b = (
@@ -149,7 +150,7 @@ one_reading text hs gs d e a b = (
 
 data Answered (e : Explanation) : Type 0 where
   explained : e.verdict ≡ accepted → SaysHeads (worded e) e.heads e.decided → Answered e
-  refused : (e.verdict.number ≡ 0 → ⊥) → e.heads ≡ no_heads → e.decided ≡ none → Answered e
+  refused : (e.verdict.number ≡ 0 → ⊥) → e.heads ≡ no_heads → e.decided ≡ None → Answered e
 
 same_answer : {e f : Explanation} → e.verdict ≡ f.verdict → e.heads ≡ f.heads → e.decided ≡ f.decided → e ≡ f
 same_answer {e} {f} v hs d =
@@ -218,7 +219,7 @@ module _ (s : List ℕ) (m : ℕ) where
 -- ---- of the program's input
 
 module _ (s : List ℕ) where
-  too_short : length s < 4 → answer_to s ≡ record { verdict = refused_at 1 0; heads = no_heads; decided = none }
+  too_short : length s < 4 → answer_to s ≡ record { verdict = refused_at 1 0; heads = no_heads; decided = None }
   unfolding answer_to
   too_short l = rw (lt-ltb (length s) 4 l)
 

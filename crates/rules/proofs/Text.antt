@@ -3,7 +3,7 @@
 use mathlib.Core.Path.{◌≡◌, refl, sym, ◌∙◌, ap}
 use mathlib.Core.Logic.{◌↔◌}
 use mathlib.Core.Bool.{cond}
-use mathlib.Core.Option.{Option, none, some}
+use Rattle.std.specs.Prelude.{Option, None, Some}
 use mathlib.Core.List.{List, [], ◌∷◌, ◌++◌}
 use Prim.Native.Nat.{ℕ, suc, ◌+◌, ◌-◌, ◌*◌, ◌/◌, ◌%◌, ◌^◌, ◌≤◌, ◌<◌}
 use native.Mathlib.Omega.{arith}
@@ -139,7 +139,7 @@ module _ (s : List ℕ) (z : ℤ) (t : IsTextOf z s) where
       whole = omega arith
 
 -- what is read is exactly any blanks and the text of an amount in range
-pub amount_text_read : (s : List ℕ) (z : ℤ) → (amount_in s ≡ some z) ↔ IsTextOf z s
+pub amount_text_read : (s : List ℕ) (z : ℤ) → (amount_in s ≡ Some z) ↔ IsTextOf z s
 amount_text_read s z = (λ e. read_is_text s z ((read_by_parts s z).0 e), λ t. (read_by_parts s z).1 (text_is_read s z t))
 
 -- ---- reading answers by it
@@ -147,23 +147,23 @@ amount_text_read s z = (λ e. read_is_text s z ((read_by_parts s z).0 e), λ t. 
 never_accepted {ℓ} : {X : Type ℓ} (n : ℕ) → refused_at (suc n) 0 ≡ accepted → X
 never_accepted n e = absurd (let z : suc n ≡ 0 = ap (λ (v : Verdict). v.number) e in omega arith)
 
-answered : (o : Option ℤ) (z : ℤ) → or_refused o ≡ record { verdict = accepted; amount = z } → o ≡ some z
-answered none z e = never_accepted 9 (ap (λ (r : ReadAmount). r.verdict) e)
-answered (some y) z e = ap some (ap (λ (r : ReadAmount). r.amount) e)
+answered : (o : Option ℤ) (z : ℤ) → or_refused o ≡ record { verdict = accepted; amount = z } → o ≡ Some z
+answered None z e = never_accepted 9 (ap (λ (r : ReadAmount). r.verdict) e)
+answered (Some y) z e = ap Some (ap (λ (r : ReadAmount). r.amount) e)
 
-refused : (o : Option ℤ) → or_refused o ≡ record { verdict = refused_at 10 0; amount = pos 0 } → o ≡ none
-refused none e = refl
-refused (some y) e = never_accepted 9 (ap (λ (r : ReadAmount). r.verdict) (sym e))
+refused : (o : Option ℤ) → or_refused o ≡ record { verdict = refused_at 10 0; amount = pos 0 } → o ≡ None
+refused None e = refl
+refused (Some y) e = never_accepted 9 (ap (λ (r : ReadAmount). r.verdict) (sym e))
 
-nothing_found : (o : Option ℤ) → ((z : ℤ) → o ≡ some z → ⊥) → o ≡ none
-nothing_found none f = refl
-nothing_found (some z) f = absurd (f z refl)
+nothing_found : (o : Option ℤ) → ((z : ℤ) → o ≡ Some z → ⊥) → o ≡ None
+nothing_found None f = refl
+nothing_found (Some z) f = absurd (f z refl)
 
 -- reading accepts exactly the texts of amounts in range
 read_checked : (o : Option ℤ) → (or_refused o).verdict ≡ verdict (row 10 (nothing_read o) ∷ [])
 unfolding verdict
-read_checked none = refl
-read_checked (some z) = refl
+read_checked None = refl
+read_checked (Some z) = refl
 
 pub read_checks : (s : List ℕ) → (read s).verdict ≡ verdict (read_amount_rows s)
 unfolding read read_amount_rows not_an_amount

@@ -2,7 +2,8 @@
 -- member's charge and final. Document 02, A1.
 use mathlib.Core.Path.{◌≡◌, refl, sym, ◌∙◌, ap, ap₂}
 use mathlib.Core.Bool.{Bool, true, not, ◌&&◌}
-use mathlib.Core.Option.{Option, none, some, some-injective}
+use Rattle.std.specs.Prelude.{Option, None, Some}
+use Rattle.std.proofs.lemmas.Option.{same_Some}
 use mathlib.Core.List.{List, [], ◌∷◌, ◌++◌, append_assoc, append-nil}
 use Prim.Native.Nat.{ℕ, ◌+◌, ◌-◌, ◌*◌, ◌/◌, ◌^◌, ◌≤◌, ◌<◌}
 use native.Mathlib.Nat.{mul-le-mul_right}
@@ -41,19 +42,19 @@ Small v = (v.number < 10 ^ 20) × (v.place < 10 ^ 20)
 
 pub data SmallRows : List Row → Type 0 where
   no_row : SmallRows []
-  small_row : {broken : Option ℕ} {rows : List Row} (n : ℕ) → n < 10 ^ 20 → ((p : ℕ) → broken ≡ some p → p < 10 ^ 20) → SmallRows rows →
+  small_row : {broken : Option ℕ} {rows : List Row} (n : ℕ) → n < 10 ^ 20 → ((p : ℕ) → broken ≡ Some p → p < 10 ^ 20) → SmallRows rows →
       SmallRows (row n broken ∷ rows)
 
 pub verdict_small : {rows : List Row} → SmallRows rows → Small (verdict rows)
 unfolding verdict
 verdict_small no_row = (omega arith, omega arith)
-verdict_small (small_row {broken = none} n l f rows) = verdict_small rows
-verdict_small (small_row {broken = some p} n l f rows) = (l, f p refl)
+verdict_small (small_row {broken = None} n l f rows) = verdict_small rows
+verdict_small (small_row {broken = Some p} n l f rows) = (l, f p refl)
 
-pub zero_small : (b : Bool) (p : ℕ) → place_zero_if b ≡ some p → p < 10 ^ 20
-zero_small b p e = let z : 0 ≡ p = some-injective 0 p (if_some b (some 0) p e).1 in omega arith
+pub zero_small : (b : Bool) (p : ℕ) → place_zero_if b ≡ Some p → p < 10 ^ 20
+zero_small b p e = let z : 0 ≡ p = same_Some 0 p (if_some b (Some 0) p e).1 in omega arith
 
-pub first_small : (q : ℕ → Bool) (n : ℕ) → n ≤ 10 ^ 20 → (p : ℕ) → first_below q n ≡ some p → p < 10 ^ 20
+pub first_small : (q : ℕ → Bool) (n : ℕ) → n ≤ 10 ^ 20 → (p : ℕ) → first_below q n ≡ Some p → p < 10 ^ 20
 first_small q n l p e = let f = (first_some q n p).0 e in omega (arith, f.0)
 
 -- rows 1 to 5 of either kind of file
@@ -111,8 +112,8 @@ form_small s b l = verdict_small (rw append-nil at (form_rows_small ten_minutes_
 -- ---- a refusal is told
 
 -- two texts that are the same, read alike
-read_alike : {A : Type 0} {x y : A} (read : List ℕ → Option A) {s t : List ℕ} → s ≡ t → read s ≡ some x → read t ≡ some y → x ≡ y
-read_alike read e p q = some-injective _ _ (sym p ∙ ap read e ∙ q)
+read_alike : {A : Type 0} {x y : A} (read : List ℕ → Option A) {s t : List ℕ} → s ≡ t → read s ≡ Some x → read t ≡ Some y → x ≡ y
+read_alike read e p q = same_Some _ _ (sym p ∙ ap read e ∙ q)
 
 module _ (v w : Verdict) (a : Small v) (b : Small w) (e : refused_line v ≡ refused_line w) where
   pub refusal_told : v ≡ w

@@ -1,7 +1,7 @@
 -- The explanation's text: when it is which, how long it can be, and that a reader that stops one byte past the longest input prints the
 -- same. Document 02, A5.
 use mathlib.Core.Path.{◌≡◌, refl, sym, ◌∙◌, ap}
-use mathlib.Core.Option.{Option, none, some}
+use Rattle.std.specs.Prelude.{Option, None, Some}
 use mathlib.Core.List.{List, ◌++◌}
 use Prim.Native.Nat.{ℕ, zero, suc, ◌≤◌, ◌<◌}
 use native.Mathlib.Omega.{arith}
@@ -51,8 +51,8 @@ head_name_most (suc (suc (suc (suc zero)))) = omega arith
 head_name_most (suc (suc (suc (suc (suc k))))) = omega arith
 
 pub decided_name_most : (d : Option ℕ) → length (decided_name d) ≤ 10
-decided_name_most none = omega arith
-decided_name_most (some k) = head_name_most k
+decided_name_most None = omega arith
+decided_name_most (Some k) = head_name_most k
 
 -- Six lines of any five numbers of 64 bits have at most 165 bytes.
 pub explanation_lines_most : (hs : List ℤ) (d : Option ℕ) → length (explanation_lines hs d) ≤ 165

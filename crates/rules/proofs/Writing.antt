@@ -1,7 +1,7 @@
 -- What is asked of the writer of hour files. Document 02, A2.
 use mathlib.Core.Path.{◌≡◌, refl, sym, ◌∙◌, ap, ap₂, subst}
 use mathlib.Core.Bool.{not, ◌&&◌, ◌||◌}
-use mathlib.Core.Option.{none}
+use Rattle.std.specs.Prelude.{None}
 use mathlib.Core.List.{List, [], ◌∷◌, ◌++◌}
 use Prim.Native.Nat.{ℕ, ◌+◌, ◌-◌, ◌*◌, ◌/◌, ◌%◌, ◌≤◌, ◌<◌}
 use native.Mathlib.Omega.{arith}
@@ -42,7 +42,7 @@ module _ (head records : List ℕ) where
 
   -- ---- the lists that row 1 passes
 
-  module _ (whole : bad_lists head records ≡ none) where
+  module _ (whole : bad_lists head records ≡ None) where
     pub lists_whole : (length head ≡ 120) × (length records % 12 ≡ 0) × (length records / 12 ≤ 250)
     unfolding bad_lists
     lists_whole =
@@ -79,7 +79,7 @@ module _ (head records : List ℕ) where
     by_rows = by_the_table (writer_numbered head records (length file)) verdict_is
 
     -- accepted: the lists and their words, the records, and the room
-    rows_whole : w.verdict ≡ accepted → AllWhole (list_form_rows head records) × AllWhole (comparison_rows h) × (no_room h (length file) ≡ none)
+    rows_whole : w.verdict ≡ accepted → AllWhole (list_form_rows head records) × AllWhole (comparison_rows h) × (no_room h (length file) ≡ None)
     unfolding write_hour_rows list_rows
     rows_whole e =
         let all = (whole_parts (list_rows head records) (row 11 (no_room h (length file)) ∷ [])).0 (by_rows.accepts.0 e) in
@@ -195,7 +195,7 @@ module _ (s : List ℕ) where
         let words = ((whole_parts (block_rows hourly s) (word_rows hourly_form (hour_in s))).0 file.0).1 in
         let head = head_words s in
         let records = record_words hourly s in
-        let lists : bad_lists head records ≡ none = rw (
+        let lists : bad_lists head records ≡ None = rw (
           eq-eqb (length head) 120 head_length,
           eq-eqb (length records % 12) 0 (omega (arith, records_length)),
           le-ltb 250 (length records / 12) (omega (arith, records_length, few)),
@@ -204,7 +204,7 @@ module _ (s : List ℕ) where
         let form : AllWhole (list_form_rows head records) = (lists, own-words) in
         let records-too = subst (λ (g : Hour). AllWhole (comparison_rows g)) (sym own_lists) file.1 in
         let own-length = (own_hour s bytes (form_whole s whole)).length_is in
-        let room_there : no_room (hour_from hourly head records) room ≡ none =
+        let room_there : no_room (hour_from hourly head records) room ≡ None =
         rw (own_lists, le-ltb room (file_length hourly (hour_in s)) (omega (arith, own-length, enough))) refl in
         (whole_parts (list_rows head records) _).1
         ((whole_parts (list_form_rows head records) (comparison_rows (hour_from hourly head records))).1 (form, records-too), (room_there, tt))

@@ -1,17 +1,18 @@
 -- Why a member's charge is what it is: its exact amount under five heads, the head that decided, and what the program prints of it, byte for
 -- byte. Document 02, A5.
-use Rattle.std.specs.Prelude.{ℕ, suc, Bool, cond, ◌&&◌, ◌||◌, List, [], ◌∷◌, ◌++◌, ℤ, pos, negsuc, neg_ℤ, nat_abs, ◌*ℤ◌, length, drop, get_or, replicate, ltb, eqb}
-use Rattle.std.proofs.Math.Option.{Option, none, some}
+use Rattle.std.specs.Prelude.{ℕ, suc, Bool, cond, ◌&&◌, ◌||◌, List, [], ◌∷◌, ◌++◌, ℤ, pos, negsuc, neg_ℤ, nat_abs, ◌*ℤ◌, length, drop, get_or, replicate, ltb, eqb, Option, None, Some, Result, Ok, Err}
 use Rattle.std.specs.Int.Signed.{lt_z}
 use Rattle.whole.specs.Below.{total_below}
 use Rattle.rules.specs.declared.Kind.{Kind}
+use Rattle.rules.specs.declared.Refusal.{Refusal}
+use Rattle.rules.specs.declared.Explained.{Explained}
 use Rattle.rules.specs.Record.{Hour, price, member_of, area_of, entry_of, is_generator, is_load, is_import, is_export}
 use Rattle.rules.specs.Deviation.{generator_deviation, load_deviation, import_deviation, export_deviation}
 use Rattle.rules.specs.Share.{first_largest}
 use Rattle.rules.specs.Charge.{share_of, charge}
 use Rattle.rules.specs.Text.{bytes, decimal}
 use Rattle.rules.specs.HourFile.{word, hour_in}
-use Rattle.rules.specs.Refusals.{Verdict, refused_at, verdict, explain_rows}
+use Rattle.rules.specs.Refusals.{Verdict, accepted, refused_at, refusal_verdict, verdict, explain_rows}
 use Rattle.rules.specs.Settling.{is_accepted}
 use Rattle.rules.specs.Statement.{refused_line}
 
@@ -60,11 +61,16 @@ pub record Explanation : Type 0 where
   pub heads : List ℤ
   pub decided : Option ℕ
 
+-- an answer as number, place and figures: refused, all five heads are 0, and none decided
+abbrev pub explanation_of : Result Explained Refusal → Explanation
+explanation_of (Ok told) = record { verdict = accepted; heads = told.heads; decided = told.decided }
+explanation_of (Err refusal) = record { verdict = refusal_verdict refusal; heads = no_heads; decided = None }
+
 unfoldable pub explain : (file : List ℕ) (member : ℕ) → Explanation
 explain s m = let v = verdict (explain_rows s m) in let h = hour_in s in
     cond (is_accepted v)
     (record { verdict = v; heads = heads h m; decided = decided h m })
-    (record { verdict = v; heads = no_heads; decided = none })
+    (record { verdict = v; heads = no_heads; decided = None })
 
 -- ---- what is printed
 
@@ -81,8 +87,8 @@ unfoldable pub head_line : (place : ℕ) (grains : ℤ) → List ℕ
 head_line k grains = head_name k ++ bytes " " ++ signed_decimal grains ++ bytes "\n"
 
 abbrev pub decided_name : Option ℕ → List ℕ
-decided_name none = bytes "none"
-decided_name (some k) = head_name k
+decided_name None = bytes "none"
+decided_name (Some k) = head_name k
 
 unfoldable pub decided_line : Option ℕ → List ℕ
 decided_line d = bytes "decided " ++ decided_name d ++ bytes "\n"

@@ -1,13 +1,10 @@
 -- What each word may be. A rule is a test of one word, a table gives the rule of every word; a word of the head or of a record that no table
 -- names must be zero.
 -- Document 01, "Units and ranges" and "The hour file"; an import's word 4 is document 02, A3. Rows 3 to 5 of the table of refusals cite these.
-use Rattle.std.specs.Prelude.{ℕ, ◌+◌, ◌-◌, ◌*◌, ◌/◌, ◌%◌, Bool, true, not, cond, ◌&&◌, List, [], ◌∷◌, ◌++◌, nat_abs, get_or, ltb, leb, eqb}
-use Rattle.std.proofs.Math.Option.{Option}
+use Rattle.std.specs.Prelude.{ℕ, ◌+◌, ◌-◌, ◌*◌, ◌/◌, ◌%◌, Bool, true, not, cond, ◌&&◌, List, [], ◌∷◌, ◌++◌, nat_abs, get_or, ltb, leb, eqb, Option}
 use Rattle.whole.specs.Below.{first_below}
 use Rattle.rules.specs.declared.Kind.{Kind}
 use Rattle.rules.specs.declared.Kind.TheVariants.{Generator, RealTimeLoad, ProfileLoad, Import, Export, Unknown}
-use Rattle.rules.specs.declared.Mode.{Mode}
-use Rattle.rules.specs.declared.Mode.TheVariants.{Hourly, TenMinutes}
 use Rattle.rules.specs.declared.Rule.{Rule}
 use Rattle.rules.specs.declared.Rule.TheVariants.{Any, Between, LessThan, AtMostInSize}
 use Rattle.rules.specs.Record.{signed, kind_of}
@@ -142,7 +139,3 @@ hourly_form = record { layout = hourly; head_rule = head_rule; record_rule = rec
 -- document 02, A7
 abbrev pub ten_minutes_form : Form
 ten_minutes_form = record { layout = ten_minutes; head_rule = ten_minutes_head_rule; record_rule = ten_minutes_record_rule }
-
-abbrev pub form_of : Mode → Form
-form_of Hourly = hourly_form
-form_of TenMinutes = ten_minutes_form

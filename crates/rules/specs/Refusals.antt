@@ -1,14 +1,12 @@
 -- The table of refusals: what breaks each row and at which place, and the rows in their order.
 -- Document 01, "Refusal numbers and their order"; row 12 is document 02, A1, the rows of the writer are A2, row 13 is A5, row 14 is A6.
-use Rattle.std.specs.Prelude.{ℕ, ◌/◌, ◌%◌, Bool, true, false, not, cond, ◌&&◌, ◌||◌, List, [], ◌∷◌, ◌++◌, ℤ, nat_abs, length, ltb, leb, eqb}
-use Rattle.std.proofs.Math.Option.{Option, none, some, bind}
+use Rattle.std.specs.Prelude.{ℕ, ◌/◌, ◌%◌, Bool, true, false, not, cond, ◌&&◌, ◌||◌, List, [], ◌∷◌, ◌++◌, ℤ, nat_abs, length, ltb, leb, eqb, Option, None, Some, Result, Ok, Err}
+use Rattle.rules.specs.Text.{bind}
 use Rattle.whole.specs.Below.{first_below}
 use Rattle.rules.specs.declared.Line.{Line}
-use Rattle.rules.specs.declared.Found.{Found}
-use Rattle.rules.specs.declared.Found.TheVariants.{At, Nothing}
-use Rattle.rules.specs.declared.Answer.{Answer}
-use Rattle.rules.specs.declared.Answer.TheVariants.{Accepted, BadLength, BadSum, BadBlock, BadHead, BadRecord, BadArea, BadAmount}
-use Rattle.rules.specs.declared.Answer.TheVariants.{OutOfRange, TooNarrow, NotAnAmount, TooShort, NoDemand, NoMember, AboveMaximum}
+use Rattle.rules.specs.declared.Refusal.{Refusal}
+use Rattle.rules.specs.declared.Refusal.TheVariants.{BadLength, BadSum, BadBlock, BadHead, BadRecord, BadArea, BadAmount}
+use Rattle.rules.specs.declared.Refusal.TheVariants.{OutOfRange, TooNarrow, NotAnAmount, TooShort, NoDemand, NoMember, AboveMaximum}
 use Rattle.rules.specs.Record.{Hour, members, zones, areas, kind_of, is_generator}
 use Rattle.rules.specs.Ufe.{ufe, area_demand}
 use Rattle.rules.specs.Charge.{amount}
@@ -32,34 +30,33 @@ accepted = record { number = 0; place = 0 }
 abbrev pub refused_at : ℕ → ℕ → Verdict
 refused_at n p = record { number = n; place = p }
 
--- the document's number and place of each answer
-abbrev pub verdict_of : Answer → Verdict
-verdict_of Accepted = accepted
-verdict_of BadLength = refused_at 1 0
-verdict_of (BadSum b) = refused_at 2 b
-verdict_of (BadBlock b) = refused_at 3 b
-verdict_of (BadHead w) = refused_at 4 w
-verdict_of (BadRecord i) = refused_at 5 i
-verdict_of (BadArea a) = refused_at 6 a
-verdict_of (BadAmount m) = refused_at 7 m
-verdict_of OutOfRange = refused_at 8 0
-verdict_of TooNarrow = refused_at 9 0
-verdict_of NotAnAmount = refused_at 10 0
-verdict_of TooShort = refused_at 11 0
-verdict_of NoDemand = refused_at 12 0
-verdict_of NoMember = refused_at 13 0
-verdict_of (AboveMaximum i) = refused_at 14 i
+-- the document's number and place of each refusal
+abbrev pub refusal_verdict : Refusal → Verdict
+refusal_verdict BadLength = refused_at 1 0
+refusal_verdict (BadSum b) = refused_at 2 b
+refusal_verdict (BadBlock b) = refused_at 3 b
+refusal_verdict (BadHead w) = refused_at 4 w
+refusal_verdict (BadRecord i) = refused_at 5 i
+refusal_verdict (BadArea a) = refused_at 6 a
+refusal_verdict (BadAmount m) = refused_at 7 m
+refusal_verdict OutOfRange = refused_at 8 0
+refusal_verdict TooNarrow = refused_at 9 0
+refusal_verdict NotAnAmount = refused_at 10 0
+refusal_verdict TooShort = refused_at 11 0
+refusal_verdict NoDemand = refused_at 12 0
+refusal_verdict NoMember = refused_at 13 0
+refusal_verdict (AboveMaximum i) = refused_at 14 i
 
--- the place that a search of the code answers
-abbrev pub found_at : Found → Option ℕ
-found_at (At i) = some i
-found_at Nothing = none
+-- of what an entry point answers, whatever it answers when it accepts
+abbrev pub verdict_of : {T : Type 0} → Result T Refusal → Verdict
+verdict_of (Ok value) = accepted
+verdict_of (Err refusal) = refusal_verdict refusal
 
-abbrev pub number_of : Answer → ℕ
-number_of a = (verdict_of a).number
+abbrev pub number_of : {T : Type 0} → Result T Refusal → ℕ
+number_of r = (verdict_of r).number
 
-abbrev pub place_of : Answer → ℕ
-place_of a = (verdict_of a).place
+abbrev pub place_of : {T : Type 0} → Result T Refusal → ℕ
+place_of r = (verdict_of r).place
 
 -- ---- a row: its number, and the place at which it is broken, if it is
 
@@ -69,20 +66,20 @@ pub data Row : Type 0 where
 -- the first broken row answers
 unfoldable pub verdict : List Row → Verdict
 verdict [] = accepted
-verdict (row number (some place) ∷ rows) = refused_at number place
-verdict (row number none ∷ rows) = verdict rows
+verdict (row number (Some place) ∷ rows) = refused_at number place
+verdict (row number None ∷ rows) = verdict rows
 
 -- place 0, for a row that has no other
 abbrev pub place_zero_if : Bool → Option ℕ
-place_zero_if b = cond b (some 0) none
+place_zero_if b = cond b (Some 0) None
 
 abbrev pub nothing_read : Option ℤ → Option ℕ
-nothing_read none = some 0
-nothing_read (some z) = none
+nothing_read None = Some 0
+nothing_read (Some z) = None
 
 abbrev pub is_broken : Option ℕ → Bool
-is_broken none = false
-is_broken (some w) = true
+is_broken None = false
+is_broken (Some w) = true
 
 -- ---- the caller's five buffers, which row 11 measures
 
@@ -122,7 +119,7 @@ module _ (f : Form) (h : Hour) where
 
   -- where the search stops: in the first such record, at the first such word
   unfoldable pub first_fault : Option (ℕ × ℕ)
-  first_fault = bind bad_record (λ i. bind (bad_word i) (λ w. some (i, w)))
+  first_fault = bind bad_record (λ i. bind (bad_word i) (λ w. Some (i, w)))
 
 -- of one record by its words 0, 3 and 8: a generator's scheduled energy is above its maximum; equal is allowed
 unfoldable pub scheduled_above : (kind scheduled maximum : ℕ) → Bool

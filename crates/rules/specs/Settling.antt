@@ -1,9 +1,9 @@
 -- The complete result of each entry point, refused or accepted: settling an hour, writing an hour file, writing an amount, reading one.
 -- Document 01, "The sums" (last paragraph), "Text amounts", "Refusal numbers and their order"; finals: document 02, A1; hour files: A2.
-use Rattle.std.specs.Prelude.{ℕ, Bool, cond, List, ℤ, pos, length, replicate, ltb, eqb}
-use Rattle.std.proofs.Math.Option.{Option, none, some}
+use Rattle.std.specs.Prelude.{ℕ, Bool, cond, List, ℤ, pos, length, replicate, ltb, eqb, Option, None, Some, Result, Ok, Err}
 use Rattle.whole.specs.Below.{values_below, replacing_first}
 use Rattle.rules.specs.declared.Line.{Line}
+use Rattle.rules.specs.declared.Refusal.{Refusal}
 use Rattle.rules.specs.Record.{Hour, members, areas, entry_of}
 use Rattle.rules.specs.Deviation.{deviation}
 use Rattle.rules.specs.Ufe.{ufe}
@@ -44,6 +44,11 @@ ufe_figures h = values_below (λ a. cond (ltb a (areas h)) (ufe h a) (pos 0)) 8
 abbrev pub no_figures : List ℤ
 no_figures = replicate 8 (pos 0)
 
+-- what settling answers beside the buffers
+abbrev pub figures_of : Result (List ℤ) Refusal → List ℤ
+figures_of (Ok figures) = figures
+figures_of (Err refusal) = no_figures
+
 pub record Settlement : Type 0 where
   pub verdict : Verdict
   pub ufe : List ℤ
@@ -63,6 +68,11 @@ pub record HourWritten : Type 0 where
   -- of the file written, in bytes
   pub length : ℕ
   pub file : List ℕ
+
+-- what writing an hour file answers beside the buffer
+abbrev pub length_of : Result ℕ Refusal → ℕ
+length_of (Ok size) = size
+length_of (Err refusal) = 0
 
 -- the buffer's first bytes are the file, and those past its last block are unchanged; a refusal changes none, and its length is 0
 unfoldable pub write_hour : (head records file : List ℕ) → HourWritten
@@ -88,8 +98,13 @@ pub record ReadAmount : Type 0 where
   pub amount : ℤ
 
 abbrev pub or_refused : Option ℤ → ReadAmount
-or_refused none = record { verdict = refused_at 10 0; amount = pos 0 }
-or_refused (some z) = record { verdict = accepted; amount = z }
+or_refused None = record { verdict = refused_at 10 0; amount = pos 0 }
+or_refused (Some z) = record { verdict = accepted; amount = z }
+
+-- what reading answers
+abbrev pub amount_of : Result ℤ Refusal → ℤ
+amount_of (Ok z) = z
+amount_of (Err refusal) = pos 0
 
 unfoldable pub read : List ℕ → ReadAmount
 read field = or_refused (amount_in field)

@@ -1,6 +1,5 @@
 -- A number U shared in whole units over those that take part, by their demands D. Document 01, "The sums", shares.
-use Rattle.std.specs.Prelude.{ℕ, zero, suc, ◌+◌, ◌-◌, ◌*◌, ◌/◌, ◌%◌, Bool, false, not, cond, ◌&&◌, ◌||◌, ℤ, nat_abs, ltb, eqb}
-use Rattle.std.proofs.Math.Option.{Option, none, some}
+use Rattle.std.specs.Prelude.{ℕ, zero, suc, ◌+◌, ◌-◌, ◌*◌, ◌/◌, ◌%◌, Bool, false, not, cond, ◌&&◌, ◌||◌, ℤ, nat_abs, ltb, eqb, Option, None, Some}
 use Rattle.whole.specs.Below.{one_if, count_below, sum_below}
 use Rattle.whole.specs.Signed.{with_sign_of}
 
@@ -8,17 +7,17 @@ use Rattle.whole.specs.Signed.{with_sign_of}
 
 -- a candidate, or place i where its remainder is larger
 unfoldable pub better : (ℕ → ℕ) → Option ℕ → ℕ → Option ℕ
-better rem none i = some i
-better rem (some b) i = cond (ltb (rem b) (rem i)) (some i) (some b)
+better rem None i = Some i
+better rem (Some b) i = cond (ltb (rem b) (rem i)) (Some i) (Some b)
 
 -- of the places below m that wait, the first with the largest remainder
 unfoldable pub first_largest : (ℕ → ℕ) → (ℕ → Bool) → ℕ → Option ℕ
-first_largest rem waits zero = none
+first_largest rem waits zero = None
 first_largest rem waits (suc m) = cond (waits m) (better rem (first_largest rem waits m) m) (first_largest rem waits m)
 
 unfoldable pub is_at : Option ℕ → ℕ → Bool
-is_at none i = false
-is_at (some b) i = eqb i b
+is_at None i = false
+is_at (Some b) i = eqb i b
 
 -- who has a unit once k are handed out: whoever had one, and the first largest of those that wait for one
 unfoldable pub handed_out : (ℕ → ℕ) → (ℕ → Bool) → ℕ → ℕ → ℕ → Bool

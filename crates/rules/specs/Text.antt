@@ -1,8 +1,7 @@
 -- Amounts as text: what an amount's text is, and how a field is read part by part. Document 01, "Text amounts".
-use Rattle.std.specs.Prelude.{ℕ, zero, suc, ◌+◌, ◌-◌, ◌*◌, ◌/◌, ◌%◌, Bool, true, false, not, cond, ◌&&◌, ◌||◌, List, [], ◌∷◌, ◌++◌, ℤ, pos, negsuc, nat_abs, length, drop, get_or, replicate, leb, ltb, eqb}
+use Rattle.std.specs.Prelude.{ℕ, zero, suc, ◌+◌, ◌-◌, ◌*◌, ◌/◌, ◌%◌, Bool, true, false, not, cond, ◌&&◌, ◌||◌, List, [], ◌∷◌, ◌++◌, ℤ, pos, negsuc, nat_abs, length, drop, get_or, replicate, leb, ltb, eqb, Option, None, Some, option_and_then}
 use Prim.Native.Char.{code}
 use Prim.Native.String.{String}
-use Rattle.std.proofs.Math.Option.{Option, none, some, bind}
 
 -- ---- bytes: a blank is 32, + is 43, - is 45, the point is 46, the digits are 48 to 57
 
@@ -68,24 +67,28 @@ module _ (s : List ℕ) (at : ℕ) where
   -- whether it is a minus
   unfoldable pub sign_at : Option (Part Bool)
   sign_at = let c = get_or s at 0 in
-      cond (eqb c 43 || eqb c 45) (some (record { value = eqb c 45; next = at + 1 })) none
+      cond (eqb c 43 || eqb c 45) (Some (record { value = eqb c 45; next = at + 1 })) None
 
   -- one to ten digits, as many as stand there, the first of several no zero
   unfoldable pub dollars_at : Option (Part ℕ)
   dollars_at = let n = digit_count (drop at s) in
       cond (leb 1 n && leb n 10 && (eqb n 1 || not (eqb (get_or s at 0) 48)))
-      (some (record { value = digits_value (drop at s) n; next = at + n })) none
+      (Some (record { value = digits_value (drop at s) n; next = at + n })) None
 
   -- a point and two digits
   unfoldable pub cents_at : Option (Part ℕ)
   cents_at = cond (eqb (get_or s at 0) 46 && is_digit (get_or s (at + 1) 0) && is_digit (get_or s (at + 2) 0))
-      (some (record { value = digits_value (drop (at + 1) s) 2; next = at + 3 })) none
+      (Some (record { value = digits_value (drop (at + 1) s) 2; next = at + 3 })) None
 
 -- no minus zero
 unfoldable pub with_minus : Bool → ℕ → Option ℤ
-with_minus false c = some (pos c)
-with_minus true zero = none
-with_minus true (suc c) = some (negsuc c)
+with_minus false c = Some (pos c)
+with_minus true zero = None
+with_minus true (suc c) = Some (negsuc c)
+
+-- what follows a part, where it is there
+abbrev pub bind : {A B : Type 0} → Option A → (A → Option B) → Option B
+bind part next = option_and_then next part
 
 -- blanks, sign, dollars, cents, and nothing after the cents; a part that is missing ends the reading
 unfoldable pub amount_in : List ℕ → Option ℤ
@@ -93,4 +96,4 @@ amount_in s =
     bind (sign_at s (past_blanks s 0)) (λ sign.
     bind (dollars_at s sign.next) (λ dollars.
     bind (cents_at s dollars.next) (λ cents.
-    cond (eqb cents.next (length s)) (with_minus sign.value (100 * dollars.value + cents.value)) none)))
+    cond (eqb cents.next (length s)) (with_minus sign.value (100 * dollars.value + cents.value)) None)))

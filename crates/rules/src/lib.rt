@@ -1,13 +1,14 @@
-// The types that several crates share, and the layouts of files. The definitions of document 01 stand in specs/, the theorems about them in
-// proofs/; nothing is computed here.
+// The types that several crates share: kinds, refusals with their numbers and places, the layouts of files. The definitions of document 01 stand in specs/,
+// the theorems about them in proofs/.
 #![tactic(auto)]
 
 ghost use Rattle.std.specs.Prelude.{◌≡◌};
 ghost use Rattle.rules.specs.HourFile as HourFile;
-ghost use Rattle.rules.specs.Ranges as Ranges;
+ghost use Rattle.rules.specs.Record.{kind_of, is_load};
+ghost use Rattle.rules.specs.Refusals.{refusal_verdict};
 
 // What a record is about (document 01, "The hour file", record words). A number that names none of the five is Unknown; row 5 refuses it.
-#[derive(Clone, Copy)]
+#[derive(Clone, Copy, Debug, PartialEq, Eq)]
 pub enum Kind {
     Generator,
     RealTimeLoad,
@@ -19,14 +20,14 @@ pub enum Kind {
 
 // A member's line: its exact amount in grains and its record count. It is laid out as in C, for callers that lend lines from there.
 #[repr(C)]
-#[derive(Clone, Copy)]
+#[derive(Clone, Copy, Debug, PartialEq, Eq)]
 pub struct Line {
     pub amount: i64,
     pub records: u32,
 }
 
 // The hour's tally: the records seen, and each area's demand and energy.
-#[derive(Clone, Copy)]
+#[derive(Clone, Copy, Debug, PartialEq, Eq)]
 pub struct Tally {
     pub records: u32,
     pub demand: [u32; 8],
@@ -34,7 +35,7 @@ pub struct Tally {
 }
 
 // What a word may be: anything, from the first to the second, below, or in two's complement at most so large.
-#[derive(Clone, Copy)]
+#[derive(Clone, Copy, Debug, PartialEq, Eq)]
 pub enum Rule {
     Any,
     Between(u32, u32),
@@ -43,7 +44,7 @@ pub enum Rule {
 }
 
 // What one kind of file lays down: word 0 of the first and of every other block, the most blocks, records to a block, words to a record.
-#[derive(Clone, Copy)]
+#[derive(Clone, Copy, Debug, PartialEq, Eq)]
 pub struct Layout {
     pub first: u32,
     pub other: u32,
@@ -52,24 +53,19 @@ pub struct Layout {
     pub words: usize,
 }
 
-// The two kinds of file: an hour, and an hour in ten-minute intervals.
-#[derive(Clone, Copy)]
-pub enum Mode {
-    Hourly,
-    TenMinutes,
+// What explaining a member's charge answers: its exact amount under the five heads, in grains, and which head decided, by its place among
+// them.
+#[derive(Clone, Copy, Debug, PartialEq, Eq)]
+pub struct Explained {
+    pub heads: [i64; 5],
+    pub decided: Option<usize>,
 }
 
-// What a search finds.
-#[derive(Clone, Copy)]
-pub enum Found {
-    At(usize),
-    Nothing,
-}
+// ---- refusals
 
-// The answer of an entry point: a case for each row of the table of refusals, with its place where the row has one.
-#[derive(Clone, Copy)]
-pub enum Answer {
-    Accepted,
+// Why an entry point refuses: a case for each row of the table of refusals, with its place where the row has one.
+#[derive(Clone, Copy, Debug, PartialEq, Eq)]
+pub enum Refusal {
     BadLength,
     BadSum(usize),
     BadBlock(usize),
@@ -86,34 +82,69 @@ pub enum Answer {
     AboveMaximum(usize),
 }
 
-// What settling answers beside the buffers it fills: the UFE of each area, 0 past the areas.
-#[derive(Clone, Copy)]
-pub struct Settled {
-    pub answer: Answer,
-    pub ufe: [i64; 8],
+impl Refusal {
+    // The row's number in the table of refusals.
+    pub fn number(self) -> u64
+        ensures { result ≡ (refusal_verdict self).number }
+    {
+        match self {
+            Refusal::BadLength => 1,
+            Refusal::BadSum(_) => 2,
+            Refusal::BadBlock(_) => 3,
+            Refusal::BadHead(_) => 4,
+            Refusal::BadRecord(_) => 5,
+            Refusal::BadArea(_) => 6,
+            Refusal::BadAmount(_) => 7,
+            Refusal::OutOfRange => 8,
+            Refusal::TooNarrow => 9,
+            Refusal::NotAnAmount => 10,
+            Refusal::TooShort => 11,
+            Refusal::NoDemand => 12,
+            Refusal::NoMember => 13,
+            Refusal::AboveMaximum(_) => 14,
+        }
+    }
+
+    // 0 where the row has no other place.
+    pub fn place(self) -> usize
+        ensures { result ≡ (refusal_verdict self).place }
+    {
+        match self {
+            Refusal::BadSum(block) | Refusal::BadBlock(block) => block,
+            Refusal::BadHead(word) => word,
+            Refusal::BadRecord(record) | Refusal::AboveMaximum(record) => record,
+            Refusal::BadArea(area) => area,
+            Refusal::BadAmount(member) => member,
+            _ => 0,
+        }
+    }
 }
 
-// What explaining a member's charge answers: its exact amount under the five heads, in grains, and which head decided, by its place among
-// them. All are 0 and none decided on refusal.
-#[derive(Clone, Copy)]
-pub struct Explained {
-    pub answer: Answer,
-    pub heads: [i64; 5],
-    pub decided: Found,
+// ---- kinds
+
+// A record's word 0 as a kind; Unknown where it names none of the five.
+impl From<u32> for Kind {
+    ghost from_gives = { λ word kind. kind ≡ kind_of word };
+
+    fn from(word: u32) -> Self {
+        match word {
+            1 => Kind::Generator,
+            2 => Kind::RealTimeLoad,
+            3 => Kind::ProfileLoad,
+            4 => Kind::Import,
+            5 => Kind::Export,
+            _ => Kind::Unknown,
+        }
+    }
 }
 
-// What writing an hour file answers beside the buffer it fills: the file's length in bytes, 0 on refusal.
-#[derive(Clone, Copy)]
-pub struct Filed {
-    pub answer: Answer,
-    pub length: usize,
-}
-
-// What reading a text amount answers.
-#[derive(Clone, Copy)]
-pub struct Reading {
-    pub answer: Answer,
-    pub amount: i64,
+impl Kind {
+    // Both kinds of load.
+    pub fn is_load(self) -> bool
+        ensures { result ≡ is_load self }
+    {
+        matches!(self, Kind::RealTimeLoad | Kind::ProfileLoad)
+    }
 }
 
 // ---- layouts
@@ -141,15 +172,5 @@ pub fn ten_minutes() -> Layout
         blocks: 17,
         records: 4,
         words: 30,
-    }
-}
-
-// The layout of a kind of file.
-pub fn layout_of(mode: Mode) -> Layout
-    ensures { result ≡ (Ranges.form_of mode).layout }
-{
-    match mode {
-        Mode::Hourly => hourly(),
-        Mode::TenMinutes => ten_minutes(),
     }
 }

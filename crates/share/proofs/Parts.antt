@@ -1,11 +1,17 @@
 -- What the engine adds up and divides is what the definitions say, and nothing is too large.
 use mathlib.Core.Path.{◌≡◌, refl, sym, ◌∙◌, ap, ap₂}
 use mathlib.Core.List.{List}
-use Prim.Native.Nat.{ℕ, ◌+◌, ◌-◌, ◌*◌, ◌/◌, ◌%◌, ◌≤◌, ◌<◌}
-use native.Mathlib.Nat.{div-le_self, mod-lt}
+use mathlib.Core.Bool.{Bool, true, false}
+use Prim.Native.Nat.{ℕ, zero, suc, ◌+◌, ◌-◌, ◌*◌, ◌/◌, ◌%◌, ◌≤◌, ◌<◌}
+use native.Mathlib.Nat.{div-le_self, mod-lt, le_refl}
 use native.Mathlib.Omega.{arith}
 use lib.Dec.{ltb}
-use lib.ListN.{length}
+use lib.ListN.{length, take}
+use lib.Seq.{take-length}
+use Rattle.std.proofs.Common.{add-one}
+use Rattle.std.specs.Int.{from_bool}
+use Rattle.std.specs.List.{sum}
+use Rattle.std.proofs.lemmas.List.Sums.{sum_by_more}
 use Rattle.whole.specs.Below.{one_if, sum_below}
 use Rattle.whole.proofs.Sums.{count_most, sum_add_one, sum_prefix}
 use Rattle.whole.proofs.Gathering.{count_add_one}
@@ -17,6 +23,25 @@ use Rattle.share.specs.Steps.{Dividing, whole_of, rest_of, left_of, above_before
 pub demanded_is : (demands : List ℕ) → demanded demands ≡ sum_below (at demands) (length demands)
 unfolding all_demand
 demanded_is demands = refl
+
+-- a sum over the first places of a list
+sum_first : (xs : List ℕ) (n : ℕ) → n ≤ length xs → sum_below (at xs) n ≡ sum (take n xs)
+unfolding sum_below
+sum_first xs zero l = refl
+sum_first xs (suc n) l = rw (sum_first xs n (omega arith), ← add-one n) (sym (sum_by_more (λ x. x) xs n 0 (omega arith)))
+
+pub demanded_sum : (demands : List ℕ) → demanded demands ≡ sum demands
+demanded_sum demands =
+    demanded_is demands ∙ sum_first demands (length demands) (le_refl _) ∙ ap sum (take-length demands)
+
+-- a test that passed is 1, for the code as for the definitions
+pub one_for : (b : Bool) → from_bool b ≡ one_if b
+one_for true = refl
+one_for false = refl
+
+pub one_most : {one : ℕ} (b : Bool) → one ≡ from_bool b → one ≤ 1
+one_most true e = omega arith
+one_most false e = omega arith
 
 module _ {demands : List ℕ} {size t : ℕ} (d : Dividing demands size t) where
   pub some_demand : 0 < demanded demands
@@ -54,9 +79,9 @@ module _ {demands : List ℕ} {size t : ℕ} (d : Dividing demands size t) where
 
   -- the remainders above a bound, one demand more
   pub above_more : (bound i count : ℕ) {one : ℕ} → count ≡ above_before demands size bound i →
-      one ≡ one_if (ltb bound (at demands i * size % t)) → count + one ≡ above_before demands size bound (i + 1)
+      one ≡ from_bool (ltb bound (at demands i * size % t)) → count + one ≡ above_before demands size bound (i + 1)
   above_more bound i count e o =
-      ap₂ (λ (a b : ℕ). a + b) e (o ∙ ap (λ (x : ℕ). one_if (ltb bound x)) (rest_is i)) ∙ sym (count_add_one _ i)
+      ap₂ (λ (a b : ℕ). a + b) e (o ∙ one_for _ ∙ ap (λ (x : ℕ). one_if (ltb bound x)) (rest_is i)) ∙ sym (count_add_one _ i)
 
   pub above_few : (bound i : ℕ) → above_before demands size bound i ≤ i
   above_few bound i = count_most _ i

@@ -1,35 +1,17 @@
 -- The functions for C: an answer's number and place are its verdict, and where a body stands in the file.
 use Prim.Native.Nat.{ℕ, ◌+◌, ◌*◌, ◌<◌}
-use mathlib.Core.Path.{◌≡◌, sym, ◌∙◌, ap, ap₂}
+use mathlib.Core.Path.{◌≡◌, sym, ◌∙◌, ap}
 use mathlib.Core.Bool.{◌||◌}
 use mathlib.Core.List.{List}
 use native.Mathlib.Omega.{arith}
-use lib.IntN.{ℤ}
 use lib.ListN.{length, take, drop}
 use lib.Dec.{leb}
 use borrow.Author.Tests.{leb-true, leb-false}
 use Rattle.whole.proofs.Tests.{split}
-use Rattle.rules.specs.declared.Answer.{Answer}
-use Rattle.rules.specs.declared.Settled.{Settled}
 use Rattle.rules.specs.HourFile.{hourly, length_bad, blocks, body}
-use Rattle.rules.specs.Promised.Demands.{Fits}
-use Rattle.rules.specs.Refusals.{Verdict, refused_at, verdict_of, number_of, place_of, Buffers}
-use Rattle.rules.specs.Settling.{settle}
 use Rattle.rules.proofs.Words.{body_length, body_empty_bad, body_empty_past}
-use Rattle.sneupelaar.specs.declared.NumberedSettled.{NumberedSettled}
 use Rattle.sneupelaar.specs.declared.Part.{Part}
-use Rattle.sneupelaar.specs.HandedOut.{settlement, body_part}
-
-pub numbered_verdict : (a : Answer) {n p : ℕ} → n ≡ number_of a → p ≡ place_of a → refused_at n p ≡ verdict_of a
-numbered_verdict a e f = ap₂ refused_at e f
-
--- what settling answered and left behind, by its number and place
-pub numbered_fits : (s : List ℕ) (b : Buffers) {r : Settled} {after : Buffers} {out : NumberedSettled} → Fits s b r after →
-    out ≡ record { number = number_of r.answer; place = place_of r.answer; ufe = r.ufe } → settlement out after ≡ settle s b
-numbered_fits s b {r} {after} {out} f e =
-    ap (λ (o : NumberedSettled). settlement o after) e
-    ∙ ap₂ (λ (v : Verdict) (u : List ℤ). record { verdict = v; ufe = u; buffers = after }) f.verdict_is f.ufe_is
-    ∙ ap (λ (x : Buffers). record { verdict = (settle s b).verdict; ufe = (settle s b).ufe; buffers = x }) f.buffers_are
+use Rattle.sneupelaar.specs.HandedOut.{body_part}
 
 -- ---- where a body stands
 

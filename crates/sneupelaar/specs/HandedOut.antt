@@ -3,7 +3,7 @@ use Rattle.std.specs.Prelude.{ℕ, ◌+◌, ◌*◌, cond, ◌||◌, List, leb}
 use Rattle.rules.specs.HourFile.{hourly, length_bad, blocks}
 use Rattle.rules.specs.Refusals.{Buffers}
 use Rattle.rules.specs.Settling.{Settlement, Written, ReadAmount}
-use Rattle.sneupelaar.specs.declared.NumberedAnswer.{NumberedAnswer}
+use Rattle.answer.specs.declared.NumberedAnswer.{NumberedAnswer}
 use Rattle.sneupelaar.specs.declared.NumberedReading.{NumberedReading}
 use Rattle.sneupelaar.specs.declared.NumberedSettled.{NumberedSettled}
 use Rattle.sneupelaar.specs.declared.Part.{Part}

@@ -6,20 +6,15 @@ ghost use Rattle.std.specs.Prelude.{◌≡◌, drop, take};
 ghost use Rattle.rules.specs.HourFile.{body, hourly};
 ghost use Rattle.rules.specs.Refusals.{number_of, place_of};
 ghost use Rattle.rules.specs.Settling as Settling;
+ghost use Rattle.rules.specs.Settling.{amount_of, figures_of};
 ghost use Rattle.pool.specs.Buffers.{buffers};
 ghost use Rattle.sneupelaar.specs.HandedOut.{body_part, read_amount, settlement, written};
 
-use rules::{Line, Settled};
+pub use answer::NumberedAnswer;
+use rules::{Line, Refusal};
 
 #[repr(C)]
-#[derive(Drop)]
-pub struct NumberedAnswer {
-    pub number: u64,
-    pub place: u64,
-}
-
-#[repr(C)]
-#[derive(Drop)]
+#[derive(Clone, Copy, Debug, PartialEq, Eq)]
 pub struct NumberedSettled {
     pub number: u64,
     pub place: u64,
@@ -27,7 +22,7 @@ pub struct NumberedSettled {
 }
 
 #[repr(C)]
-#[derive(Drop)]
+#[derive(Clone, Copy, Debug, PartialEq, Eq)]
 pub struct NumberedReading {
     pub number: u64,
     pub place: u64,
@@ -36,22 +31,49 @@ pub struct NumberedReading {
 
 // A part of a file: its first byte's place, and how many bytes it has.
 #[repr(C)]
-#[derive(Drop)]
+#[derive(Clone, Copy, Debug, PartialEq, Eq)]
 pub struct Part {
     pub from: usize,
     pub length: usize,
 }
 
-// What settling answers, with the answer as its number and place.
-fn numbered(settled: Settled) -> NumberedSettled
-    ensures { result ≡ record { number = number_of settled.answer; place = place_of settled.answer; ufe = settled.ufe } }
-{
-    let answer = settled.answer;
-    let figures = settled.ufe;
-    NumberedSettled {
-        number: answer::number_of(answer),
-        place: answer::place_of(answer) as u64,
-        ufe: figures,
+// All UFE figures are 0 on refusal.
+impl From<Result<[i64; 8], Refusal>> for NumberedSettled {
+    ghost from_gives = { λ settled r. r ≡ record { number = number_of settled; place = place_of settled; ufe = figures_of settled } };
+
+    fn from(settled: Result<[i64; 8], Refusal>) -> Self {
+        match settled {
+            Ok(ufe) => NumberedSettled {
+                number: 0,
+                place: 0,
+                ufe,
+            },
+            Err(refusal) => NumberedSettled {
+                number: refusal.number(),
+                place: refusal.place() as u64,
+                ufe: [0i64; 8],
+            },
+        }
+    }
+}
+
+// The amount is 0 on refusal.
+impl From<Result<i64, Refusal>> for NumberedReading {
+    ghost from_gives = { λ reading r. r ≡ record { number = number_of reading; place = place_of reading; amount = amount_of reading } };
+
+    fn from(reading: Result<i64, Refusal>) -> Self {
+        match reading {
+            Ok(amount) => NumberedReading {
+                number: 0,
+                place: 0,
+                amount,
+            },
+            Err(unread) => NumberedReading {
+                number: unread.number(),
+                place: unread.place() as u64,
+                amount: 0,
+            },
+        }
     }
 }
 
@@ -69,31 +91,21 @@ pub fn sneupelaar_settle(
         ≡ Settling.settle file.now
         (buffers charges.old finals.old shares.old deviations.old lines.old) }
 {
-    numbered(pool::settle(file, lines, charges, finals, shares, deviations))
+    NumberedSettled::from(pool::settle(file, lines, charges, finals, shares, deviations))
 }
 
 // Writes an amount of cents into the whole field.
 pub fn sneupelaar_write(cents: i64, field: &mut [u8]) -> NumberedAnswer
     ensures { written result field.new ≡ Settling.write field.old cents }
 {
-    let answer = amount::write(cents, field);
-    NumberedAnswer {
-        number: answer::number_of(answer),
-        place: answer::place_of(answer) as u64,
-    }
+    NumberedAnswer::from(amount::write(cents, field))
 }
 
 // Reads the amount that stands in the whole field.
 pub fn sneupelaar_read(field: &[u8]) -> NumberedReading
     ensures { read_amount result ≡ Settling.read field.now }
 {
-    let reading = amount::read(field);
-    let answer = reading.answer;
-    NumberedReading {
-        number: answer::number_of(answer),
-        place: answer::place_of(answer) as u64,
-        amount: reading.amount,
-    }
+    NumberedReading::from(amount::read(field))
 }
 
 // The block reader: which bytes of the file are the body of a block.

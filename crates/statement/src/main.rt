@@ -2,44 +2,37 @@
 // other, each with its length in front, and prints a statement for each.
 #![tactic(auto)]
 
-ghost use Rattle.std.specs.Prelude.{IfSome, OnOk, length, take};
+ghost use Rattle.std.specs.Prelude.{IfSome, OnOk};
 ghost use Rattle.std.specs.Io.KnownBytes.{Appends};
 ghost use Rattle.rules.specs.Statement.{statement};
+ghost use Rattle.rules.proofs.Stated.{cut_input_same};
 
+use report::statement::{LONGEST, put_statement};
 use std::env::FillError;
 use std::io::{Read, Write};
 use std::rt::Env;
-use streams::Trouble;
+use streams::{Text, Trouble};
 
 // One byte more than the longest file has, so that a longer input is seen.
 const ROOM: usize = 13313;
 
-fn print_statement<W: Write>(output: &mut W, file: &[u8]) -> Result<(), Trouble>
-    ensures { OnOk result (Appends (W.contents output.old) (W.contents output.new) (statement file.now)) }
-{
-    let mut text = [0u8; report::statement::LONGEST];
-    let length = report::statement::put_statement(file, &mut text);
-    streams::print(output, &text[..length])
-}
+struct Statement;
 
-// Settles what comes, up to as many bytes as there is room.
-fn print_read<R: Read, W: Write>(
-    input: &mut R,
-    output: &mut W,
-    room: &mut [u8],
-) -> Result<(), Trouble>
-    ensures { OnOk result (IfSome (R.remaining input.old) (λ xs. Appends (W.contents output.old) (W.contents output.new) (statement (take (length room.old) xs)))) }
-{
-    let length = streams::read_all(input, room)?;
-    print_statement(output, &room[..length])
+impl Text<ROOM, LONGEST> for Statement {
+    ghost text = { statement };
+
+    fn put(file: &[u8], room: &mut [u8]) -> usize {
+        put_statement(file, room)
+    }
+
+    ghost of_first = { cut_input_same };
 }
 
 // All that comes is one hour.
 fn print_one<R: Read, W: Write>(input: &mut R, output: &mut W) -> Result<(), Trouble>
     ensures { OnOk result (IfSome (R.remaining input.old) (λ xs. Appends (W.contents output.old) (W.contents output.new) (statement xs))) }
 {
-    let mut room = [0u8; ROOM];
-    print_read(input, output, &mut room)
+    Statement::print_all(input, output)
 }
 
 // The next hour behind its length, a word. False where nothing comes any more, or the length is more than there is room for: then as much
@@ -55,10 +48,10 @@ fn print_next<R: Read, W: Write>(
     }
     let length = blocks::word(&front, 0) as usize;
     if length > room.len() {
-        print_read(input, output, room)?;
+        Statement::print_read(input, output, room)?;
         return Ok(false);
     }
-    print_read(input, output, &mut room[..length])?;
+    Statement::print_read(input, output, &mut room[..length])?;
     Ok(true)
 }
 

@@ -1,2 +1,3 @@
 -- What the contracts of `streams` cite.
 pub mod Failed
+pub mod Texts

@@ -1,11 +1,12 @@
 // What the programs read and print with, at any reader and any writer. What fails is said on standard error, and the exit status stays 0.
 #![tactic(auto)]
 
-ghost use Rattle.std.specs.Prelude.{◌≡◌, ◌<◌, IfOk, IfErr, OnOk, IfSome, length, take};
+ghost use Rattle.std.specs.Prelude.{◌≡◌, ◌<◌, ◌≤◌, ◌^◌, List, ℕ, IfOk, IfErr, OnOk, IfSome, length, take};
 ghost use Rattle.std.specs.Fmt.{signed_decimal};
 ghost use Rattle.std.specs.Io.{ReadsAtMost};
 ghost use Rattle.std.specs.Io.KnownBytes.{Appends, Consumes, IsAtEnd};
 ghost use Rattle.streams.specs.Failed.{OfInput, OfOutput};
+ghost use Rattle.streams.specs.Texts.{Puts, IsOfFirst};
 
 use std::io;
 use std::io::{Read, Write};
@@ -26,6 +27,7 @@ pub fn read_all<R: Read>(input: &mut R, room: &mut [u8]) -> Result<usize, Troubl
     ensures first { IfOk result (λ n. IfSome (R.remaining input.old) (λ xs. take n room.new ≡ take (length room.new) xs)) }
     ensures failed { IfErr result OfInput }
 {
+    // Stays a while: a `for` cannot say how far it has come, since each read adds as many bytes as it gave.
     let mut length = 0;
     while length < room.len() {
         let more = input.read(&mut room[length..]).map_err(Trouble::Input)?;
@@ -50,6 +52,42 @@ pub fn print_signed<W: Write>(output: &mut W, number: i64) -> Result<(), Trouble
     ensures failed { IfErr result OfOutput }
 {
     write!(output, "{number}").map_err(Trouble::Output)
+}
+
+// What a program prints of the bytes that it reads: at most `LONGEST` bytes, of the first `ROOM` that come.
+pub trait Text<const ROOM: usize, const LONGEST: usize> {
+    ghost text: { List ℕ → List ℕ };
+
+    // Puts the text at the start of `room`, and answers how many bytes it has.
+    fn put(input: &[u8], room: &mut [u8]) -> usize
+        requires { LONGEST ≤ length room.old }
+        ensures { Puts (text input.now) result room.new };
+
+    ghost of_first: { IsOfFirst ROOM text };
+
+    // Prints the text of what comes, up to as many bytes as there is room.
+    final fn print_read<R: Read, W: Write>(
+        input: &mut R,
+        output: &mut W,
+        room: &mut [u8],
+    ) -> Result<(), Trouble>
+        requires { LONGEST < 2 ^ 63 }
+        ensures { OnOk result (IfSome (R.remaining input.old) (λ xs. Appends (W.contents output.old) (W.contents output.new) (text (take (length room.old) xs)))) }
+    {
+        let length = read_all(input, room)?;
+        let mut text = [0u8; LONGEST];
+        let count = Self::put(&room[..length], &mut text);
+        print(output, &text[..count])
+    }
+
+    // Prints the text of all that comes.
+    final fn print_all<R: Read, W: Write>(input: &mut R, output: &mut W) -> Result<(), Trouble>
+        requires { (ROOM < 2 ^ 63) × (LONGEST < 2 ^ 63) }
+        ensures { OnOk result (IfSome (R.remaining input.old) (λ xs. Appends (W.contents output.old) (W.contents output.new) (text xs))) }
+    {
+        let mut room = [0u8; ROOM];
+        Self::print_read(input, output, &mut room)
+    }
 }
 
 // Says what failed, as far as it can be said.

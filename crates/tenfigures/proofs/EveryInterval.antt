@@ -1,6 +1,5 @@
 -- Ten-minute files, computed: records and heads at each limit and one past it, an hour with every kind of record, a refusal for each row.
 use mathlib.Core.Path.{refl}
-use mathlib.Core.Option.{or_else}
 use Rattle.whole.specs.Below
 use Rattle.whole.specs.Signed.{min_ℤ, max_ℤ}
 use Rattle.rules.specs.Record
@@ -19,7 +18,7 @@ use Rattle.rules.specs.Figures.Limits
 use Rattle.rules.specs.Figures.EveryInterval as Figures
 
 pub every_interval_right : Figures.EveryIntervalRight
-unfolding Below.sum_below Below.total_below Below.values_below Below.replacing_first Below.first_below or_else min_ℤ max_ℤ Record.signed
+unfolding Below.sum_below Below.total_below Below.values_below Below.replacing_first Below.first_below min_ℤ max_ℤ Record.signed
     Record.kind_of Record.member_of Record.area_of Record.zone_of Deviation.generator_unavailable Deviation.generator_deviation
     Deviation.load_unavailable Deviation.load_deviation Deviation.import_deviation Deviation.export_deviation Deviation.deviation
     Charge.entering Charge.nearest_cent HourFile.word HourFile.blocks HourFile.block_word HourFile.block_sum HourFile.length_bad

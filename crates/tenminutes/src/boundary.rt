@@ -4,20 +4,11 @@ ghost use Rattle.std.specs.Prelude.{◌≡◌};
 ghost use Rattle.rules.specs.TenMinutes.{settle_ten_minutes};
 ghost use Rattle.tenminutes.specs.HandedOut.{settlement};
 
-#[repr(C)]
-#[derive(Drop)]
-pub struct NumberedAnswer {
-    pub number: u64,
-    pub place: u64,
-}
+pub use answer::NumberedAnswer;
 
 // Settles a ten-minute file.
 pub fn sneupelaar_settle_ten_minutes(file: &[u8], charges: &mut [i64]) -> NumberedAnswer
     ensures { settlement result charges.new ≡ settle_ten_minutes file.now charges.old }
 {
-    let answer = crate::settle(file, charges);
-    NumberedAnswer {
-        number: answer::number_of(answer),
-        place: answer::place_of(answer) as u64,
-    }
+    NumberedAnswer::from(crate::settle(file, charges))
 }

@@ -9,7 +9,8 @@ pub fn cost(net: i64, incremental: i64, decremental: i64) -> i64
     ensures { result ≡ net *ℤ cond (lt_z net (pos 0)) decremental (cond (lt_z (pos 0) net) incremental (pos 0)) }
 {
     if net < 0 {
-        return net * decremental;
+        net * decremental
+    } else {
+        net * incremental
     }
-    net * incremental
 }

@@ -5,7 +5,8 @@ ghost use Rattle.std.specs.Prelude.{◌≡◌};
 ghost use Rattle.rules.specs.Refusals.{verdict_of};
 ghost use Rattle.rules.specs.TenMinutes.{settle_ten_minutes};
 
-use rules::Answer;
+use crate::words::Hour;
+use rules::Refusal;
 
 pub mod boundary;
 mod chain;
@@ -17,18 +18,15 @@ mod words;
 
 // Settles a ten-minute file: any bytes, any length of the charges. Every check runs before the first store, so that a refusal changes
 // nothing.
-pub fn settle(file: &[u8], charges: &mut [i64]) -> Answer
+pub fn settle(file: &[u8], charges: &mut [i64]) -> Result<(), Refusal>
     ensures verdict { verdict_of result ≡ (settle_ten_minutes file.now charges.old).verdict }
     ensures charges { charges.new ≡ (settle_ten_minutes file.now charges.old).charges }
 {
-    let examined = examine::examine_ten_minutes(file);
-    let Answer::Accepted = examined else {
-        return examined;
-    };
-    let members = words::head_word(file, 9) as usize;
-    if charges.len() < members {
-        return Answer::TooShort;
+    examine::examine_ten_minutes(file)?;
+    let hour = Hour::new(file);
+    if charges.len() < hour.members {
+        return Err(Refusal::TooShort);
     }
-    charges::put_charges(file, members, charges);
-    Answer::Accepted
+    charges::put_charges(hour, charges);
+    Ok(())
 }

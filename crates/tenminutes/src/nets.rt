@@ -1,49 +1,50 @@
-// A member's net deviations, in a room of 24 places that is lent, place 6 × zone + interval. The member's records are found by their chain:
-// those of others cost nothing.
-ghost use Rattle.std.specs.Prelude.{◌≡◌, ◌+◌, ◌<◌, length};
+// A member's net deviations: six intervals a zone. The member's records are found by their chain: those of others cost nothing.
+ghost use Rattle.std.specs.Prelude.{◌≡◌, ◌+◌, ◌<◌, pos, ◌+ℤ◌, slice_index_or};
+ghost use Rattle.whole.specs.Below.{values_below};
 ghost use Rattle.rules.specs.Record as Record;
 ghost use Rattle.rules.specs.HourFile.{word};
 ghost use Rattle.rules.specs.Charge.{entering};
 ghost use Rattle.rules.specs.TenMinutes as Ten;
 ghost use Rattle.rules.specs.TenMinutes.{ten_minutes_in};
-ghost use Rattle.rules.specs.Inner.Kept.{IntervalWords, TenMinutesFileKept};
-ghost use Rattle.tenminutes.specs.Room.{NetsAfter, Spare, Added};
-ghost use Rattle.tenminutes.specs.Chain.{Chained};
+ghost use Rattle.tenminutes.specs.Room.{NetsAfter, Spare};
 
-// The six intervals of a record, given by its part, to the places of its zone.
-fn add(words: &[u8], zone: usize, room: &mut [i64])
-    requires { (length words.now ≡ 120) × IntervalWords (word words.now) × (zone < 4) × Spare room.old }
-    ensures { Added (λ k. entering (Ten.interval_entry (word words.now) k)) zone 6 room.old room.new }
+use crate::chain::Chain;
+use crate::interval::Part;
+use crate::words::Hour;
+
+// The six intervals of a record, to the places of its zone.
+fn add(part: &Part, nets: &mut [i64; 6])
+    requires { Spare nets.old }
+    ensures { nets.new ≡ values_below
+        (λ k. slice_index_or nets.old k (pos 0) +ℤ entering (Ten.interval_entry (word part.now.words.now) k)) 6 }
 {
-    let first = 6 * zone;
-    let shared = crate::interval::shared_in(words);
-    let mut k = 0;
-    while k < 6 {
-        room[first + k] += crate::interval::deviation(shared, words, k);
-        k += 1;
+    for (k, net) in nets.iter_mut().enumerate() {
+        *net += part.deviation(k);
     }
 }
 
 // Record `i`, to the nets of its member.
-fn post(file: &[u8], i: usize, room: &mut [i64])
-    requires { TenMinutesFileKept file.now × (i < (ten_minutes_in file.now).count)
-        × NetsAfter (ten_minutes_in file.now) (Record.member_of (ten_minutes_in file.now) i) i room.old }
-    ensures { let h = ten_minutes_in file.now in NetsAfter h (Record.member_of h i) (i + 1) room.new }
+fn post(hour: &Hour, i: usize, nets: &mut [[i64; 6]; 4])
+    requires { (i < (ten_minutes_in hour.now.file.now).count)
+        × NetsAfter (ten_minutes_in hour.now.file.now) (Record.member_of (ten_minutes_in hour.now.file.now) i) i nets.old }
+    ensures { let h = ten_minutes_in hour.now.file.now in NetsAfter h (Record.member_of h i) (i + 1) nets.new }
 {
-    let words = crate::words::record(file, i);
-    let zone = crate::words::zone_of(file, blocks::whole_word(words, 2) as usize);
-    add(words, zone, room);
+    let part = Part::new(hour.record(i));
+    let zone = hour.zone_of(part.area());
+    add(&part, &mut nets[zone]);
 }
 
-// All records of a member, until its chain says 64, which is none.
-pub fn put_nets(file: &[u8], member: usize, firsts: &[u8], nexts: &[u8], room: &mut [i64])
-    requires { TenMinutesFileKept file.now × (member < 32) × Chained (ten_minutes_in file.now) 0 firsts.now nexts.now
-        × NetsAfter (ten_minutes_in file.now) member 0 room.old }
-    ensures { NetsAfter (ten_minutes_in file.now) member (ten_minutes_in file.now).count room.new }
-{
-    let mut i = firsts[member] as usize;
-    while i < 64 {
-        post(file, i, room);
-        i = nexts[i] as usize;
+impl Chain<'_> {
+    // All records of a member, until its chain says that there is none.
+    pub fn put_nets(&self, member: usize, nets: &mut [[i64; 6]; 4])
+        requires { (member < 32) × NetsAfter (ten_minutes_in self.now.hour.file.now) member 0 nets.old }
+        ensures { let h = ten_minutes_in self.now.hour.file.now in NetsAfter h member h.count nets.new }
+    {
+        let mut next = self.firsts[member];
+        while let Some(i) = next {
+            let record = usize::from(i);
+            post(&self.hour, record, nets);
+            next = self.nexts[record];
+        }
     }
 }

@@ -2,7 +2,7 @@
 use contract.Lifetimes.{Lfts}
 use Rattle.rules.specs.HourFile.{hourly}
 use Rattle.theorems.specs.Determined.{OneResult, OnePart}
-use Rattle.theorems.proofs.Laws.{agree, agree_found}
+use Rattle.theorems.proofs.Laws.{agree}
 use Rattle.blocks.proofs.whole_word.Reads as whole_word
 use Rattle.blocks.proofs.word.Reads as word
 use Rattle.blocks.proofs.length_bad.Reads as length_bad
@@ -33,10 +33,10 @@ pub one_head_word : (κs : Lfts 1) → OneResult (head_word.Learnt κs)
 one_head_word κs a x y s t = λ p q. agree (p hourly) (q hourly)
 
 pub one_bad_sum : (κs : Lfts 1) → OneResult (bad_sum.Learnt κs)
-one_bad_sum κs a x y s t = agree_found
+one_bad_sum κs a x y s t = agree
 
 pub one_bad_block : (κs : Lfts 1) → OneResult (bad_block.Learnt κs)
-one_bad_block κs a x y s t = agree_found
+one_bad_block κs a x y s t = agree
 
 pub one_records : (κs : Lfts 1) → OneResult (records.Learnt κs)
 one_records κs a x y s t = agree

@@ -7,9 +7,9 @@ use Prim.Native.Nat.{ℕ, ◌≤◌}
 use lib.IntN.{ℤ}
 use lib.ListN.{length, take}
 use contract.Lifetimes.{Lfts}
-use Rattle.rules.specs.declared.Answer.TheVariants.{Accepted}
-use Rattle.rules.specs.Refusals.{Verdict, refused_at, verdict_of, verdict, hour_rows, Buffers}
-use Rattle.rules.specs.Settling.{Settlement, settle as settling}
+use Rattle.std.specs.Prelude.{Ok}
+use Rattle.rules.specs.Refusals.{accepted, Verdict, refused_at, verdict_of, verdict, hour_rows, Buffers}
+use Rattle.rules.specs.Settling.{figures_of, Settlement, settle as settling}
 use Rattle.rules.specs.Statement as Statement
 use Rattle.rules.proofs.Rows.{settle_verdict, settle_changes_nothing}
 use Rattle.rules.proofs.Demands.{demand2, demand3}
@@ -57,14 +57,14 @@ keeps {s} {b} v u a = record {
 
 pub settle_keeps_demands : (κs : Lfts 6) → Gives (settle.Learnt κs) (λ a x s. KeepsDemands a.0.now
     (buffers a.1.1.0.now a.1.1.1.0.now a.1.1.1.1.0.now a.1.1.1.1.1.0.now a.1.0.now)
-    (verdict_of x.answer) x.ufe
+    (verdict_of x) (figures_of x)
     (buffers s.1.1.0.now s.1.1.1.0.now s.1.1.1.1.0.now s.1.1.1.1.1.0.now s.1.0.now))
 settle_keeps_demands κs a x s p = keeps p.verdict_is p.ufe_is p.buffers_are
 
 -- with the lines that it made itself
 pub settle_unlined_keeps_demands : (κs : Lfts 5) → Gives (settle_unlined.Learnt κs) (λ a x s. KeepsDemandsUnlined a.0.now
     (with_lines (unlined a.1.0.now a.1.1.0.now a.1.1.1.0.now a.1.1.1.1.0.now) own_lines)
-    (verdict_of x.answer) x.ufe
+    (verdict_of x) (figures_of x)
     (with_lines (unlined s.1.0.now s.1.1.0.now s.1.1.1.0.now s.1.1.1.1.0.now)))
 settle_unlined_keeps_demands κs a x s p =
     (p.lines, keeps p.fits.verdict_is p.fits.ufe_is p.fits.buffers_are)
@@ -85,16 +85,16 @@ pub read_promises : (κs : Lfts 1) → Gives (read.Learnt κs) (λ a x s. HasRea
 read_promises κs a x s p = record { verdict_is = p.0; amount_is = p.1 }
 
 -- written, then read
-pub written_is_read : (κs μs : Lfts 1) → Gives (write.Learnt κs) (λ a x s. x ≡ Accepted →
+pub written_is_read : (κs μs : Lfts 1) → Gives (write.Learnt κs) (λ a x s. x ≡ Ok tt →
     Gives (read.Learnt μs) (λ b y t. IsReadAs a.0 s.1.0.now b.0.now y))
 written_is_read κs μs a x s p accepts b y t q same = RoundTrips.written_is_read _ _ a.0 y
     (rw accepts at (write_promises κs a x s p)) (rw same at (read_promises μs b y t q))
 
 -- read, then written at the same width
-pub read_is_written : (κs μs : Lfts 1) → Gives (read.Learnt κs) (λ a x s. x.answer ≡ Accepted →
-    Gives (write.Learnt μs) (λ b y t. IsWrittenAs x.amount a.0.now b.0 b.1.0.now y t.1.0.now))
-read_is_written κs μs a x s p accepts b y t q same width = RoundTrips.read_is_written a.0.now _ _ x.amount y
-    (record { verdict_is = ap verdict_of (sym accepts) ∙ p.0; amount_is = p.1 }) width (rw same at (write_promises μs b y t q))
+pub read_is_written : (κs μs : Lfts 1) → Gives (read.Learnt κs) (λ a x s. (amount : ℤ) → x ≡ Ok amount →
+    Gives (write.Learnt μs) (λ b y t. IsWrittenAs amount a.0.now b.0 b.1.0.now y t.1.0.now))
+read_is_written κs μs a x s p amount accepts b y t q same width = RoundTrips.read_is_written a.0.now _ _ amount y
+    (rw accepts at (read_promises κs a x s p)) width (rw same at (write_promises μs b y t q))
 
 -- the same for C, with the answer as its number and place
 pub sneupelaar_write_promises : (κs : Lfts 1) → Gives (sneupelaar_write.Learnt κs) (λ a x s.
@@ -151,13 +151,13 @@ statement_tells κs μs a x s p room b y t q room₂ bytes bytes₂ same = sheet
 
 -- ---- settled, then printed: the columns of each member's line, read, give the charge and the final that settling wrote
 
-pub settled_is_printed : (κs : Lfts 6) (μs : Lfts 2) → Gives (settle.Learnt κs) (λ a x s. x.answer ≡ Accepted →
+pub settled_is_printed : (κs : Lfts 6) (μs : Lfts 2) → Gives (settle.Learnt κs) (λ a x s. verdict_of x ≡ accepted →
     Gives (statement.Learnt μs) (λ b y t. ShowsSettled a.0.now
     (buffers s.1.1.0.now s.1.1.1.0.now s.1.1.1.1.0.now s.1.1.1.1.1.0.now s.1.0.now)
     b.0.now b.1.0.now (take y t.1.0.now)))
 settled_is_printed κs μs a x s p accepts b y t q same room =
     let lent = buffers a.1.1.0.now a.1.1.1.0.now a.1.1.1.1.0.now a.1.1.1.1.1.0.now a.1.0.now in
-    let shown = sheet.as_settled a.0.now lent (sym p.verdict_is ∙ ap verdict_of accepts) in
+    let shown = sheet.as_settled a.0.now lent (sym p.verdict_is ∙ accepts) in
     rw (
       statement_is_put μs b y t q room ∙ ap Statement.statement same,
       ap (λ (z : Buffers). z.charges) p.buffers_are,

@@ -1,15 +1,14 @@
 -- Explanations: no second result fits the contracts, and what the pages say of them, said of the contracts as their callers read them. What
 -- is read from their text stands in `SixLines`.
 use mathlib.Core.Path.{◌≡◌, refl, sym, ◌∙◌, ap, ap₂, subst}
-use mathlib.Core.Option.{Option, none, some}
+use Rattle.std.specs.Prelude.{Option, None, Some, Result, Ok, Err}
 use mathlib.Core.List.{List}
 use Prim.Native.Nat.{ℕ, zero, suc}
-use lib.IntN.{ℤ}
 use contract.Lifetimes.{Lfts}
-use Rattle.rules.specs.declared.Answer.{Answer}
-use Rattle.rules.specs.declared.Answer.TheVariants.{Accepted}
-use Rattle.rules.specs.declared.Found.{Found}
-use Rattle.rules.specs.Refusals.{refused_at, verdict_of, Buffers}
+use Rattle.rules.specs.declared.Explained.{Explained}
+use Rattle.rules.specs.declared.Refusal.{Refusal}
+use Rattle.rules.specs.Refusals.{accepted, refused_at, verdict_of, Buffers}
+use Rattle.rules.proofs.Rows.{one_answer}
 use Rattle.rules.specs.Settling.{Settlement}
 use Rattle.rules.specs.Explanation as Explanation
 use Rattle.rules.proofs.Explaining.{explain_verdict, explaining}
@@ -18,12 +17,13 @@ use Rattle.rules.proofs.Engines.{engines}
 use Rattle.rules.proofs.Worded.{cut_input_same}
 use Rattle.printing.proofs.Showing.{whole_text}
 use Rattle.pool.specs.Buffers.{buffers}
-use Rattle.explain.specs.Answered.{answered}
 use Rattle.explain.specs.HandedOut.{explanation_of, head_counted}
+use Rattle.printing.specs.Page.{page_shows}
+use Rattle.printing.proofs.Pages.{one_page}
 use Rattle.theorems.specs.Determined.{OneResult, OneOutcome, Gives}
 use Rattle.theorems.specs.Demanded.{KeepsExplaining, ExplainsSettled}
 use Rattle.theorems.specs.Texts.{IsPut, IsPutOfCut}
-use Rattle.theorems.proofs.Laws.{agree, agree_answer, agree_found}
+use Rattle.theorems.proofs.Laws.{agree}
 use Rattle.printing.proofs.explanation.put_six_lines.Reads as put_six_lines
 use Rattle.explain.proofs.explain.Reads as explain
 use Rattle.report.proofs.explanation.put_explanation.Reads as explanation
@@ -33,24 +33,31 @@ use Rattle.explain.proofs.boundary.sneupelaar_explain.Reads as sneupelaar_explai
 
 -- ---- no second result fits
 
-pub one_put_six_lines : (κs : Lfts 1) → OneOutcome (put_six_lines.Learnt κs) (λ s. s.0.now)
-one_put_six_lines κs a x y s t p q = (agree p.next_is q.next_is, agree p.after_is q.after_is)
+pub one_put_six_lines : (κs : Lfts 2) → OneOutcome (put_six_lines.Learnt κs) (λ s. page_shows s.0.now)
+one_put_six_lines κs a x y s t p q = (refl, one_page p q)
+
+-- what is explained, whatever was answered
+abbrev told_of : Result Explained Refusal → Explained
+told_of r = record { heads = (Explanation.explanation_of r).heads; decided = (Explanation.explanation_of r).decided }
+
+told_verdict : (r : Result Explained Refusal) → (Explanation.explanation_of r).verdict ≡ verdict_of r
+told_verdict (Ok e) = refl
+told_verdict (Err refusal) = refl
 
 pub one_explain : (κs : Lfts 1) → OneResult (explain.Learnt κs)
 one_explain κs a x y s t p q =
-    ap₂ (λ (b : Answer) (hs : List ℤ). record { answer = b; heads = hs; decided = x.decided })
-    (agree_answer (ap (λ (e : Explanation.Explanation). e.verdict) p) (ap (λ (e : Explanation.Explanation). e.verdict) q))
-    (ap (λ (e : Explanation.Explanation). e.heads) (agree p q))
-    ∙ ap (λ (d : Found). record { answer = y.answer; heads = y.heads; decided = d })
-    (agree_found (ap (λ (e : Explanation.Explanation). e.decided) p) (ap (λ (e : Explanation.Explanation). e.decided) q))
+    let same = agree p q in
+    one_answer told_of (λ e. refl) x y
+    (sym (told_verdict x) ∙ ap (λ (e : Explanation.Explanation). e.verdict) same ∙ told_verdict y)
+    (ap (λ (e : Explanation.Explanation). record { heads = e.heads; decided = e.decided }) same)
 
 pub one_explanation : (κs : Lfts 2) → OneOutcome (explanation.Learnt κs) (λ s. s.1.0.now)
 one_explanation κs a x y s t p q = (agree p.0 q.0, agree p.1 q.1)
 
 -- a count tells the head
 count_of : Option ℕ → ℕ
-count_of none = 0
-count_of (some k) = suc k
+count_of None = 0
+count_of (Some k) = suc k
 
 counted : (n : ℕ) → count_of (head_counted n) ≡ n
 unfolding count_of
@@ -77,7 +84,7 @@ keeps {s} {m} e = subst (KeepsExplaining s m) (sym e) (record {
   held_to_maximum = engines.explained s m;
 })
 
-pub explain_keeps : (κs : Lfts 1) → Gives (explain.Learnt κs) (λ a x s. KeepsExplaining a.0.now a.1.0 (answered x))
+pub explain_keeps : (κs : Lfts 1) → Gives (explain.Learnt κs) (λ a x s. KeepsExplaining a.0.now a.1.0 (Explanation.explanation_of x))
 explain_keeps κs a x s p = keeps p
 
 pub sneupelaar_explain_keeps : (κs : Lfts 1) → Gives (sneupelaar_explain.Learnt κs) (λ a x s.
@@ -87,13 +94,13 @@ sneupelaar_explain_keeps κs a x s p = keeps p
 -- ---- settled, then explained: the heads add up to what settling wrote into the member's line, and the head named decided on the charge
 -- that it wrote
 
-pub settled_is_explained : (κs : Lfts 6) (μs : Lfts 1) → Gives (settle.Learnt κs) (λ a x s. x.answer ≡ Accepted →
+pub settled_is_explained : (κs : Lfts 6) (μs : Lfts 1) → Gives (settle.Learnt κs) (λ a x s. verdict_of x ≡ accepted →
     Gives (explain.Learnt μs) (λ b y t. ExplainsSettled a.0.now
     (buffers s.1.1.0.now s.1.1.1.0.now s.1.1.1.1.0.now s.1.1.1.1.1.0.now s.1.0.now)
-    b.0.now b.1.0 y.heads (answered y).decided))
+    b.0.now b.1.0 (Explanation.explanation_of y).heads (Explanation.explanation_of y).decided))
 settled_is_explained κs μs a x s p accepts b y t q same there =
     let lent = buffers a.1.1.0.now a.1.1.1.0.now a.1.1.1.1.0.now a.1.1.1.1.1.0.now a.1.0.now in
-    let e = ((keeps (rw same at q)).explained lent (sym p.verdict_is ∙ ap verdict_of accepts) there).1 in
+    let e = ((keeps (rw same at q)).explained lent (sym p.verdict_is ∙ accepts) there).1 in
     rw (ap (λ (z : Buffers). z.lines) p.buffers_are, ap (λ (z : Buffers). z.charges) p.buffers_are) e
 
 -- the same for C

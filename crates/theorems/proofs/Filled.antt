@@ -5,12 +5,13 @@ use Prim.Native.Nat.{ℕ}
 use lib.IntN.{ℤ}
 use contract.Lifetimes.{Lfts}
 use Rattle.amount.proofs.RoundTrips.{one_reading}
-use Rattle.rules.specs.declared.Answer.{Answer}
 use Rattle.rules.specs.Refusals.{Buffers}
-use Rattle.rules.specs.Settling.{Settlement, HourWritten, Written, ReadAmount}
+use Rattle.rules.specs.Settling.{length_of, Settlement, HourWritten, Written, ReadAmount}
 use Rattle.pool.specs.Buffers.{buffers}
 use Rattle.pool.specs.Unlined.{unlined}
-use Rattle.rules.proofs.Rows.{one_settlement}
+use Rattle.rules.proofs.Rows.{one_answer, one_settlement}
+use Rattle.printing.specs.Page.{page_shows}
+use Rattle.printing.proofs.Pages.{one_page}
 use Rattle.theorems.specs.Determined.{OneResult, OneOutcome}
 use Rattle.theorems.proofs.Laws.{agree, agree_answer}
 use Rattle.amount.proofs.write.Reads as write
@@ -34,6 +35,7 @@ use Rattle.sneupelaar.proofs.sneupelaar_body.Reads as sneupelaar_body
 use Rattle.printing.proofs.put_first_line.Reads as put_first_line
 use Rattle.printing.proofs.put_member.Reads as put_member
 use Rattle.printing.proofs.put_refused.Reads as put_refused
+use Rattle.printing.proofs.put_refusal.Reads as put_refusal
 use Rattle.report.proofs.statement.put_statement.Reads as statement
 
 pub one_write : (κs : Lfts 1) → OneOutcome (write.Learnt κs) (λ s. s.1.0.now)
@@ -49,30 +51,33 @@ one_put_digits κs a x y s t p q = (refl, agree p q)
 pub one_share_in_place : (κs : Lfts 1) → OneOutcome (share_in_place.Learnt κs) (λ s. s.0.now)
 one_share_in_place κs a x y s t p q = (refl, agree p q)
 
-pub one_put_deviations : (κs : Lfts 2) → OneOutcome (put_deviations.Learnt κs) (λ s. s.1.1.0.now)
+pub one_put_deviations : (κs : Lfts 3) → OneOutcome (put_deviations.Learnt κs) (λ s. s.1.0.now)
 one_put_deviations κs a x y s t p q = (refl, agree p q)
 
-pub one_put_shares : (κs : Lfts 3) →
-    OneOutcome (put_shares.Learnt κs) {B = List ℕ × List ℤ} (λ s. (s.1.1.1.0.now, s.1.1.1.1.0.now))
+pub one_put_shares : (κs : Lfts 4) →
+    OneOutcome (put_shares.Learnt κs) {B = List ℕ × List ℤ} (λ s. (s.1.1.0.now, s.1.1.1.0.now))
 one_put_shares κs a x y s t p q = (refl, ap₂ (λ (room : List ℕ) (out : List ℤ). (room, out)) (agree p.1 q.1) (agree p.0 q.0))
 
-pub one_put_lines : (κs : Lfts 4) → OneOutcome (put_lines.Learnt κs) (λ s. s.1.1.1.1.0.now)
+pub one_put_lines : (κs : Lfts 5) → OneOutcome (put_lines.Learnt κs) (λ s. s.1.1.1.0.now)
 one_put_lines κs a x y s t p q = (refl, agree p q)
 
-pub one_put_charges : (κs : Lfts 2) → OneOutcome (put_charges.Learnt κs) (λ s. s.1.1.0.now)
+pub one_put_charges : (κs : Lfts 2) → OneOutcome (put_charges.Learnt κs) (λ s. s.1.0.now)
 one_put_charges κs a x y s t p q = (refl, agree p q)
 
-pub one_put_finals : (κs : Lfts 3) → OneOutcome (put_finals.Learnt κs) (λ s. s.1.1.1.0.now)
+pub one_put_finals : (κs : Lfts 4) → OneOutcome (put_finals.Learnt κs) (λ s. s.1.1.0.now)
 one_put_finals κs a x y s t p q = (refl, agree p q)
 
-pub one_put_first_line : (κs : Lfts 1) → OneOutcome (put_first_line.Learnt κs) (λ s. s.0.now)
-one_put_first_line κs a x y s t p q = (agree p.next_is q.next_is, agree p.after_is q.after_is)
+pub one_put_first_line : (κs : Lfts 2) → OneOutcome (put_first_line.Learnt κs) (λ s. page_shows s.0.now)
+one_put_first_line κs a x y s t p q = (refl, one_page p q)
 
-pub one_put_member : (κs : Lfts 1) → OneOutcome (put_member.Learnt κs) (λ s. s.0.now)
-one_put_member κs a x y s t p q = (agree p.next_is q.next_is, agree p.after_is q.after_is)
+pub one_put_member : (κs : Lfts 2) → OneOutcome (put_member.Learnt κs) (λ s. page_shows s.0.now)
+one_put_member κs a x y s t p q = (refl, one_page p q)
 
-pub one_put_refused : (κs : Lfts 1) → OneOutcome (put_refused.Learnt κs) (λ s. s.0.now)
-one_put_refused κs a x y s t p q = (agree p.next_is q.next_is, agree p.after_is q.after_is)
+pub one_put_refusal : (κs : Lfts 2) → OneOutcome (put_refusal.Learnt κs) (λ s. page_shows s.0.now)
+one_put_refusal κs a x y s t p q = (refl, one_page p q)
+
+pub one_put_refused : (κs : Lfts 2) → OneOutcome (put_refused.Learnt κs) (λ s. page_shows s.0.now)
+one_put_refused κs a x y s t p q = (refl, one_page p q)
 
 pub one_statement : (κs : Lfts 2) → OneOutcome (statement.Learnt κs) (λ s. s.1.0.now)
 one_statement κs a x y s t p q = (agree p.0 q.0, agree p.1 q.1)
@@ -86,7 +91,7 @@ one_settle κs a x y s t p q = one_settlement _ _ x y _ _ p q
 
 pub one_write_hour : (κs : Lfts 3) → OneOutcome (write_hour.Learnt κs) (λ s. s.1.1.0.now)
 one_write_hour κs a x y s t p q = (
-  ap₂ (λ (b : Answer) (n : ℕ). record { answer = b; length = n }) (agree_answer p.0 q.0) (agree p.1.0 q.1.0),
+  one_answer length_of (λ n. refl) x y (agree p.0 q.0) (agree p.1.0 q.1.0),
   agree p.1.1.0 q.1.1.0,
 )
 

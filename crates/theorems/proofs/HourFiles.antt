@@ -9,7 +9,7 @@ use contract.Lifetimes.{Lfts}
 use Rattle.rules.specs.HourFile.{hourly}
 use Rattle.rules.specs.HourWords.{head_words, record_words}
 use Rattle.rules.specs.Refusals.{accepted, verdict_of, verdict, file_rows}
-use Rattle.rules.specs.Settling.{HourWritten, write_hour as writing_hour}
+use Rattle.rules.specs.Settling.{HourWritten, length_of, write_hour as writing_hour}
 use Rattle.rules.specs.RawHour.{raw_rows, raw_written}
 use Rattle.rules.specs.Promised.Finals.{AreBytes}
 use Rattle.rules.specs.Promised.Writing.{AreWords}
@@ -47,7 +47,7 @@ module _ (head records before : List ℕ) where
   keeps_as e head_are_words records_are_words = subst (KeepsWriting head records before) (sym e) (keeps head_are_words records_are_words)
 
 pub write_hour_keeps : (κs : Lfts 3) → Gives (write_hour.Learnt κs) (λ a x s. KeepsWriting a.0.now a.1.0.now a.1.1.0.now
-    (record { verdict = verdict_of x.answer; length = x.length; file = s.1.1.0.now }))
+    (record { verdict = verdict_of x; length = length_of x; file = s.1.1.0.now }))
 write_hour_keeps κs a x s p =
     keeps_as a.0.now a.1.0.now a.1.1.0.now (as_written _ _ _ p.0 p.1.0 p.1.1.0)
     p.1.1.1.0 p.1.1.1.1

@@ -4,6 +4,7 @@ pub mod Laws
 pub mod Values
 pub mod Blocks
 pub mod Files
+pub mod AnyForm
 pub mod Filled
 pub mod Demanded
 pub mod HourFiles

@@ -1,13 +1,12 @@
 -- What is read from the text of an explanation, said of its contract as callers read it: it is what was answered, and it is tied to what
 -- settling wrote and to the numbers that an explanation hands out.
 use mathlib.Core.Path.{◌≡◌, sym, ◌∙◌, ap, ap₂}
-use mathlib.Core.Option.{Option}
+use Rattle.std.specs.Prelude.{Option}
 use mathlib.Core.List.{List}
 use Prim.Native.Nat.{ℕ, ◌<◌, ◌≤◌}
 use lib.IntN.{ℤ}
 use lib.ListN.{length, take}
 use contract.Lifetimes.{Lfts}
-use Rattle.rules.specs.declared.Answer.TheVariants.{Accepted}
 use Rattle.rules.specs.Record.{members}
 use Rattle.rules.specs.HourFile.{hour_in}
 use Rattle.rules.specs.Refusals.{Verdict, accepted, refused_at, verdict_of, Buffers}
@@ -17,7 +16,6 @@ use Rattle.rules.specs.Promised.Demands.{Accepts}
 use Rattle.rules.specs.Promised.SixLines.{SaysHeads, answer_to}
 use Rattle.rules.proofs.SixLines.{long_enough, six_lines}
 use Rattle.pool.specs.Buffers.{buffers}
-use Rattle.explain.specs.Answered.{answered}
 use Rattle.explain.specs.HandedOut.{explanation_of}
 use Rattle.theorems.specs.Determined.{Gives}
 use Rattle.theorems.specs.Demanded.{ExplainsOutcome}
@@ -55,13 +53,13 @@ said_outcome : (input : List ℕ) (b : Buffers) {file : List ℕ} → Accepts fi
 said_outcome input b {file} accepts long same there hs d says =
     rw same at (six_lines.as_settled input b hs d long (rw same accepts) (rw same there) says)
 
-pub settled_is_said : (κs : Lfts 6) (μs : Lfts 2) → Gives (settle.Learnt κs) (λ a x s. x.answer ≡ Accepted →
+pub settled_is_said : (κs : Lfts 6) (μs : Lfts 2) → Gives (settle.Learnt κs) (λ a x s. verdict_of x ≡ accepted →
     Gives (explanation.Learnt μs) (λ b y t. SaysOutcome a.0.now
     (buffers s.1.1.0.now s.1.1.1.0.now s.1.1.1.1.0.now s.1.1.1.1.1.0.now s.1.0.now)
     b.0.now b.1.0.now (take y t.1.0.now)))
 settled_is_said κs μs a x s p accepts b y t q long same room there hs d says =
     let lent = buffers a.1.1.0.now a.1.1.1.0.now a.1.1.1.1.0.now a.1.1.1.1.1.0.now a.1.0.now in
-    let e = said_outcome b.0.now lent (sym p.verdict_is ∙ ap verdict_of accepts) long same there hs d
+    let e = said_outcome b.0.now lent (sym p.verdict_is ∙ accepts) long same there hs d
     (rw (explanation_is_put μs b y t q room) at says) in
     rw (ap (λ (z : Buffers). z.lines) p.buffers_are, ap (λ (z : Buffers). z.charges) p.buffers_are) e
 
@@ -86,7 +84,7 @@ said_explained input {file} {m} {e} is long same same-member accepts = (six_line
     ∙ ap (λ (v : Verdict). record { verdict = v; heads = e.heads; decided = e.decided }) accepts)
 
 pub explained_is_said : (κs : Lfts 1) (μs : Lfts 2) → Gives (explain.Learnt κs) (λ a x s. Gives (explanation.Learnt μs) (λ b y t.
-    SaysExplained a.0.now a.1.0 (answered x) b.0.now b.1.0.now (take y t.1.0.now)))
+    SaysExplained a.0.now a.1.0 (Explanation.explanation_of x) b.0.now b.1.0.now (take y t.1.0.now)))
 explained_is_said κs μs a x s p b y t q long same same-member room accepts =
     rw (explanation_is_put μs b y t q room) (said_explained b.0.now p long same same-member accepts)
 

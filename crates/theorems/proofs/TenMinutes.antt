@@ -12,27 +12,11 @@ use Rattle.tenminutes.specs.HandedOut.{settlement}
 use Rattle.theorems.specs.Determined.{OneResult, OneOutcome, Gives}
 use Rattle.theorems.specs.Demanded.{KeepsTenMinutes}
 use Rattle.theorems.proofs.Laws.{agree, agree_answer}
-use Rattle.rules.proofs.layout_of.Reads as layout_of
-use Rattle.wordrules.proofs.head_rule_of.Reads as head_rule_of
-use Rattle.wordrules.proofs.head_end.Reads as head_end
-use Rattle.wordrules.proofs.record_keeps_as.Reads as record_keeps_as
 use Rattle.examine.proofs.examine_ten_minutes.Reads as examine_ten_minutes
 use Rattle.tenminutes.proofs.settle.Reads as settle
 use Rattle.tenminutes.proofs.boundary.sneupelaar_settle_ten_minutes.Reads as sneupelaar_settle_ten_minutes
 
 -- ---- no second result fits
-
-pub one_layout_of : (κs : Lfts 0) → OneResult (layout_of.Learnt κs)
-one_layout_of κs a x y s t = agree
-
-pub one_head_rule_of : (κs : Lfts 0) → OneResult (head_rule_of.Learnt κs)
-one_head_rule_of κs a x y s t = agree
-
-pub one_head_end : (κs : Lfts 0) → OneResult (head_end.Learnt κs)
-one_head_end κs a x y s t = agree
-
-pub one_record_keeps_as : (κs : Lfts 0) → OneResult (record_keeps_as.Learnt κs)
-one_record_keeps_as κs a x y s t = agree
 
 pub one_examine_ten_minutes : (κs : Lfts 1) → OneResult (examine_ten_minutes.Learnt κs)
 one_examine_ten_minutes κs a x y s t = agree_answer

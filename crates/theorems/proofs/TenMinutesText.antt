@@ -1,11 +1,11 @@
 -- What program ten_minutes prints: no second result fits the contracts; the statement is put whole or not at all, and tells what it is of.
 -- Document 02, A7.
-use mathlib.Core.Path.{◌≡◌, sym, ◌∙◌, ap, ap₂}
+use mathlib.Core.Path.{◌≡◌, refl, sym, ◌∙◌, ap, ap₂}
 use mathlib.Core.List.{List}
 use Prim.Native.Nat.{ℕ}
 use lib.ListN.{take}
 use contract.Lifetimes.{Lfts}
-use Rattle.rules.specs.declared.Answer.TheVariants.{Accepted}
+use Rattle.std.specs.Prelude.{Ok}
 use Rattle.rules.specs.Ranges.{ten_minutes_form}
 use Rattle.rules.specs.Refusals.{refused_at, verdict_of, verdict, form_rows}
 use Rattle.rules.specs.TenMinutes.{TenMinutesSettlement}
@@ -13,6 +13,8 @@ use Rattle.rules.specs.Statement.{ten_minutes_statement}
 use Rattle.rules.proofs.TenMinutesSheet.{cut_sheet_same, ten_minutes_sheet}
 use Rattle.printing.specs.Shown.{HasShown}
 use Rattle.printing.proofs.Showing.{whole_text}
+use Rattle.printing.specs.Page.{page_shows}
+use Rattle.printing.proofs.Pages.{one_page}
 use Rattle.theorems.specs.Determined.{OneOutcome, Gives, AsksNothing}
 use Rattle.theorems.specs.Texts.{IsPut, IsPutOfCut, SaysRefusal, ChargesAreReadBack, TenMinutesCountsAreRead, ShowsSettledCharges}
 use Rattle.theorems.proofs.Laws.{agree}
@@ -23,8 +25,8 @@ use Rattle.tenminutes.proofs.boundary.sneupelaar_settle_ten_minutes.Reads as sne
 
 -- ---- no second result fits, and nothing is asked
 
-pub one_put_charge : (κs : Lfts 1) → OneOutcome (put_charge.Learnt κs) (λ s. s.0.now)
-one_put_charge κs a x y s t p q = (agree p.next_is q.next_is, agree p.after_is q.after_is)
+pub one_put_charge : (κs : Lfts 2) → OneOutcome (put_charge.Learnt κs) (λ s. page_shows s.0.now)
+one_put_charge κs a x y s t p q = (refl, one_page p q)
 
 pub one_ten_minutes_statement : (κs : Lfts 2) → OneOutcome (put_statement.Learnt κs) (λ s. s.1.0.now)
 one_ten_minutes_statement κs a x y s t p q = (agree p.0 q.0, agree p.1 q.1)
@@ -67,7 +69,7 @@ cut_ten_minutes_is_put κs input a x s p cut room =
 
 -- ---- settled, then printed: the column of each member's line, read, gives the charge that settling wrote
 
-pub settled_charges_are_printed : (κs μs : Lfts 2) → Gives (settle.Learnt κs) (λ a x s. x ≡ Accepted →
+pub settled_charges_are_printed : (κs μs : Lfts 2) → Gives (settle.Learnt κs) (λ a x s. x ≡ Ok tt →
     Gives (put_statement.Learnt μs) (λ b y t.
     ShowsSettledCharges a.0.now s.1.0.now b.0.now b.1.0.now (take y t.1.0.now)))
 settled_charges_are_printed κs μs a x s p accepts b y t q same room =

@@ -1,21 +1,20 @@
 -- Functions of values: numbers, kinds, answers, entries, tallies, lines.
 use contract.Lifetimes.{Lfts}
 use Rattle.theorems.specs.Determined.{OneResult}
-use Rattle.theorems.proofs.Laws.{agree, agree_found}
+use Rattle.theorems.proofs.Laws.{agree, number_of_kind, kind_told}
 use Rattle.whole.proofs.size_of.Reads as size_of
 use Rattle.whole.proofs.with_sign_of.Reads as with_sign_of
 use Rattle.answer.proofs.number_of.Reads as number_of
 use Rattle.answer.proofs.place_of.Reads as place_of
-use Rattle.answer.proofs.refused.Reads as refused
+use Rattle.rules.proofs.Refusal.number.Reads as refusal_number
+use Rattle.rules.proofs.Refusal.place.Reads as refusal_place
+use Rattle.rules.proofs.KindFromU32.from.Reads as kind_from
+use Rattle.rules.proofs.Kind.is_load.Reads as is_load
 use Rattle.amount.proofs.decimal.digit.Reads as digit
 use Rattle.amount.proofs.decimal.digits.Reads as digits
 use Rattle.wordrules.proofs.keeps.Reads as keeps
 use Rattle.wordrules.proofs.block_rule.Reads as block_rule
-use Rattle.wordrules.proofs.head_rule.Reads as head_rule
-use Rattle.wordrules.proofs.record_keeps.Reads as record_keeps
 use Rattle.wordrules.proofs.scheduled_above.Reads as scheduled_above
-use Rattle.formula.proofs.entry.kind_of.Reads as kind_of
-use Rattle.formula.proofs.entry.is_load.Reads as is_load
 use Rattle.formula.proofs.deviation.deviation.Reads as deviation
 use Rattle.formula.proofs.deviation.entering.Reads as entering
 use Rattle.formula.proofs.deviation.accounted.Reads as accounted
@@ -44,8 +43,11 @@ one_number_of κs a x y s t = agree
 pub one_place_of : (κs : Lfts 0) → OneResult (place_of.Learnt κs)
 one_place_of κs a x y s t = agree
 
-pub one_refused : (κs : Lfts 0) → OneResult (refused.Learnt κs)
-one_refused κs a x y s t = agree
+pub one_refusal_number : (κs : Lfts 0) → OneResult (refusal_number.Learnt κs)
+one_refusal_number κs a x y s t = agree
+
+pub one_refusal_place : (κs : Lfts 0) → OneResult (refusal_place.Learnt κs)
+one_refusal_place κs a x y s t = agree
 
 pub one_digit : (κs : Lfts 0) → OneResult (digit.Learnt κs)
 one_digit κs a x y s t = agree
@@ -59,17 +61,11 @@ one_keeps κs a x y s t = agree
 pub one_block_rule : (κs : Lfts 0) → OneResult (block_rule.Learnt κs)
 one_block_rule κs a x y s t = agree
 
-pub one_head_rule : (κs : Lfts 0) → OneResult (head_rule.Learnt κs)
-one_head_rule κs a x y s t = agree
-
-pub one_record_keeps : (κs : Lfts 0) → OneResult (record_keeps.Learnt κs)
-one_record_keeps κs a x y s t = agree
-
 pub one_scheduled_above : (κs : Lfts 0) → OneResult (scheduled_above.Learnt κs)
-one_scheduled_above κs a x y s t = agree
+one_scheduled_above κs a x y s t p q = let k = number_of_kind a.0 in agree (p k (kind_told a.0)) (q k (kind_told a.0))
 
-pub one_kind_of : (κs : Lfts 0) → OneResult (kind_of.Learnt κs)
-one_kind_of κs a x y s t = agree
+pub one_kind_from : (κs : Lfts 0) → OneResult (kind_from.Learnt κs)
+one_kind_from κs a x y s t = agree
 
 pub one_is_load : (κs : Lfts 0) → OneResult (is_load.Learnt κs)
 one_is_load κs a x y s t = agree
@@ -105,7 +101,7 @@ pub one_charge_of : (κs : Lfts 0) → OneResult (charge_of.Learnt κs)
 one_charge_of κs a x y s t = agree
 
 pub one_area_without_demand : (κs : Lfts 0) → OneResult (area_without_demand.Learnt κs)
-one_area_without_demand κs a x y s t = agree_found
+one_area_without_demand κs a x y s t = agree
 
 pub one_nobody_demands : (κs : Lfts 0) → OneResult (nobody_demands.Learnt κs)
 one_nobody_demands κs a x y s t = agree

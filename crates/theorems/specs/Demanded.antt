@@ -1,7 +1,6 @@
 -- What the contracts of settling, writing, explaining and ten-minute settling give: the customer's demands, stated of what was handed in, what was answered and
 -- what was left in the buffers.
-use Rattle.std.specs.Prelude.{◌≡◌, ◌↔◌, List, ◌++◌, ℕ, ◌≤◌, ◌<◌, ℤ, pos, length, drop, get_or}
-use Rattle.std.proofs.Math.Option.{Option, none}
+use Rattle.std.specs.Prelude.{◌≡◌, ◌↔◌, List, ◌++◌, ℕ, ◌≤◌, ◌<◌, ℤ, pos, length, drop, get_or, Option, None}
 use Rattle.rules.specs.declared.Line.{Line}
 use Rattle.rules.specs.Record.{Hour, members}
 use Rattle.rules.specs.HourFile.{hourly, hour_in}
@@ -58,7 +57,7 @@ pub record KeepsWriting (head records before : List ℕ) (w : HourWritten) : Typ
   pub same_bytes : (s : List ℕ) → AreBytes s → verdict (file_rows s) ≡ accepted → head ≡ head_words s → records ≡ record_words hourly s →
       length s ≤ length before → w ≡ record { verdict = accepted; length = length s; file = s ++ drop (length s) before }
   -- A3, as of a settling
-  pub metered_import : (i : ℕ) → bad_lists head records ≡ none →
+  pub metered_import : (i : ℕ) → bad_lists head records ≡ None →
       FirstMetered (hour_from hourly head records) i → w.verdict ≡ refused_at 5 i
   -- A6, as of a settling, behind rows 1, 4 and 5
   pub held_to_maximum : HeldToMaximum (list_form_rows head records) (hour_from hourly head records) w.verdict
@@ -73,7 +72,7 @@ ExplainsOutcome h after m heads decided =
 pub record KeepsExplaining (file : List ℕ) (member : ℕ) (e : Explanation) : Type 0 where
   -- the first broken row of the table answers, and a refusal says nothing
   pub by_the_table : e.verdict ≡ verdict (explain_rows file member)
-  pub nothing_said : (e.verdict ≡ accepted → ⊥) → (e.heads ≡ no_heads) × (e.decided ≡ none)
+  pub nothing_said : (e.verdict ≡ accepted → ⊥) → (e.heads ≡ no_heads) × (e.decided ≡ None)
   -- to each member of an hour that settling accepts, by the line and the charge that settling writes
   pub explained : (b : Buffers) → Accepts file b → member < members (hour_in file) → (e.verdict ≡ accepted)
       × ExplainsOutcome (hour_in file) (settle file b).buffers member e.heads e.decided

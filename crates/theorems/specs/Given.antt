@@ -1,9 +1,7 @@
 -- What the contracts of the amount writer and reader, of the block reader and of the examiner give: by what was handed in, what was
 -- answered and what was left in a buffer.
-use Rattle.std.specs.Prelude.{◌≡◌, List, ℕ, ℤ, length, take, drop}
-use Rattle.rules.specs.declared.Answer.{Answer}
-use Rattle.rules.specs.declared.Answer.TheVariants.{Accepted}
-use Rattle.rules.specs.declared.Reading.{Reading}
+use Rattle.std.specs.Prelude.{◌≡◌, List, ℕ, ℤ, length, take, drop, Result, Ok}
+use Rattle.rules.specs.declared.Refusal.{Refusal}
 use Rattle.rules.specs.HourFile.{hourly, body}
 use Rattle.rules.specs.Settling.{write, read}
 use Rattle.rules.specs.Inner.Kept.{FileKept}
@@ -11,13 +9,13 @@ use Rattle.rules.specs.Inner.Kept.{FileKept}
 -- ---- amounts as text
 
 -- a field into which an amount was written, handed to the reader: it is accepted, as that amount
-abbrev pub IsReadAs : (amount : ℤ) (written field : List ℕ) → Reading → Type 0
-IsReadAs amount written field reading = field ≡ written → reading ≡ record { answer = Accepted; amount = amount }
+abbrev pub IsReadAs : (amount : ℤ) (written field : List ℕ) → Result ℤ Refusal → Type 0
+IsReadAs amount written field reading = field ≡ written → reading ≡ Ok amount
 
 -- an amount that was read from a field, handed to the writer with a field of the same width: it is accepted, and the same bytes
-abbrev pub IsWrittenAs : (amount : ℤ) (bytes : List ℕ) (handed : ℤ) (lent : List ℕ) → Answer → (after : List ℕ) → Type 0
+abbrev pub IsWrittenAs : (amount : ℤ) (bytes : List ℕ) (handed : ℤ) (lent : List ℕ) → Result (Unit {0}) Refusal → (after : List ℕ) → Type 0
 IsWrittenAs amount bytes handed lent answer after =
-    handed ≡ amount → length lent ≡ length bytes → (answer ≡ Accepted) × (after ≡ bytes)
+    handed ≡ amount → length lent ≡ length bytes → (answer ≡ Ok tt) × (after ≡ bytes)
 
 -- for C: the answer as its number and place
 abbrev pub IsWritten : (field : List ℕ) (amount : ℤ) (number place : ℕ) (after : List ℕ) → Type 0
@@ -33,5 +31,5 @@ abbrev pub IsBody : (file : List ℕ) (position start size : ℕ) → Type 0
 IsBody file position start size = take size (drop start file) ≡ body hourly file position
 
 -- every number of an accepted file is within its bounds
-abbrev pub IsKept : (file : List ℕ) → Answer → Type 0
-IsKept file answer = answer ≡ Accepted → FileKept file
+abbrev pub IsKept : (file : List ℕ) → Result (Unit {0}) Refusal → Type 0
+IsKept file answer = answer ≡ Ok tt → FileKept file

@@ -1,7 +1,6 @@
 -- What the contracts of what programs print give, by what was handed in, the slice lent, the count answered and the slice afterwards: the bytes
 -- put are the text, and what is read from them.
-use Rattle.std.specs.Prelude.{◌≡◌, ◌↔◌, List, ℕ, ◌≤◌, ◌<◌, ℤ, pos, length, take, get_or}
-use Rattle.std.proofs.Math.Option.{Option}
+use Rattle.std.specs.Prelude.{◌≡◌, ◌↔◌, List, ℕ, ◌≤◌, ◌<◌, ℤ, pos, length, take, get_or, Option}
 use Rattle.rules.specs.Record.{hour_number, members}
 use Rattle.rules.specs.Charge.{charge}
 use Rattle.rules.specs.Neutrality.{final}

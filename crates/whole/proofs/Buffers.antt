@@ -7,9 +7,10 @@ use native.Mathlib.Nat.{add-zero, add-suc, not-suc-le-zero}
 use native.Mathlib.Numerals.{add-one}
 use native.Mathlib.Omega.{arith}
 use lib.Dec.{ltb, eqb}
-use lib.ListN.{length, take, drop, get_or, set, length-append, length-drop, length-set, drop_of_length-le, get_or-append}
+use lib.ListN.{length, take, drop, get_or, set, replicate, length-append, length-drop, length-set, drop_of_length-le, get_or-append}
 use lib.Seq.{drop-cons, drop_at, drop-drop, take_at, set_at, get_or_at, get_or-drop, append_snoc, set-append_left}
 use lib.Seq.{get_or-set_same, get_or-set_other, ext_get_or}
+use Rattle.std.proofs.lemmas.List.{replicate_more}
 use borrow.Author.Tests.{ltb-true, ltb-false, eqb-true, eqb-false}
 use Rattle.whole.specs.Below.{values_below, replacing_first}
 use Rattle.whole.proofs.Tests.{split, last_or_below}
@@ -159,3 +160,17 @@ module _ {ℓ} {A : Type ℓ} (f : ℕ → A) (i : ℕ) (old out : List A) (writ
   -- what is not yet written is as it was
   pub unwritten : (k : ℕ) (d : A) → i ≤ k → get_or out k d ≡ get_or old k d
   unwritten k d h = rw written (get_d_kept f i old k d h)
+
+-- a buffer's first places, all filled with one value
+module _ {A : Type 0} (v : A) where
+  values_same : (n : ℕ) → replicate n v ≡ values_below (λ i. v) n
+  unfolding values_below
+  values_same zero = refl
+  values_same (suc n) = ap (λ (m : ℕ). replicate m v) (sym (add-one n)) ∙ sym (replicate_more n v) ∙ ap (λ (l : List A). l ++ v ∷ []) (values_same n)
+
+  pub filled_first : (n : ℕ) (old : List A) → replicate n v ++ drop n old ≡ replacing_first (λ i. v) n old
+  unfolding replacing_first
+  filled_first n old = ap (λ (l : List A). l ++ drop n old) (values_same n)
+
+  pub filled_all : (old : List A) → replicate (length old) v ≡ replacing_first (λ i. v) (length old) old
+  filled_all old = values_same (length old) ∙ sym (replacing_all (λ i. v) (length old) old refl)

@@ -2,7 +2,7 @@
 -- fewer than k takers are ahead of it.
 use mathlib.Core.Path.{◌≡◌, refl, sym, ◌∙◌, ap}
 use mathlib.Core.Bool.{Bool, true, false, ◌&&◌, ◌||◌, and-false, or-false, or-true}
-use mathlib.Core.Option.{Option, none, some}
+use Rattle.std.specs.Prelude.{Option, None, Some}
 use Prim.Native.Nat.{ℕ, zero, suc, ◌≤◌, ◌<◌, zero-le}
 use native.Mathlib.Omega.{arith}
 use lib.Dec.{ltb, eqb}
@@ -51,12 +51,12 @@ module _ (ahead : ℕ → ℕ → Bool) (o : Order ahead) (part : ℕ → Bool) 
 -- has k i: i has a unit after k rounds; pick k: who gets the next one
 pub record Handing (ahead : ℕ → ℕ → Bool) (part : ℕ → Bool) (n : ℕ) (has : ℕ → ℕ → Bool) (pick : ℕ → Option ℕ) : Type 0 where
   pub nobody : (i : ℕ) → i < n → has 0 i ≡ false
-  pub gives : (k b : ℕ) → pick k ≡ some b → (i : ℕ) → i < n → has (suc k) i ≡ (has k i || eqb i b)
-  pub none_left : (k : ℕ) → pick k ≡ none → (i : ℕ) → i < n → part i ≡ true → has k i ≡ true
-  pub there : (k b : ℕ) → pick k ≡ some b → b < n
-  pub taker : (k b : ℕ) → pick k ≡ some b → part b ≡ true
-  pub has_none : (k b : ℕ) → pick k ≡ some b → has k b ≡ false
-  pub first_of : (k b : ℕ) → pick k ≡ some b → (j : ℕ) → j < n → part j ≡ true → has k j ≡ false → ahead j b ≡ false
+  pub gives : (k b : ℕ) → pick k ≡ Some b → (i : ℕ) → i < n → has (suc k) i ≡ (has k i || eqb i b)
+  pub none_left : (k : ℕ) → pick k ≡ None → (i : ℕ) → i < n → part i ≡ true → has k i ≡ true
+  pub there : (k b : ℕ) → pick k ≡ Some b → b < n
+  pub taker : (k b : ℕ) → pick k ≡ Some b → part b ≡ true
+  pub has_none : (k b : ℕ) → pick k ≡ Some b → has k b ≡ false
+  pub first_of : (k b : ℕ) → pick k ≡ Some b → (j : ℕ) → j < n → part j ≡ true → has k j ≡ false → ahead j b ≡ false
 
 module _ {ahead : ℕ → ℕ → Bool} {part : ℕ → Bool} {n : ℕ} {has : ℕ → ℕ → Bool} {pick : ℕ → Option ℕ} (o : Order ahead)
     (h : Handing ahead part n has pick) where
@@ -65,12 +65,12 @@ module _ {ahead : ℕ → ℕ → Bool} {part : ℕ → Bool} {n : ℕ} {has : �
 
   after : (k : ℕ) → suc k ≤ count_below part n → ((j : ℕ) → j < n → has k j ≡ (part j && ltb (rank j) k)) → (p : Option ℕ) → pick k ≡ p →
       (i : ℕ) → i < n → has (suc k) i ≡ (part i && ltb (rank i) (suc k))
-  after k m ih none e i l = absurd (
+  after k m ih None e i l = absurd (
       let all = count_ext part (λ j. part j && ltb (rank j) k) n
       (λ j q. split (part j) (λ p. p ∙ sym (h.none_left k e j q p) ∙ ih j q) (λ f. rw f)) in
       let c = count_served ahead o part n k (omega arith) in omega arith
       )
-  after k m ih (some b) e i l = h.gives k b e i l ∙ rw (ih i l) (sym (round ahead o part n k b (omega arith) best i l))
+  after k m ih (Some b) e i l = h.gives k b e i l ∙ rw (ih i l) (sym (round ahead o part n k b (omega arith) best i l))
     where
       best : Best ahead o part n k b
       best = record {

@@ -15,3 +15,4 @@ pub mod Division
 pub mod Rank
 pub mod Handing
 pub mod Machine
+pub mod Chains

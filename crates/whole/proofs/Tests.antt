@@ -2,7 +2,9 @@
 -- that was found.
 use mathlib.Core.Path.{◌≡◌, refl, sym, ◌∙◌}
 use mathlib.Core.Bool.{Bool, true, false, not, cond, ◌&&◌, ◌||◌, true≢false}
-use mathlib.Core.Option.{Option, none, some, or_else, some-ne-none}
+use Rattle.std.specs.Prelude.{Option, None, Some}
+use Rattle.std.specs.Option.{option_or}
+use Rattle.std.proofs.lemmas.Option.{none-some}
 use Prim.Native.Nat.{ℕ, ◌<◌, suc}
 use native.Mathlib.Omega.{arith}
 use lib.Dec.{T, eqb}
@@ -38,13 +40,12 @@ pub cond_ind {ℓ κ} : {A : Type ℓ} (c : Bool) (x y : A) (P : A → Type κ) 
 cond_ind true x y P f g = f tt
 cond_ind false x y P f g = g tt
 
-pub never_some {ℓ κ} : {A : Type ℓ} {X : Type κ} {a : A} → some a ≡ none → X
-never_some {a = a} e = absurd (some-ne-none a e)
+pub never_some {κ} : {A : Type 0} {X : Type κ} {a : A} → Some a ≡ None → X
+never_some {a = a} e = absurd (none-some a (sym e))
 
-pub no_else : (a b : Option ℕ) → or_else a b ≡ none → (a ≡ none) × (b ≡ none)
-unfolding or_else
-no_else none b e = (refl, e)
-no_else (some i) b e = never_some e
+pub no_else : (a b : Option ℕ) → option_or a b ≡ None → (a ≡ None) × (b ≡ None)
+no_else None b e = (refl, e)
+no_else (Some i) b e = never_some e
 
 -- a number below n + 1 is n or below n
 pub last_or_below {ℓ} : {X : Type ℓ} (i n : ℕ) → i < suc n → (i ≡ n → X) → (i < n → X) → X
@@ -61,7 +62,7 @@ cond_ext true x y z f = f refl
 cond_ext false x y z f = refl
 
 -- what was found after a test
-pub if_some {ℓ} : {A : Type ℓ} (b : Bool) (o : Option A) (a : A) → cond b o none ≡ some a → (b ≡ true) × (o ≡ some a)
+pub if_some : {A : Type 0} (b : Bool) (o : Option A) (a : A) → cond b o None ≡ Some a → (b ≡ true) × (o ≡ Some a)
 if_some true o a e = (refl, e)
 if_some false o a e = never_some (sym e)
 

@@ -1,7 +1,7 @@
 -- What runs over the numbers 0, 1, .., n - 1: how many pass a test, the sums, the product, the list of values, the first that
 -- passes, the values of those that pass. Each grows at its end, from n to n + 1, as a loop of the code does.
-use Rattle.std.specs.Prelude.{ℕ, zero, suc, ◌+◌, ◌*◌, Bool, cond, List, [], ◌∷◌, ◌++◌, ℤ, pos, ◌+ℤ◌, drop, set}
-use Rattle.std.proofs.Math.Option.{Option, none, some, or_else}
+use Rattle.std.specs.Prelude.{ℕ, zero, suc, ◌+◌, ◌*◌, Bool, cond, List, [], ◌∷◌, ◌++◌, ℤ, pos, ◌+ℤ◌, drop, set, Option, None, Some}
+use Rattle.std.specs.Option.{option_or}
 
 -- 1 for a test that passed
 abbrev pub one_if : Bool → ℕ
@@ -33,8 +33,8 @@ unfoldable pub replacing_first {ℓ} : {A : Type ℓ} → (ℕ → A) → ℕ �
 replacing_first f n old = values_below f n ++ drop n old
 
 unfoldable pub first_below : (ℕ → Bool) → ℕ → Option ℕ
-first_below p zero = none
-first_below p (suc n) = or_else (first_below p n) (cond (p n) (some n) none)
+first_below p zero = None
+first_below p (suc n) = option_or (first_below p n) (cond (p n) (Some n) None)
 
 -- the values of those that pass, gathered in a buffer's first places in their order, and what stood past them
 unfoldable pub gathered_below {ℓ} : {A : Type ℓ} → (ℕ → Bool) → (ℕ → A) → ℕ → List A → List A

@@ -9,10 +9,7 @@ ghost use Rattle.whole.specs.Signed.{with_sign_of};
 pub fn size_of(z: i64) -> u64
     ensures { result ≡ nat_abs z }
 {
-    if z < 0 {
-        return (-1 - z) as u64 + 1;
-    }
-    z as u64
+    z.unsigned_abs()
 }
 
 // A size with the sign of another number.

@@ -4,25 +4,31 @@
 ghost use Rattle.std.specs.Prelude.{IfSome, OnOk};
 ghost use Rattle.std.specs.Io.KnownBytes.{Appends};
 ghost use Rattle.rules.specs.RawHour.{raw_written};
+ghost use Rattle.rules.proofs.Raw.{cut_input_same};
 
+use report::written::{LONGEST, put_written_hour};
 use std::io::{Read, Write};
-use streams::Trouble;
-
-fn print_written<W: Write>(output: &mut W, input: &[u8]) -> Result<(), Trouble>
-    ensures { OnOk result (Appends (W.contents output.old) (W.contents output.new) (raw_written input.now)) }
-{
-    let mut file = [0u8; report::written::LONGEST];
-    let length = report::written::put_written_hour(input, &mut file);
-    streams::print(output, &file[..length])
-}
+use streams::{Text, Trouble};
 
 // One byte more than a head and 250 records have, so that a longer input is seen.
+const ROOM: usize = 12481;
+
+struct Written;
+
+impl Text<ROOM, LONGEST> for Written {
+    ghost text = { raw_written };
+
+    fn put(input: &[u8], room: &mut [u8]) -> usize {
+        put_written_hour(input, room)
+    }
+
+    ghost of_first = { cut_input_same };
+}
+
 fn write<R: Read, W: Write>(input: &mut R, output: &mut W) -> Result<(), Trouble>
     ensures { OnOk result (IfSome (R.remaining input.old) (λ xs. Appends (W.contents output.old) (W.contents output.new) (raw_written xs))) }
 {
-    let mut room = [0u8; 12481];
-    let length = streams::read_all(input, &mut room)?;
-    print_written(output, &room[..length])
+    Written::print_all(input, output)
 }
 
 fn main(rt: HostRuntime) {

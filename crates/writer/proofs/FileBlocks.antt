@@ -10,9 +10,13 @@ use Rattle.rules.specs.Record.{Hour}
 use Rattle.rules.specs.HourFile.{hourly}
 use Rattle.rules.specs.HourWords.{closing, open_block, blocks_for, held_in, body_word, open_word, file_word, file_byte}
 use Rattle.writer.specs.Lists.{hour_of_lists, ListsWhole}
-use Rattle.writer.specs.Stored.{bytes_of, open_list, closed_block, block_bytes, block_placed, held_words}
+use Rattle.writer.specs.Stored.{bytes_of, open_list, closed_block, block_bytes, block_placed}
 use Rattle.examine.proofs.Listed.{said_count, said_head, said_word, gap}
 use Rattle.writer.proofs.Said.{block_count}
+
+-- the words of the records of block b, behind the first: of ten, or of those that are left
+unfoldable pub held_words : ℕ → List ℕ → List ℕ
+held_words b records = take 120 (drop (120 * (b - 1)) records)
 
 -- ---- a block that says what block b of an hour's file says
 

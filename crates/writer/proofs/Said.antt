@@ -1,18 +1,16 @@
 -- The writer's rows as the code checks them: 1 and 11 by lengths, those between by the search.
-use Rattle.std.proofs.Common.{◌≡◌, ℕ, ◌+◌, ◌*◌, ◌/◌, ◌<◌, ◌≤◌, List, [], ◌∷◌, ◌++◌, length, sym, refl, ◌∙◌, arith, le-ltb, lt-ltb}
-use mathlib.Core.Option.{none, some}
-use Rattle.rules.specs.declared.Answer.{Answer}
-use Rattle.rules.specs.declared.Answer.TheVariants.{Accepted}
+use Rattle.std.proofs.Common.{◌≡◌, ℕ, ◌+◌, ◌*◌, ◌/◌, ◌%◌, ◌<◌, ◌≤◌, List, [], ◌∷◌, ◌++◌, length, sym, refl, ◌∙◌, arith, le-ltb, lt-ltb, eq-eqb}
+use Rattle.std.specs.Prelude.{None, Some}
+use Rattle.rules.specs.declared.Refusal.{Refusal}
+use Rattle.rules.specs.declared.Refusal.TheVariants.{BadLength}
 use Rattle.rules.specs.Record.{Hour}
 use Rattle.rules.specs.HourFile.{hourly}
 use Rattle.rules.specs.HourWords.{hour_from, blocks_for, file_length}
-use Rattle.rules.specs.Ranges.{hourly_form}
-use Rattle.rules.specs.Refusals.{Row, row, accepted, verdict_of, verdict, bad_lists, no_room, word_rows, comparison_rows, list_form_rows, list_rows}
+use Rattle.rules.specs.Refusals.{Row, row, accepted, refusal_verdict, verdict, bad_lists, no_room, word_rows, comparison_rows, list_form_rows, list_rows}
 use Rattle.rules.specs.Refusals.{write_hour_rows}
-use Rattle.rules.proofs.Rows.{Numbered, accepts_when_whole, refused_first, passed_on, one_answer}
-use Rattle.rules.proofs.Writing.{lists_whole as lists-pass}
+use Rattle.rules.proofs.Rows.{Numbered, accepts_when_whole, refused_first, passed_on, never_accepted}
 use Rattle.examine.proofs.Listed.{said_count}
-use Rattle.writer.specs.Lists.{hour_of_lists, ListsWhole}
+use Rattle.writer.specs.Lists.{hour_of_lists, search_rows, ListsWhole}
 
 module _ (head records : List ℕ) where
   abbrev h : Hour
@@ -20,13 +18,15 @@ module _ (head records : List ℕ) where
 
   -- ---- rows 1 and 11
 
-  pub lists_whole : bad_lists head records ≡ none → ListsWhole head records
-  lists_whole e = let whole = lists-pass head records e in
-      record {
-        head_whole = whole.0;
-        records_whole = omega (arith, said_count hourly head records, whole);
-        few_records = omega (arith, said_count hourly head records, whole);
-      }
+  lists_good : ListsWhole head records → bad_lists head records ≡ None
+  unfolding bad_lists
+  lists_good whole =
+      let count = said_count hourly head records in
+      rw (eq-eqb _ _ whole.head_whole, eq-eqb (length records % 12) 0 (omega (arith, whole.records_whole)), le-ltb 250 (length records / 12) (omega (arith, whole.few_records))) refl
+
+  pub lists_refused : (room : ℕ) → bad_lists head records ≡ Some 0 → refusal_verdict BadLength ≡ verdict (write_hour_rows head records room)
+  unfolding verdict list_form_rows list_rows write_hour_rows
+  lists_refused room e = rw e
 
   pub block_count : blocks_for hourly h ≡ 1 + (length records / 12 + 9) / 10
   unfolding blocks_for hour_from
@@ -41,37 +41,36 @@ module _ (head records : List ℕ) where
 
   -- the room for so many blocks
   module _ (room n : ℕ) (e : n ≡ blocks_for hourly h) where
-    pub no_room_lem : room < 512 * n → no_room h room ≡ some 0
+    pub no_room_lem : room < 512 * n → no_room h room ≡ Some 0
     unfolding no_room
     no_room_lem l = rw (lt-ltb room (file_length hourly h) (omega (arith, file_length_lem)))
 
-    pub has_room : 512 * n ≤ room → no_room h room ≡ none
+    pub has_room : 512 * n ≤ room → no_room h room ≡ None
     unfolding no_room
     has_room l = rw (le-ltb room (file_length hourly h) (omega (arith, file_length_lem)))
 
   -- ---- the rows between
 
-  abbrev search_rows : List Row
-  search_rows = word_rows hourly_form h ++ comparison_rows h
+  abbrev searched : List Row
+  searched = search_rows head records
 
-  search_numbered : Numbered search_rows
+  search_numbered : Numbered searched
   unfolding word_rows comparison_rows
   search_numbered = omega arith
 
-  module _ (room : ℕ) (lists-good : bad_lists head records ≡ none) where
+  module _ (room : ℕ) (whole : ListsWhole head records) where
     abbrev room_row : List Row
     room_row = row 11 (no_room h room) ∷ []
 
-    row_1_passed : verdict (write_hour_rows head records room) ≡ verdict (search_rows ++ room_row)
+    row_1_passed : verdict (write_hour_rows head records room) ≡ verdict (searched ++ room_row)
     unfolding verdict word_rows comparison_rows list_form_rows list_rows write_hour_rows
-    row_1_passed = rw lists-good
+    row_1_passed = rw (lists_good whole)
 
     -- what the search refuses is refused
-    pub search_refused : (a : Answer) → verdict_of a ≡ verdict search_rows → (a ≡ Accepted → ⊥) →
-        verdict_of a ≡ verdict (write_hour_rows head records room)
-    search_refused a e other =
-        e ∙ sym (row_1_passed ∙ refused_first search_rows room_row (λ passed. other (one_answer a Accepted (e ∙ passed))))
+    pub search_refused : (r : Refusal) → refusal_verdict r ≡ verdict searched → refusal_verdict r ≡ verdict (write_hour_rows head records room)
+    search_refused r e =
+        e ∙ sym (row_1_passed ∙ refused_first searched room_row (λ passed. never_accepted r (e ∙ passed)))
 
     -- what it passes, row 11 decides
-    pub search_passed : verdict search_rows ≡ accepted → verdict (write_hour_rows head records room) ≡ verdict room_row
-    search_passed e = row_1_passed ∙ passed_on search_rows room_row ((accepts_when_whole search_rows search_numbered).0 e)
+    pub search_passed : verdict searched ≡ accepted → verdict (write_hour_rows head records room) ≡ verdict room_row
+    search_passed e = row_1_passed ∙ passed_on searched room_row ((accepts_when_whole searched search_numbered).0 e)

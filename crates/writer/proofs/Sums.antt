@@ -47,21 +47,18 @@ module _ (mark position count : ℕ) (body : List ℕ) where
   abbrev block : ℕ → ℕ
   block = closed_block mark position count body
 
-  pub closed_front : (block 0 ≡ mark) × (block 1 ≡ position) × (block 2 ≡ count)
+  pub closed_front : (last : ℕ) → last ≡ closing (sum_below (open_list mark position count body) 128) → (i : ℕ) → i < 8 →
+      get_or (mark ∷ position ∷ count ∷ 0 ∷ 0 ∷ 0 ∷ 0 ∷ last ∷ []) i 0 ≡ block (0 + i)
   unfolding closed_block open_block
-  closed_front = (refl, refl, refl)
-
-  pub closed_gap : (i : ℕ) → i < 4 → block (3 + i) ≡ 0
-  unfolding closed_block open_block
-  closed_gap zero l = refl
-  closed_gap (suc zero) l = refl
-  closed_gap (suc (suc zero)) l = refl
-  closed_gap (suc (suc (suc zero))) l = refl
-  closed_gap (suc (suc (suc (suc i)))) l = absurd (omega arith)
-
-  pub closed_sum : block 7 ≡ closing (sum_below (open_list mark position count body) 128)
-  unfolding closed_block
-  closed_sum = refl
+  closed_front last e zero l = refl
+  closed_front last e (suc zero) l = refl
+  closed_front last e (suc (suc zero)) l = refl
+  closed_front last e (suc (suc (suc zero))) l = refl
+  closed_front last e (suc (suc (suc (suc zero)))) l = refl
+  closed_front last e (suc (suc (suc (suc (suc zero))))) l = refl
+  closed_front last e (suc (suc (suc (suc (suc (suc zero)))))) l = refl
+  closed_front last e (suc (suc (suc (suc (suc (suc (suc zero))))))) l = e
+  closed_front last e (suc (suc (suc (suc (suc (suc (suc (suc i)))))))) l = absurd (omega arith)
 
   pub closed_body : (k : ℕ) → block (8 + k) ≡ get_or body k 0
   unfolding closed_block

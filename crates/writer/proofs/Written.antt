@@ -1,18 +1,15 @@
--- What the definition of writing says where it refuses and where it accepts, and what acceptance leaves of the lists and the room.
+-- What the definition of writing says where it refuses and where it accepts, and the room that acceptance leaves.
 use Rattle.std.proofs.Common.{◌≡◌, ℕ, ◌≤◌, false, List, length, sym, ap, ◌∙◌}
 use Rattle.whole.specs.Below.{replacing_first}
-use Rattle.rules.specs.declared.Answer.{Answer}
-use Rattle.rules.specs.declared.Answer.TheVariants.{Accepted}
+use Rattle.rules.specs.declared.Refusal.{Refusal}
 use Rattle.rules.specs.Record.{Hour}
 use Rattle.rules.specs.HourFile.{hourly}
 use Rattle.rules.specs.HourWords.{file_byte, file_length}
-use Rattle.rules.specs.Refusals.{Row, accepted, verdict_of, verdict, list_form_rows, list_rows, write_hour_rows}
+use Rattle.rules.specs.Refusals.{Row, accepted, refusal_verdict, verdict, write_hour_rows}
 use Rattle.rules.specs.Settling.{is_accepted, write_hour}
-use Rattle.rules.proofs.Rows.{accepts_when_whole}
-use Rattle.rules.proofs.Writing.{writer_numbered, verdict_is, written, room_there}
-use Rattle.answer.proofs.Refusing.{numbered}
-use Rattle.writer.specs.Lists.{hour_of_lists, ListsWhole}
-use Rattle.writer.proofs.Said.{lists_whole}
+use Rattle.rules.proofs.Rows.{numbered}
+use Rattle.rules.proofs.Writing.{verdict_is, written, room_there}
+use Rattle.writer.specs.Lists.{hour_of_lists}
 
 module _ (head records file : List ℕ) where
   abbrev h : Hour
@@ -21,11 +18,11 @@ module _ (head records file : List ℕ) where
   abbrev rows : List Row
   rows = write_hour_rows head records (length file)
 
-  pub refused_leaves : (a : Answer) → verdict_of a ≡ verdict rows → (a ≡ Accepted → ⊥) →
-      write_hour head records file ≡ record { verdict = verdict_of a; length = 0; file = file }
+  pub refused_leaves : (r : Refusal) → refusal_verdict r ≡ verdict rows →
+      write_hour head records file ≡ record { verdict = refusal_verdict r; length = 0; file = file }
   unfolding write_hour
-  refused_leaves a e n =
-      let refused : is_accepted (verdict rows) ≡ false = ap is_accepted (sym e) ∙ numbered a n in
+  refused_leaves r e =
+      let refused : is_accepted (verdict rows) ≡ false = ap is_accepted (sym e) ∙ numbered r in
       rw (refused, e)
 
   passed : verdict rows ≡ accepted → (write_hour head records file).verdict ≡ accepted
@@ -38,8 +35,5 @@ module _ (head records file : List ℕ) where
   }
   accepted_fills e = written head records file (passed e)
 
-  pub accepted_whole : verdict rows ≡ accepted → ListsWhole head records × (file_length hourly h ≤ length file)
-  unfolding write_hour_rows list_rows list_form_rows
-  accepted_whole e =
-      let whole = (accepts_when_whole rows (writer_numbered head records (length file))).0 e in
-      (lists_whole head records whole.0, room_there head records file (passed e))
+  pub accepted_room : verdict rows ≡ accepted → file_length hourly h ≤ length file
+  accepted_room e = room_there head records file (passed e)

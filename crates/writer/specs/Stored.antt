@@ -1,13 +1,12 @@
 -- Words stored in a buffer of bytes, one block by the numbers that its front says and the words of its body, and a block at its place in a
 -- file.
-use Rattle.std.specs.Prelude.{ℕ, zero, suc, ◌+◌, ◌-◌, ◌*◌, ◌/◌, ◌%◌, cond, List, ◌++◌, take, drop, ◌==◌, slice_index, slice_set}
+use Rattle.std.specs.Prelude.{ℕ, zero, suc, ◌+◌, ◌*◌, ◌/◌, ◌%◌, cond, List, ◌++◌, take, drop, ◌==◌, slice_index}
 use Rattle.whole.specs.Below.{sum_below, values_below}
 use Rattle.rules.specs.HourWords.{byte_of, closing, open_block}
 
--- word k: four bytes, the lowest first
+-- word k: its four bytes, the lowest first, in the place of those that stood there
 unfoldable pub word_stored : List ℕ → ℕ → ℕ → List ℕ
-word_stored l k v =
-    slice_set (slice_set (slice_set (slice_set l (4 * k) (byte_of v 0)) (4 * k + 1) (byte_of v 1)) (4 * k + 2) (byte_of v 2)) (4 * k + 3) (byte_of v 3)
+word_stored l k v = take (4 * k) l ++ (values_below (byte_of v) 4 ++ drop (4 * k + 4) l)
 
 -- n words from word `from` on, one after the other
 unfoldable pub words_stored : (ℕ → ℕ) → (from n : ℕ) → List ℕ → List ℕ
@@ -31,12 +30,8 @@ module _ (mark position count : ℕ) (body : List ℕ) where
   unfoldable pub block_bytes : List ℕ
   block_bytes = values_below (bytes_of closed_block) 512
 
--- ---- its place, and the words that it holds
+-- ---- its place
 
 -- the bytes of block b in the place of those that stood there
 unfoldable pub block_placed : ℕ → (bytes file : List ℕ) → List ℕ
 block_placed b bytes file = take (512 * b) file ++ (bytes ++ drop (512 * b + 512) file)
-
--- the words of the records of block b, behind the first: of ten, or of those that are left
-unfoldable pub held_words : ℕ → List ℕ → List ℕ
-held_words b records = take 120 (drop (120 * (b - 1)) records)

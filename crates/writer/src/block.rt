@@ -12,23 +12,7 @@ fn put_word(block: &mut [u8], k: usize, v: u32)
     requires { 4 * k + 4 ≤ length block.old }
     ensures { block.new ≡ word_stored block.old k v }
 {
-    let at = 4 * k;
-    block[at] = (v % 256) as u8;
-    block[at + 1] = (v / 256 % 256) as u8;
-    block[at + 2] = (v / 256 / 256 % 256) as u8;
-    block[at + 3] = (v / 256 / 256 / 256 % 256) as u8;
-}
-
-// So many zero words from word `from` on.
-fn put_zeros(block: &mut [u8], from: usize, n: usize)
-    requires { 4 * (from + n) ≤ length block.old }
-    ensures { block.new ≡ words_stored (λ k. 0) from n block.old }
-{
-    let mut k = 0;
-    while k < n {
-        put_word(block, from + k, 0);
-        k += 1;
-    }
+    block[4 * k..4 * k + 4].copy_from_slice(&v.to_le_bytes());
 }
 
 // Words from word `from` on.
@@ -37,10 +21,8 @@ fn put_words(block: &mut [u8], from: usize, words: &[u32])
     ensures { block.new
         ≡ words_stored (λ k. slice_index words.now k) from (length words.now) block.old }
 {
-    let mut k = 0;
-    while k < words.len() {
-        put_word(block, from + k, words[k]);
-        k += 1;
+    for (k, word) in words.iter().enumerate() {
+        put_word(block, from + k, *word);
     }
 }
 
@@ -50,13 +32,7 @@ fn put_words(block: &mut [u8], from: usize, words: &[u32])
 fn sum_of(words: &[u32]) -> u32
     ensures { result ≡ sum_below (λ k. slice_index words.now k) (length words.now) % 0x1_0000_0000 }
 {
-    let mut sum: u32 = 0;
-    let mut k = 0;
-    while k < words.len() {
-        sum = std::num::wrapping_add_u32(sum, words[k]);
-        k += 1;
-    }
-    sum
+    words.iter().fold(0u32, |sum, word| sum.wrapping_add(*word))
 }
 
 // Word 7 of the block with these numbers in front and this body.
@@ -64,10 +40,11 @@ fn closing_word(mark: u32, position: u32, count: u32, body: &[u32]) -> u32
     requires { length body.now ≤ 120 }
     ensures { result ≡ HourWords.closing (sum_below (open_list mark position count body.now) 128) }
 {
-    let with_mark = std::num::wrapping_add_u32(sum_of(body), mark);
-    let with_position = std::num::wrapping_add_u32(with_mark, position);
-    let sum = std::num::wrapping_add_u32(with_position, count);
-    std::num::wrapping_sub_u32(0, sum)
+    let sum = sum_of(body)
+        .wrapping_add(mark)
+        .wrapping_add(position)
+        .wrapping_add(count);
+    sum.wrapping_neg()
 }
 
 // ---- the block
@@ -78,11 +55,7 @@ pub fn put_block(block: &mut [u8], mark: u32, position: u32, count: u32, body: &
     ensures { block.new ≡ block_bytes mark position count body.now }
 {
     let closing = closing_word(mark, position, count, body);
-    put_word(block, 0, mark);
-    put_word(block, 1, position);
-    put_word(block, 2, count);
-    put_zeros(block, 3, 4);
-    put_word(block, 7, closing);
+    put_words(block, 0, &[mark, position, count, 0, 0, 0, 0, closing]);
     put_words(block, 8, body);
-    put_zeros(block, 8 + body.len(), 120 - body.len())
+    block[32 + 4 * body.len()..].fill(0);
 }

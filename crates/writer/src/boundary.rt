@@ -20,12 +20,16 @@ pub fn sneupelaar_write_hour(head: &[u32], records: &[u32], file: &mut [u8]) -> 
         ≡ Settling.write_hour head.now records.now file.old }
     ensures words { AreWords head.now × AreWords records.now }
 {
-    let filed = crate::write_hour(head, records, file);
-    let answer = filed.answer;
-    let length = filed.length;
-    NumberedFiled {
-        number: answer::number_of(answer),
-        place: answer::place_of(answer) as u64,
-        length: length,
+    match crate::write_hour(head, records, file) {
+        Ok(length) => NumberedFiled {
+            number: 0,
+            place: 0,
+            length,
+        },
+        Err(refusal) => NumberedFiled {
+            number: refusal.number(),
+            place: refusal.place() as u64,
+            length: 0,
+        },
     }
 }

@@ -1,4 +1,4 @@
--- `amount::write` meets its contract: out of range, too narrow, or written; each way answers as `write` of `rules` does.
+-- Out of range, too narrow, or written; each way answers as `write` of `rules` does.
 use Prim.Native.Nat.{ℕ, ◌+◌, ◌-◌, ◌≤◌}
 use mathlib.Core.Path.{◌≡◌, refl, ◌∙◌, ap}
 use mathlib.Core.List.{List, ◌++◌, append_assoc}
@@ -8,9 +8,9 @@ use lib.ListN.{length, drop, replicate, length-replicate, replicate-append-repli
 use lib.Seq.{drop_at}
 use Rattle.whole.proofs.Machine.{read_back}
 use Rattle.rules.specs.Text.{amount_field, amount_text}
-use Rattle.rules.proofs.Text.{text_fits_14, amount_field_width, write_out_of_range, write_too_narrow, write_accepted_at}
+use Rattle.rules.proofs.Text.{text_fits_14, write_out_of_range, write_too_narrow, write_accepted_at}
 use Rattle.amount.proofs.write.Goals as goal
-use Rattle.amount.proofs.write.Goals.{After-size_of, After-write_amount-length}
+use Rattle.amount.proofs.write.Goals.{After-unsigned_abs, After-write_amount-length}
 
 -- ---- an amount's text in another width: more blanks, or fewer
 
@@ -30,11 +30,11 @@ at_width z w short fits =
 -- ---- the needs
 
 -- the size that the code computes; then the range that it is in, and the length and the text that were written
-sized : (c : goal.After-size_of) → c.size_of.result ≡ nat_abs c.args.cents
-sized c = c.size_of.ensures ∙ ap nat_abs (read_back c.ranges.cents)
+sized : (c : goal.After-unsigned_abs) → c.unsigned_abs.result ≡ nat_abs c.args.cents
+sized c = c.unsigned_abs.ensures.value ∙ ap nat_abs (read_back c.ranges.cents)
 
 range : (c : goal.After-write_amount-length) → nat_abs c.args.cents ≤ 999999999999
-range c = let e : c.size_of.result ≡ nat_abs c.args.cents = c.size_of.ensures ∙ ap nat_abs (read_back c.ranges.cents) in omega arith
+range c = let e : c.unsigned_abs.result ≡ nat_abs c.args.cents = c.unsigned_abs.ensures.value ∙ ap nat_abs (read_back c.ranges.cents) in omega arith
 
 written : (c : goal.After-write_amount-length) → let z = c.args.cents in
     (length (amount_text z) ≤ 14) × (c.write_amount-length.result ≡ length (amount_text z)) × (c.write_amount-length.new.text ≡ amount_field 20 z)
@@ -42,15 +42,15 @@ written c =
     let w = rw (read_back c.ranges.cents) at c.write_amount-length.ensures in
     (text_fits_14 c.args.cents (range c), w.length, w.text)
 
--- Answer::OutOfRange
-pub returns-then-size_of-gt999999999999 : goal.returns-then-size_of-gt999999999999
-returns-then-size_of-gt999999999999 c =
-    rw (write_out_of_range c.args.field.now c.args.cents (omega (arith, sized (goal.at.returns-then-size_of-gt999999999999 c).After-size_of))) record {
+-- Err(Refusal::OutOfRange)
+pub returns-then-unsigned_abs-gt999999999999 : goal.returns-then-unsigned_abs-gt999999999999
+returns-then-unsigned_abs-gt999999999999 c =
+    rw (write_out_of_range c.args.field.now c.args.cents (omega (arith, sized (goal.at.returns-then-unsigned_abs-gt999999999999 c).After-unsigned_abs))) record {
       verdict = refl;
       field = refl;
     }
 
--- Answer::TooNarrow
+-- Err(Refusal::TooNarrow)
 pub returns-then-field-length : goal.returns-then-field-length
 returns-then-field-length c =
     let s = c.args in
@@ -60,12 +60,7 @@ returns-then-field-length c =
       field = refl;
     }
 
-pub put-requires : goal.put-requires
-put-requires c =
-    let w = written (goal.at.put-requires c).After-write_amount-length in
-    rw w.2 (amount_field_width 20 c.args.cents (omega (arith, w.0)))
-
--- Answer::Accepted
+-- Ok(())
 pub returns : goal.returns
 returns c =
     let s = c.args in

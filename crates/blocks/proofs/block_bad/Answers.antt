@@ -1,15 +1,18 @@
 -- `blocks::block_bad` meets its contract: the words in front first; then nothing more of the first block, and of another the zeros past
 -- its records.
-use Rattle.std.proofs.Common.{◌≡◌, ℕ, ◌*◌, ◌≤◌, List, sym, ap, ◌∙◌, mul-le-mul_right, arith}
-use Rattle.rules.specs.declared.Found.{Found}
+use Rattle.std.proofs.Common.{◌≡◌, ℕ, ◌+◌, ◌*◌, ◌≤◌, eqb, not, List, refl, sym, ap, ◌∙◌, mul-le-mul_right, arith, eq-eqb, rules}
+use borrow.Author.Tests.{tests}
+use Rattle.whole.proofs.Chains.{any_first, any_below}
 use Rattle.rules.specs.declared.Layout.{Layout}
 use Rattle.rules.specs.HourFile.{word}
-use Rattle.rules.specs.Refusals.{is_broken, found_at}
+use Rattle.rules.specs.Ranges.{keeps, block_rule, first_broken}
+use Rattle.rules.specs.Refusals.{is_broken}
 use Rattle.rules.proofs.Layouts.{few_to_a_record}
 use Rattle.rules.proofs.Faults.{front_broken, first_block_whole, past_front}
 use Rattle.blocks.specs.Broken.{broken_below}
+use Rattle.blocks.proofs.Broken.{found_broken}
 use Rattle.blocks.proofs.block_bad.Goals as goal
-use Rattle.blocks.proofs.block_bad.Goals.{After-first_not_zero, After-word-held}
+use Rattle.blocks.proofs.block_bad.Goals.{After-word-held, After-any-front_bad}
 
 -- words to a record are so few that the product fits
 few : (c : goal.After-word-held) →
@@ -21,13 +24,6 @@ as_read : (layout : Layout) (block : List ℕ) (n b held : ℕ) → held ≡ wor
     broken_below layout 128 n (word block 2) b block ≡ broken_below layout 128 n held b block
 as_read layout block n b held e = ap (λ (held : ℕ). broken_below layout 128 n held b block) (sym e)
 
--- past the front, what the search of the zeros found
-rest-told : (c : goal.After-first_not_zero) →
-    broken_below c.args.layout 128 c.args.n (word c.args.block.now 2) c.args.b c.args.block.now ≡ is_broken (found_at c.first_not_zero.result)
-rest-told c =
-    let passed = sym c.front_bad.ensures ∙ c.if-front_bad.false in
-    as_read _ _ _ _ _ c.word-held.ensures ∙ ap is_broken (past_front _ _ _ _ _ passed c.if-b-eq0.false ∙ sym c.first_not_zero.ensures)
-
 -- layout.words * (held as usize)
 pub overflow_mul-past : goal.overflow_mul-past
 overflow_mul-past c = omega (arith, few (goal.at.overflow_mul-past c).After-word-held)
@@ -36,23 +32,31 @@ overflow_mul-past c = omega (arith, few (goal.at.overflow_mul-past c).After-word
 pub overflow_add-past : goal.overflow_add-past
 overflow_add-past c = omega (arith, few (goal.at.overflow_add-past c).After-word-held)
 
-pub front_bad-requires : goal.front_bad-requires
-front_bad-requires c = c.requires
+-- words 0 to 6
+front : (c : goal.After-any-front_bad) →
+    c.any-front_bad.result ≡ broken_below c.args.layout 7 c.args.n c.word-held.result c.args.b c.args.block.now
+unfolding first_broken
+front c =
+    any_below (λ w. not (keeps (block_rule c.args.layout c.args.n c.word-held.result c.args.b w) (word c.args.block.now w))) 7 _ _ _ _ refl
+    c.any-front_bad.ensures.ran (λ x b q k. (search rules, search rules))
+    ∙ found_broken _
 
--- return true
+-- front_bad
 pub returns-then-front_bad : goal.returns-then-front_bad
-returns-then-front_bad c = sym (as_read _ _ _ _ _ c.word-held.ensures ∙ front_broken _ _ _ _ _ (sym c.front_bad.ensures ∙ c.if-front_bad.true))
+returns-then-front_bad c = c.if-front_bad.true ∙ sym (as_read _ _ _ _ _ c.word-held.ensures ∙ front_broken _ _ _ _ _ (sym (front (goal.at.returns-then-front_bad c).After-any-front_bad) ∙ c.if-front_bad.true))
 
--- return false
-pub returns-then-b-eq0 : goal.returns-then-b-eq0
-returns-then-b-eq0 c =
-    let front = c in
-    sym (as_read _ _ _ _ _ c.word-held.ensures ∙ first_block_whole _ _ _ _ _ (sym front.front_bad.ensures ∙ c.if-front_bad.false) c.if-b-eq0.true)
+-- another block: the search of the zeros
+pub returns-then-b-ne0 : goal.returns-then-b-ne0
+returns-then-b-ne0 c =
+    let passed = sym (front (goal.at.returns-then-b-ne0 c).After-any-front_bad) ∙ c.if-front_bad.false in
+    any_first (λ w. not (eqb (word c.args.block.now w) 0)) (8 + c.args.layout.words * c.word-held.result) 128 _ _ _ _ refl c.any.ensures.ran
+    (λ x b q k. (search rules, search (rules, tests)))
+    ∙ found_broken _
+    ∙ sym (as_read _ _ _ _ _ c.word-held.ensures ∙ ap is_broken (past_front _ _ _ _ _ passed c.if-b-ne0.true))
 
--- Found::At(_) => true
-pub returns-in-At : goal.returns-in-At
-returns-in-At c = sym (rest-told (goal.at.returns-in-At c).After-first_not_zero ∙ ap (λ (f : Found). is_broken (found_at f)) c.in-At.is)
-
--- Found::Nothing => false
-pub returns-in-Nothing : goal.returns-in-Nothing
-returns-in-Nothing c = sym (rest-told (goal.at.returns-in-Nothing c).After-first_not_zero ∙ ap (λ (f : Found). is_broken (found_at f)) c.in-Nothing.is)
+-- the first block
+pub returns-else-b-ne0 : goal.returns-else-b-ne0
+returns-else-b-ne0 c =
+    let passed = sym (front (goal.at.returns-else-b-ne0 c).After-any-front_bad) ∙ c.if-front_bad.false in
+    ap not (eq-eqb _ _ c.if-b-ne0.false)
+    ∙ sym (as_read _ _ _ _ _ c.word-held.ensures ∙ first_block_whole _ _ _ _ _ passed c.if-b-ne0.false)

@@ -1,8 +1,8 @@
--- `blocks::cut_word` meets its contract: four bytes, those past the end 0, joined as the definition joins them.
-use Rattle.std.proofs.Common.{arith}
+-- `blocks::cut_word` meets its contract: four bytes, those past the end 0, the lowest first.
+use Rattle.std.proofs.Common.{◌∙◌, arith}
 use Rattle.rules.specs.HourFile.{word}
 use Rattle.blocks.proofs.cut_word.Goals as goal
 
 pub returns : goal.returns
 unfolding word
-returns c = omega arith
+returns c = c.from_le_bytes.ensures ∙ omega arith

@@ -53,10 +53,6 @@ nonzero_rem-from c = omega (arith, c.requires.0.some_records)
 pub overflow_mul-from : goal.overflow_mul-from
 overflow_mul-from c = omega (arith, ends (goal.at.overflow_mul-from c).After-whole_body-own)
 
--- from + size
-pub overflow_add-to : goal.overflow_add-to
-overflow_add-to c = omega (arith, ends (goal.at.overflow_add-to c).After-whole_body-own)
-
 -- &own[from..to]: to <= own.len()
 pub slice_bounds-result-end : goal.slice_bounds-result-end
 slice_bounds-result-end c = omega (arith, ends (goal.at.slice_bounds-result-end c).After-whole_body-own, own-length (goal.at.slice_bounds-result-end c).After-whole_body-own)

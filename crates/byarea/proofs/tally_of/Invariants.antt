@@ -1,11 +1,7 @@
 use mathlib.Core.Path.{◌≡◌}
-use Prim.Native.Nat.{◌-◌, ◌≤◌}
 use Rattle.rules.specs.Inner.Posting.{tally_after}
-use Rattle.rules.specs.HourFile.{hour_in}
+use Rattle.hour.specs.Held.{held}
 use Rattle.byarea.proofs.tally_of.Given as goal
 
 abbrev pub invariant-loop-i : goal.invariant-loop-i
-invariant-loop-i l = (l.i ≤ l.n) × (l.tally ≡ tally_after (hour_in l.file) l.i)
-
-abbrev pub decreases-loop-i : goal.decreases-loop-i
-decreases-loop-i l = l.n - l.i
+invariant-loop-i l = l.tally ≡ tally_after (held l.hour) l.i

@@ -1,126 +1,35 @@
--- The lines are lent to a posting a turn, and after i turns the first i records are posted to them.
-use mathlib.Core.Path.{◌≡◌, ◌∙◌, ap}
-use mathlib.Core.List.{List}
-use Prim.Native.Nat.{ℕ, ◌<◌}
+-- `bymember::put_lines` meets its contract: the lines are lent to a posting a turn.
+use mathlib.Core.Path.{◌∙◌}
+use Prim.Native.Nat.{◌≤◌}
 use native.Mathlib.Omega.{arith}
-use lib.IntN.{ℤ, pos}
-use lib.ListN.{length, get_or}
-use mir.Syntax.{w64}
-use mir.ValLaws.{to_z-of_z}
-use borrow.Author.Rules.{rules, sfits_of}
-use Rattle.whole.specs.Below.{replacing_first}
-use Rattle.rules.specs.Record.{areas, price, area_of}
+use lib.ListN.{length}
+use lib.Seq.{length-take-le}
+use borrow.Author.Rules.{sfits_of}
+use Rattle.whole.proofs.Buffers.{filled_first}
+use Rattle.whole.proofs.Machine.{read_back}
 use Rattle.rules.specs.Inner.Posting.{lines_after}
 use Rattle.rules.specs.Settling.{empty_line}
-use Rattle.rules.specs.HourFile.{hour_in}
-use Rattle.hour.specs.declared.Head.{Head}
-use Rattle.hour.specs.Hour.{Headed}
-use Rattle.hour.proofs.Figures.{head_members, head_records, head_price}
-use Rattle.bymember.specs.Lined.{AllWorked}
 use Rattle.bymember.proofs.Lines.{can_post, next_lines}
 use Rattle.bymember.proofs.put_lines.Goals as goal
 
--- a turn: record i is there
-module _ {s : List ℕ} {head : Head} (headed : Headed s head) {i : ℕ} (turn : i < head.records) where
-  there : i < (hour_in s).count
-  there = omega (arith, head_records headed)
-
-  -- the record's area is read: it is one of the hour's, of which each has its price
-  module _ {area : ℕ} (area_is : area ≡ area_of (hour_in s) i) where
-    area_there : area < areas (hour_in s)
-    area_there = omega (arith, area_is, (headed.kept.hour_kept.record_kept i there).area_there)
-
-    area-few : area < 8
-    area-few = omega (arith, area_there, headed.kept.hour_kept.areas_most)
-
-    price_is : get_or head.prices area (pos 0) ≡ price (hour_in s) (area_of (hour_in s) i)
-    price_is = head_price headed area area_there ∙ ap (price (hour_in s)) area_is
-
-  module _ {deviations shares : List ℤ} (w : AllWorked s deviations shares) where
-    in-deviations : i < length deviations
-    in-deviations = omega (arith, there, w.deviations_room)
-
-    in-shares : i < length shares
-    in-shares = omega (arith, there, w.shares_room)
-
-pub clear_lines-requires : goal.clear_lines-requires
-clear_lines-requires c = omega (arith, head_members c.requires.0, c.requires.2)
-
+-- the members' lines are filled with empty ones
 pub loop-i-init : goal.loop-i-init
 unfolding lines_after
-loop-i-init c = (
-  omega arith,
-  c.clear_lines.ensures ∙ ap (λ k. replacing_first (λ m. empty_line) k c.args.lines.now) (head_members c.requires.0),
-)
-
-pub member_of-member-requires : goal.member_of-member-requires
-member_of-member-requires c = (c.requires.0.kept, there c.requires.0 c.loop-i-test.true)
-
-pub area_of-area-requires : goal.area_of-area-requires
-area_of-area-requires c = (c.requires.0.kept, there c.requires.0 c.loop-i-test.true)
-
--- the offset of head.prices[area]
-pub offset_bounds-head-area : goal.offset_bounds-head-area
-offset_bounds-head-area c = omega (arith, area-few c.requires.0 c.loop-i-test.true c.area_of-area.ensures)
-
--- head.prices[area]
-pub bounds-head-area : goal.bounds-head-area
-bounds-head-area c = area-few c.requires.0 c.loop-i-test.true c.area_of-area.ensures
-
--- the offset of deviations[i]
-pub offset_bounds-deviations-i : goal.offset_bounds-deviations-i
-offset_bounds-deviations-i c = omega (arith, in-deviations c.requires.0 c.loop-i-test.true c.requires.1)
-
--- deviations[i]
-pub bounds-deviations-i : goal.bounds-deviations-i
-bounds-deviations-i c = in-deviations c.requires.0 c.loop-i-test.true c.requires.1
-
--- the offset of shares[i]
-pub offset_bounds-shares-i : goal.offset_bounds-shares-i
-offset_bounds-shares-i c = omega (arith, in-shares c.requires.0 c.loop-i-test.true c.requires.1)
-
--- shares[i]
-pub bounds-shares-i : goal.bounds-shares-i
-bounds-shares-i c = in-shares c.requires.0 c.loop-i-test.true c.requires.1
-
--- the number that is read of a lent slice is its element
-pub grains-grains-requires : goal.grains-grains-requires
-grains-grains-requires c =
-    let here = there c.requires.0 c.loop-i-test.true in
-    let w = c.requires.1 in
-    record {
-      kept = w.kept;
-      there = here;
-      price_is = to_z-of_z w64 _ (search rules) ∙ price_is c.requires.0 c.loop-i-test.true c.area_of-area.ensures;
-      deviation_is = to_z-of_z w64 _ (search rules) ∙ w.deviations_are c.loop-i.i here;
-      share_is = to_z-of_z w64 _ (search rules) ∙ w.shares_are c.loop-i.i here;
-    }
+loop-i-init c =
+    let n = c.args.hour.now.members in
+    let few : n ≤ length c.args.lines.now = omega (arith, c.args.hour.now.members_are, c.requires.1) in
+    rw (c.fill.ensures.after (λ y same. same), length-take-le n c.args.lines.now few, c.empty_line.ensures, ← c.args.hour.now.members_are)
+    (filled_first empty_line n c.args.lines.now)
 
 pub post_line-requires : goal.post_line-requires
-post_line-requires c = can_post
-    c.requires.0.kept.hour_kept
-    c.args.lines.now
-    c.loop-i.i
-    (there c.requires.0 c.loop-i-test.true)
-    c.loop-i.invariant.1
-    c.member_of-member.ensures
-    (to_z-of_z w64 _ (sfits_of c.grains-grains.type_inv) ∙ c.grains-grains.ensures)
-    c.requires.2
+post_line-requires c =
+    let hour = c.args.hour.now in
+    can_post hour.kept.hour_kept c.args.lines.now c.loop-i.i (omega (arith, hour.records_are)) c.loop-i.invariant c.member_of.ensures
+    (read_back (sfits_of c.grains-grains.type_inv) ∙ c.grains-grains.ensures) c.requires.1
 
 pub loop-i-preserved : goal.loop-i-preserved
-loop-i-preserved c = (
-  omega arith,
-  c.post_line.ensures ∙ next_lines
-      c.requires.0.kept.hour_kept
-      c.args.lines.now
-      c.loop-i.i
-      (there c.requires.0 c.loop-i-test.true)
-      c.loop-i.invariant.1
-      c.member_of-member.ensures
-      (to_z-of_z w64 _ (sfits_of c.grains-grains.type_inv) ∙ c.grains-grains.ensures),
-)
-
-pub returns : goal.returns
-returns c =
-    let all : c.loop-i.i ≡ (hour_in c.args.file.now).count = omega (arith, head_records c.requires.0) in
-    c.loop-i.invariant.1 ∙ ap (lines_after (hour_in c.args.file.now) c.args.lines.now) all
+loop-i-preserved c =
+    let hour = c.args.hour.now in
+    c.post_line.ensures
+    ∙ next_lines hour.kept.hour_kept c.args.lines.now c.loop-i.i (omega (arith, hour.records_are)) c.loop-i.invariant c.member_of.ensures
+    (read_back (sfits_of c.grains-grains.type_inv) ∙ c.grains-grains.ensures)

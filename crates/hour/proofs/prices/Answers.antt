@@ -6,7 +6,7 @@ use Rattle.whole.proofs.Machine.{read_back}
 use Rattle.whole.proofs.Filling.{none_filled, next_filled, first_filled}
 use Rattle.rules.specs.Record as Record
 use Rattle.rules.specs.HourFile.{hour_in}
-use Rattle.hour.specs.Hour.{prices_of}
+use Rattle.hour.specs.Prices.{prices_of}
 use Rattle.hour.proofs.Figures.{eight_filled}
 use Rattle.hour.proofs.prices.Goals as goal
 

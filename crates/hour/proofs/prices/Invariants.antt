@@ -1,5 +1,4 @@
 -- `hour::prices` meets its contract. The loop's invariant: of eight zeros the places passed are replaced by their area's price.
-use Prim.Native.Nat.{◌-◌}
 use lib.IntN.{pos}
 use lib.ListN.{replicate}
 use Rattle.whole.proofs.Filling.{Filled}
@@ -10,6 +9,3 @@ use Rattle.hour.proofs.prices.Given as goal
 abbrev pub invariant-loop-a : goal.invariant-loop-a
 invariant-loop-a l =
     Filled (Record.price (hour_in l.file)) (Record.areas (hour_in l.file)) l.a (replicate 8 (pos 0)) l.prices
-
-abbrev pub decreases-loop-a : goal.decreases-loop-a
-decreases-loop-a l = l.areas - l.a

@@ -1,131 +1,111 @@
 -- Refused, no buffer is touched; accepted, each is filled, in an order in which every figure that is needed is there.
-use mathlib.Core.Path.{refl, sym, ◌∙◌, ap}
-use Rattle.rules.specs.Refusals.{verdict_of, Buffers}
-use Rattle.rules.specs.Inner.Kept.{FileKept}
-use Rattle.hour.specs.Hour.{Headed}
-use Rattle.hour.proofs.Figures.{head_members}
-use Rattle.examine.proofs.Examined.{accepted_kept}
+use mathlib.Core.Path.{◌≡◌, refl, sym, ◌∙◌, ap, subst}
+use mathlib.Core.List.{List}
+use native.Mathlib.Omega.{arith}
+use Prim.Native.Nat.{ℕ}
+use lib.IntN.{ℤ}
+use Rattle.std.specs.Prelude.{Result, Ok, Err}
+use Rattle.std.proofs.lemmas.Result.{err_from_is_err_and}
+use Rattle.rules.specs.declared.Refusal.{Refusal}
+use Rattle.rules.specs.Refusals.{file_rows, Buffers}
+use Rattle.rules.specs.Promised.Demands.{Fits}
+use Rattle.rules.proofs.Kept.{file_kept}
+use Rattle.rules.proofs.Rows.{accepts_when_whole, file_numbered, form_whole}
 use Rattle.pool.specs.AsSettled.{Says}
 use Rattle.pool.specs.Buffers.{buffers}
-use Rattle.pool.proofs.Answers.{file-unchanged, unchanged, room, can-share, can-put-lines, can-put-charges}
+use Rattle.pool.proofs.Answers.{file_refused, unchanged, room, can-share, can-put-lines, as-many, lines-there, can-put-charges}
 use Rattle.pool.proofs.Answers.{can-put-finals, all_filled}
 use Rattle.pool.proofs.settle.Goals as goal
-use Rattle.pool.proofs.settle.Goals.{In-Accepted, After-answered-settled}
+use Rattle.pool.proofs.settle.Goals.{In_ok-figures, After-answered}
 
 -- ---- rows 1 to 5 and 14
 
--- return answer::refused(examined)
-pub returns-in_default : goal.returns-in_default
-returns-in_default c =
-    file-unchanged
-    c.args.file.now
-    _
-    c.examine-examined.result
-    c.examine-examined.ensures
-    c.in_default.not-Accepted
-    c.refused.ensures
+pub returns-in_err-examine : goal.returns-in_err-examine
+returns-in_err-examine c =
+    let p = err_from_is_err_and c.from_residual.result c.from_residual.ensures.1 in
+    rw (p.1, p.2) (unchanged c.args.file.now _ (file_refused c.args.file.now _ c.in_err-examine.field-0.0 c.in_err-examine.ensures))
 
 -- they are passed
-keeps : (c : goal.In-Accepted) → FileKept c.args.file.now
-keeps c = accepted_kept c.args.file.now c.examine-examined.result c.examine-examined.ensures c.in-Accepted.is
-
-pub head_of-head-requires : goal.head_of-head-requires
-head_of-head-requires c = keeps c
+pub of-hour-requires : goal.of-hour-requires
+of-hour-requires c =
+    let s = c.args.file.now in
+    file_kept s (form_whole s ((accepts_when_whole (file_rows s) (file_numbered s)).0 (sym c.in_ok-examine.ensures)))
 
 -- ---- rows 6, 12 and 11
 
-pub answered-settled-requires : goal.answered-settled-requires
-answered-settled-requires c = (
-  sym c.examine-examined.ensures ∙ ap verdict_of c.in-Accepted.is,
-  record { kept = keeps (goal.at.answered-settled-requires c).In-Accepted; head_is = c.head_of-head.ensures },
-)
-
--- the answer is given
-module _ (c : goal.After-answered-settled) where
+-- the answer is given, of the buffers as they were lent
+module _ (c : goal.After-answered) where
   abbrev lent : Buffers
   lent = buffers c.args.charges.now c.args.finals.now c.args.shares.now c.args.deviations.now c.args.lines.now
 
-  said : Says c.args.file.now lent c.answered-settled.result
-  said = c.answered-settled.ensures.says lent
+  said : Says c.of-hour.result.file.now lent c.answered.result
+  said = c.answered.ensures.says lent
       (record { of_charges = refl; of_finals = refl; of_lines = refl; of_shares = refl; of_deviations = refl })
 
-  headed : Headed c.args.file.now c.head_of-head.result
-  headed = record {
-    kept = accepted_kept c.args.file.now c.examine-examined.result c.examine-examined.ensures c.in-Accepted.is;
-    head_is = c.head_of-head.ensures;
-  }
+-- the hour was read from the file
+from_file : {s t : List ℕ} {b after : Buffers} {r : Result (List ℤ) Refusal} → s ≡ t → Fits s b r after → Fits t b r after
+from_file {b = b} {after = after} {r = r} e fits = subst (λ s. Fits s b r after) e fits
 
--- return settled
-pub returns-in_default-answer : goal.returns-in_default-answer
-returns-in_default-answer c =
-    let a = (goal.at.returns-in_default-answer c).After-answered-settled in
-    unchanged c.args.file.now (lent a) (said a) c.in_default-answer.not-Accepted
+pub returns-in_err-figures : goal.returns-in_err-figures
+returns-in_err-figures c =
+    let p = err_from_is_err_and c.from_residual-in_err-figures.result c.from_residual-in_err-figures.ensures.1 in
+    let a = (goal.at.returns-in_err-figures c).After-answered in
+    rw (p.1, p.2) (from_file c.of-hour.ensures (unchanged c.of-hour.result.file.now (lent a) (subst (Says c.of-hour.result.file.now (lent a)) c.in_err-figures.was (said a))))
 
 -- ---- accepted: the buffers are filled
 
+module _ (c : goal.In_ok-figures) where
+  abbrev before : Buffers
+  before = buffers c.args.charges.now c.args.finals.now c.args.shares.now c.args.deviations.now c.args.lines.now
+
+  accepts : Says c.of-hour.result.file.now before (Ok c.in_ok-figures.figures)
+  accepts = subst (Says c.of-hour.result.file.now before) c.in_ok-figures.was (c.answered.ensures.says before
+      (record { of_charges = refl; of_finals = refl; of_lines = refl; of_shares = refl; of_deviations = refl }))
+
 pub put_deviations-requires : goal.put_deviations-requires
 put_deviations-requires c =
-    let a = (goal.at.put_deviations-requires c).After-answered-settled in
-    (headed a, (room c.args.file.now (lent a) (said a) c.in-Accepted-answer.is).deviations_room)
+    let a = (goal.at.put_deviations-requires c).In_ok-figures in
+    (room c.of-hour.result.file.now (before a) (accepts a)).deviations_room
 
 pub put_shares-requires : goal.put_shares-requires
 put_shares-requires c =
-    let a = (goal.at.put_shares-requires c).After-answered-settled in
-    let can = can-share c.args.file.now (lent a) (said a) c.in-Accepted-answer.is in
-    (headed a, can.0, can.1)
+    let a = (goal.at.put_shares-requires c).In_ok-figures in
+    can-share c.of-hour.result.file.now (before a) (accepts a)
 
 pub put_lines-requires : goal.put_lines-requires
 put_lines-requires c =
-    let a = (goal.at.put_lines-requires c).After-answered-settled in
-    let can = can-put-lines
-    c.args.file.now
-    (lent a)
-    (said a)
-    c.in-Accepted-answer.is
-    c.put_deviations.ensures
-    c.put_shares.ensures in
-    (headed a, can.0, can.1)
+    let a = (goal.at.put_lines-requires c).In_ok-figures in
+    can-put-lines c.of-hour.result.file.now (before a) (accepts a) c.put_deviations.ensures c.put_shares.ensures
+
+-- &lines[..hour.members]
+pub slice_bounds-put_charges-end : goal.slice_bounds-put_charges-end
+slice_bounds-put_charges-end c =
+    let a = (goal.at.slice_bounds-put_charges-end c).In_ok-figures in
+    lines-there c.of-hour.result.file.now (before a) (accepts a) c.put_deviations.ensures c.put_shares.ensures c.put_lines.ensures
+    c.of-hour.result.members_are
+
+-- its length
+pub slice_bounds-put_charges-end-2 : goal.slice_bounds-put_charges-end-2
+slice_bounds-put_charges-end-2 c =
+    let a = (goal.at.slice_bounds-put_charges-end-2 c).In_ok-figures in
+    sym (as-many c.of-hour.result.file.now (before a) (accepts a) c.put_deviations.ensures c.put_shares.ensures c.put_lines.ensures
+    c.of-hour.result.members_are)
 
 pub put_charges-requires : goal.put_charges-requires
 put_charges-requires c =
-    let a = (goal.at.put_charges-requires c).After-answered-settled in
-    can-put-charges
-    c.args.file.now
-    (lent a)
-    (said a)
-    c.in-Accepted-answer.is
-    c.put_deviations.ensures
-    c.put_shares.ensures
-    c.put_lines.ensures
-    (head_members (headed a))
+    let a = (goal.at.put_charges-requires c).In_ok-figures in
+    can-put-charges c.of-hour.result.file.now (before a) (accepts a) c.put_deviations.ensures c.put_shares.ensures c.put_lines.ensures
+    c.of-hour.result.members_are
 
 pub put_finals-requires : goal.put_finals-requires
 put_finals-requires c =
-    let a = (goal.at.put_finals-requires c).After-answered-settled in
-    let can = can-put-finals
-    c.args.file.now
-    (lent a)
-    (said a)
-    c.in-Accepted-answer.is
-    c.put_deviations.ensures
-    c.put_shares.ensures
-    c.put_lines.ensures
-    (head_members (headed a))
-    c.put_charges.ensures in
-    (headed a, can.0, can.1)
+    let a = (goal.at.put_finals-requires c).In_ok-figures in
+    can-put-finals c.of-hour.result.file.now (before a) (accepts a) c.put_deviations.ensures c.put_shares.ensures c.put_lines.ensures
+    c.of-hour.result.members_are c.put_charges.ensures
 
--- settled, at the end
 pub returns : goal.returns
 returns c =
-    let a = (goal.at.returns c).After-answered-settled in
-    all_filled
-    c.args.file.now
-    (lent a)
-    (said a)
-    c.in-Accepted-answer.is
-    c.put_deviations.ensures
-    c.put_shares.ensures
-    c.put_lines.ensures
-    (head_members (headed a))
-    c.put_charges.ensures
-    c.put_finals.ensures
+    let a = (goal.at.returns c).In_ok-figures in
+    from_file c.of-hour.ensures
+    (all_filled c.of-hour.result.file.now (before a) (accepts a) c.put_deviations.ensures c.put_shares.ensures c.put_lines.ensures
+    c.of-hour.result.members_are c.put_charges.ensures c.put_finals.ensures)

@@ -1,16 +1,12 @@
--- `printing::put_first_line` meets its contract: three counts and a line feed, one after the other.
-use Rattle.rules.specs.Text.{bytes}
+-- Three counts and a line feed, one after the other.
 use Rattle.rules.specs.Statement.{first_line}
-use Rattle.printing.proofs.Putting.{put_on, put_count_on}
+use Rattle.printing.proofs.Pages.{adds_on}
 use Rattle.printing.proofs.put_first_line.Goals as goal
 
 pub returns : goal.returns
 unfolding first_line
 returns c =
-    let b = c in
-    let r = b in
-    let q = r in
-    let p = q in
-    let two = put_count_on (bytes " members ") _ p.put_count-after_hour.ensures.text q.put_count-after_members.ensures.text in
-    let three = put_count_on (bytes " records ") _ two r.put_count-after_records.ensures.text in
-    put_on three b.put_bytes.ensures
+    let hour = adds_on c.text.ensures c.number.ensures in
+    let members = adds_on (adds_on hour c.text-2.ensures) c.number-2.ensures in
+    let records = adds_on (adds_on members c.text-3.ensures) c.number-3.ensures in
+    adds_on records c.text-4.ensures

@@ -1,8 +1,7 @@
 -- Ten-minute files as figures: for each kind a record at its limits, and each of its words one past them; the same of the head; an hour with
 -- every kind of record; for each refusal a small file that breaks it, twice where it has a place, and every row after it; and sheets.
 -- Document 02, A7.
-use Rattle.std.specs.Prelude.{ℕ, ◌+◌, ◌≡◌, true, false, List, [], ◌∷◌, ◌++◌, ℤ, pos, neg_ℤ, replicate}
-use Rattle.std.proofs.Math.Option.{Option, none}
+use Rattle.std.specs.Prelude.{ℕ, ◌+◌, ◌≡◌, true, false, List, [], ◌∷◌, ◌++◌, ℤ, pos, neg_ℤ, replicate, Option, None}
 use Rattle.whole.specs.Below.{values_below}
 use Rattle.rules.specs.HourFile.{ten_minutes, length_bad}
 use Rattle.rules.specs.HourWords.{hour_from}
@@ -55,19 +54,19 @@ for_unmultiplied = (6, 1) ∷ (7, 1) ∷ []
 unfoldable pub interval_limits : List Case
 interval_limits =
     -- at the upper limits, and at the lower
-    intervals_fault (record_at 1 100000 20000 100000 100000 100000) is none
-    ∷ intervals_fault (1 ∷ 0 ∷ 0 ∷ 0 ∷ 0 ∷ 0 ∷ 1 ∷ 1 ∷ times6 0 ++ times6 least_adjustment ++ replicate 10 0) is none
+    intervals_fault (record_at 1 100000 20000 100000 100000 100000) is None
+    ∷ intervals_fault (1 ∷ 0 ∷ 0 ∷ 0 ∷ 0 ∷ 0 ∷ 1 ∷ 1 ∷ times6 0 ++ times6 least_adjustment ++ replicate 10 0) is None
     ∷ intervals_break (record_at 1 100000 20000 100000 100000 100000)
     (for_every ++ for_ramped ++ for_multiplied ++ each6 8 100001 ++ each6 20 100001)
-    ∷ intervals_fault (record_at 2 100000 0 100000 100000 100000) is none
+    ∷ intervals_fault (record_at 2 100000 0 100000 100000 100000) is None
     ∷ intervals_break (record_at 2 100000 0 100000 100000 100000)
     (for_every ++ for_ramped ++ for_unmultiplied ++ each6 8 100001 ++ each6 20 100001)
-    ∷ intervals_fault (record_at 3 0 0 100000 0 100000) is none
+    ∷ intervals_fault (record_at 3 0 0 100000 0 100000) is None
     ∷ intervals_break (record_at 3 0 0 100000 0 100000)
     (for_every ++ for_others ++ for_unmultiplied ++ (8, 100001) ∷ (9, 1) ∷ (10, 1) ∷ (11, 1) ∷ (12, 1) ∷ (13, 1) ∷ each6 20 100001)
-    ∷ intervals_fault (record_at 4 0 20000 0 0 100000) is none
+    ∷ intervals_fault (record_at 4 0 20000 0 0 100000) is None
     ∷ intervals_break (record_at 4 0 20000 0 0 100000) (for_every ++ for_others ++ for_multiplied ++ each6 8 1 ++ each6 20 100001)
-    ∷ intervals_fault (record_at 5 0 0 100000 100000 0) is none
+    ∷ intervals_fault (record_at 5 0 0 100000 100000 0) is None
     ∷ intervals_break (record_at 5 0 0 100000 100000 0) (for_every ++ for_others ++ for_unmultiplied ++ each6 8 100001 ++ each6 20 1)
     ∷ []
 
@@ -98,7 +97,7 @@ least_prices = 0 ∷ 1 ∷ 1 ∷ 1 ∷ replicate 116 0
 
 unfoldable pub price_limits : List Case
 price_limits =
-    prices_fault full_prices is none
+    prices_fault full_prices is None
     -- counts
     ∷ prices_break full_prices ((9, 0) ∷ (9, 33) ∷ (10, 0) ∷ (10, 5) ∷ (11, 0) ∷ (11, 9) ∷ [])
     -- the hourly prices
@@ -112,7 +111,7 @@ price_limits =
     -- the words behind them, 96 to 127: none may be 1
     ∷ prices_break full_prices ((96, 1) ∷ (127, 1) ∷ [])
     ∷ values_below (λ k. keeps (ten_minutes_head_rule 4 8 (96 + k)) 1) 32 is replicate 32 false
-    ∷ prices_fault least_prices is none
+    ∷ prices_fault least_prices is None
     -- a zone that isn't there, the areas past their count, and the prices of the zones past theirs
     ∷ prices_break least_prices ((16, 1) ∷ (20, 1) ∷ (47, 1) ∷ (60, 1) ∷ (127, 1) ∷ [])
     ∷ values_below (λ k. keeps (ten_minutes_head_rule 1 1 (17 + k)) 1) 31 is replicate 31 false

@@ -1,8 +1,7 @@
 -- Limits as figures: for each kind a record at its limits, and each of its words one past them; the same of the head and of blocks;
 -- and single words.
 -- Document 01, "Units and ranges", "The hour file"; document 02, A3.
-use Rattle.std.specs.Prelude.{ℕ, ◌+◌, ◌-◌, true, false, List, [], ◌∷◌, ◌++◌, pos, neg_ℤ, get_or, set, replicate}
-use Rattle.std.proofs.Math.Option.{Option, none, some}
+use Rattle.std.specs.Prelude.{ℕ, ◌+◌, ◌-◌, true, false, List, [], ◌∷◌, ◌++◌, pos, neg_ℤ, get_or, set, replicate, Option, None, Some}
 use Rattle.whole.specs.Below.{values_below}
 use Rattle.rules.specs.declared.Kind.{Kind}
 use Rattle.rules.specs.declared.Kind.TheVariants.{Generator, RealTimeLoad, ProfileLoad, Import, Export, Unknown}
@@ -26,7 +25,7 @@ faults fault from words (c ∷ changes) = fault (set words (c.0 - from) c.1) ∷
 -- at the word that is changed
 unfoldable pub own_places : List Change → List (Option ℕ)
 own_places [] = []
-own_places (c ∷ changes) = some c.0 ∷ own_places changes
+own_places (c ∷ changes) = Some c.0 ∷ own_places changes
 
 -- ---- records, in an hour of two members and two areas
 
@@ -73,21 +72,21 @@ least_of kind multiplier = kind ∷ 0 ∷ 0 ∷ 0 ∷ 0 ∷ least_adjustment ∷
 unfoldable pub record_limits : List Case
 record_limits =
     -- at the lower limits
-    record_fault (least_of 1 1) is none
-    ∷ record_fault (least_of 2 0) is none
-    ∷ record_fault (least_of 3 0) is none
-    ∷ record_fault (least_of 4 1) is none
-    ∷ record_fault (least_of 5 0) is none
+    record_fault (least_of 1 1) is None
+    ∷ record_fault (least_of 2 0) is None
+    ∷ record_fault (least_of 3 0) is None
+    ∷ record_fault (least_of 4 1) is None
+    ∷ record_fault (least_of 5 0) is None
     -- at the upper limits, and past each
-    ∷ record_fault generator_at is none
+    ∷ record_fault generator_at is None
     ∷ record_breaks generator_at (for_every_kind ++ for_multipliers ++ (4, 100001) ∷ (6, 100001) ∷ (7, 100001) ∷ (8, 100001) ∷ [])
-    ∷ record_fault (load_at 2) is none
+    ∷ record_fault (load_at 2) is None
     ∷ record_breaks (load_at 2) for_loads
-    ∷ record_fault (load_at 3) is none
+    ∷ record_fault (load_at 3) is None
     ∷ record_breaks (load_at 3) for_loads
-    ∷ record_fault import_at is none
+    ∷ record_fault import_at is None
     ∷ record_breaks import_at (for_every_kind ++ for_multipliers ++ (4, 1) ∷ (6, 100001) ∷ (7, 1) ∷ (8, 1) ∷ [])
-    ∷ record_fault export_at is none
+    ∷ record_fault export_at is None
     ∷ record_breaks export_at (for_every_kind ++ (4, 100001) ∷ (6, 1) ∷ (7, 1) ∷ (8, 1) ∷ (9, 1) ∷ (10, 1) ∷ [])
     ∷ []
 
@@ -122,7 +121,7 @@ three_areas = 7 ∷ 2 ∷ 1 ∷ 3 ∷ 1 ∷ 0 ∷ 0 ∷ 0 ∷ 0 ∷ 2 ∷ 3 ∷ 
 
 unfoldable pub head_limits : List Case
 head_limits =
-    head_fault full_head is none
+    head_fault full_head is None
     -- counts
     ∷ head_breaks full_head ((9, 0) ∷ (9, 33) ∷ (10, 0) ∷ (10, 5) ∷ (11, 0) ∷ (11, 9) ∷ [])
     -- prices
@@ -135,14 +134,14 @@ head_limits =
     ∷ values_below (λ k. keeps (head_rule 4 8 (48 + k)) 1) 80 is replicate 80 false
     -- word 48 whatever the count of areas says
     ∷ keeps (head_rule 4 9 48) 1 is false
-    ∷ head_fault least_head is none
+    ∷ head_fault least_head is None
     -- the prices past their count, a zone that isn't there, the fourth word, and from the areas past their count on every word
     ∷ head_breaks least_head ((13, 1) ∷ (14, 1) ∷ (15, 1) ∷ (16, 1) ∷ (19, 1) ∷ (20, 1) ∷ (47, 1) ∷ [])
     ∷ values_below (λ k. keeps (head_rule 1 1 (20 + k)) 1) 108 is replicate 108 false
     -- prices are counted by zones, areas by areas
-    ∷ head_fault three_zones is none
+    ∷ head_fault three_zones is None
     ∷ head_breaks three_zones ((15, 1) ∷ (16, 3) ∷ (20, 1) ∷ (21, 1) ∷ (22, 1) ∷ (24, 1) ∷ [])
-    ∷ head_fault three_areas is none
+    ∷ head_fault three_areas is None
     ∷ head_breaks three_areas ((13, 1) ∷ (14, 1) ∷ (15, 1) ∷ (20, 1) ∷ (24, 1) ∷ (27, 1) ∷ (28, 1) ∷ (29, 1) ∷ [])
     ∷ []
 
@@ -217,14 +216,14 @@ zeros_in_front = (3, 1) ∷ (4, 1) ∷ (5, 1) ∷ (6, 1) ∷ []
 
 unfoldable pub block_limits : List Case
 block_limits =
-    block_fault 3 0 first_of_three is none
+    block_fault 3 0 first_of_three is None
     ∷ block_breaks 3 0 first_of_three ((0, 0) ∷ (0, 2) ∷ (1, 1) ∷ (2, 1) ∷ (2, 3) ∷ zeros_in_front)
-    ∷ block_fault 3 1 second_of_three is none
+    ∷ block_fault 3 1 second_of_three is None
     ∷ block_breaks 3 1 second_of_three ((0, 1) ∷ (0, 3) ∷ (1, 0) ∷ (1, 2) ∷ (2, 9) ∷ (2, 11) ∷ zeros_in_front)
-    ∷ block_fault 3 2 last_of_three is none
+    ∷ block_fault 3 2 last_of_three is None
     ∷ block_breaks 3 2 last_of_three ((0, 1) ∷ (0, 3) ∷ (1, 1) ∷ (1, 3) ∷ (2, 0) ∷ (2, 11) ∷ (20, 1) ∷ (127, 1) ∷ zeros_in_front)
     -- ten in the last block too
-    ∷ block_fault 3 2 (set last_of_three 2 10) is none
+    ∷ block_fault 3 2 (set last_of_three 2 10) is None
     -- past one record, words 20 to 127: none may be 1
     ∷ values_below (λ k. keeps (block_rule hourly 3 1 2 (20 + k)) 1) 108 is replicate 108 false
     ∷ []

@@ -1,7 +1,6 @@
 -- What is asked of an explanation, as statements about the definitions: the heads are the tariff's and add up to what settling writes into
 -- the member's line, the head named is the one that decided, and the refusals come in their order. Document 02, A5.
-use Rattle.std.specs.Prelude.{ℕ, ◌≤◌, ◌<◌, ◌≡◌, ◌↔◌, true, List, [], ◌∷◌, ℤ, pos, neg_ℤ, nat_abs, ◌*ℤ◌, get_or}
-use Rattle.std.proofs.Math.Option.{Option, none, some}
+use Rattle.std.specs.Prelude.{ℕ, ◌≤◌, ◌<◌, ◌≡◌, ◌↔◌, true, List, [], ◌∷◌, ℤ, pos, neg_ℤ, nat_abs, ◌*ℤ◌, get_or, Option, None, Some}
 use Rattle.whole.specs.Below.{total_below}
 use Rattle.rules.specs.Record.{Hour, members, zones, zone_price, entry_of, is_generator, is_load, is_import, is_export}
 use Rattle.rules.specs.Charge.{share_of}
@@ -38,15 +37,15 @@ pub record Explains (h : Hour) (m : ℕ) (amount charge : ℤ) (heads : List ℤ
   pub by_formula : heads ≡ tariff_heads h m
   pub add_up : total_below (head_at heads) 5 ≡ amount
   -- a head is named exactly if it decided
-  pub decides : (k : ℕ) → (decided ≡ some k) ↔ Decides charge heads k
+  pub decides : (k : ℕ) → (decided ≡ Some k) ↔ Decides charge heads k
   -- a charge other than zero always has one, and a charge of zero none
-  pub always_one : (charge ≡ pos 0 → ⊥) → (k : ℕ) × (decided ≡ some k)
-  pub none_for_zero : (decided ≡ none) ↔ (charge ≡ pos 0)
+  pub always_one : (charge ≡ pos 0 → ⊥) → (k : ℕ) × (decided ≡ Some k)
+  pub none_for_zero : (decided ≡ None) ↔ (charge ≡ pos 0)
 
 pub record Explaining : Type 0 where
   pub by_the_table : (s : List ℕ) (m : ℕ) → ByTheTable (explain_rows s m) (explain s m).verdict
   pub nothing_said : (s : List ℕ) (m : ℕ) → ((explain s m).verdict ≡ accepted → ⊥) →
-      ((explain s m).heads ≡ no_heads) × ((explain s m).decided ≡ none)
+      ((explain s m).heads ≡ no_heads) × ((explain s m).decided ≡ None)
   -- an hour that settling accepts, into any buffers, is explained to each of its members, by the line and the charge that settling wrote
   pub explained : (s : List ℕ) (b : Buffers) (m : ℕ) → Accepts s b → m < members (hour_in s) →
       ((explain s m).verdict ≡ accepted)

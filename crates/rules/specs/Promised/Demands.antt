@@ -1,9 +1,8 @@
 -- The customer's three demands as statements about the definitions, and that no second result fits. Minutes, demands 1 to 3.
-use Rattle.std.specs.Prelude.{ℕ, suc, ◌+◌, ◌*◌, ◌/◌, ◌%◌, ◌≤◌, ◌<◌, ◌≡◌, ◌↔◌, true, cond, not, ◌&&◌, List, [], ◌∷◌, ◌++◌, ℤ, pos, nat_abs, ◌+ℤ◌, ◌-ℤ◌, ◌*ℤ◌, length, drop, get_or, replicate, eqb}
-use Rattle.std.proofs.Math.Option.{none, some}
+use Rattle.std.specs.Prelude.{ℕ, suc, ◌+◌, ◌*◌, ◌/◌, ◌%◌, ◌≤◌, ◌<◌, ◌≡◌, ◌↔◌, true, cond, not, ◌&&◌, List, [], ◌∷◌, ◌++◌, ℤ, pos, nat_abs, ◌+ℤ◌, ◌-ℤ◌, ◌*ℤ◌, length, drop, get_or, replicate, eqb, None, Some, Result}
 use Rattle.whole.specs.Below.{sum_below, total_below, product_below}
 use Rattle.whole.specs.Signed.{with_sign_of}
-use Rattle.rules.specs.declared.Settled.{Settled}
+use Rattle.rules.specs.declared.Refusal.{Refusal}
 use Rattle.rules.specs.Record.{Hour, members, zones, areas, price, member_of, area_of, entry_of, is_load}
 use Rattle.rules.specs.Ufe.{in_area, ufe, demand, area_demand}
 use Rattle.rules.specs.Share.{ranked_size}
@@ -12,7 +11,7 @@ use Rattle.rules.specs.Neutrality.{final}
 use Rattle.rules.specs.Text.{bytes, digit_byte, amount_text, amount_field}
 use Rattle.rules.specs.HourFile.{hour_in}
 use Rattle.rules.specs.Refusals.{Row, row, Verdict, accepted, refused_at, verdict_of, verdict, hour_rows, write_amount_rows, read_amount_rows, Buffers, settle_rows}
-use Rattle.rules.specs.Settling.{settle, no_figures, write, read, empty_line}
+use Rattle.rules.specs.Settling.{settle, no_figures, figures_of, write, read, empty_line}
 use Rattle.rules.specs.Statement.{member_line}
 use Rattle.rules.specs.Promised.Tariff.{dev_as, ufe_of_territory, IEC}
 use Rattle.rules.specs.Promised.Rounding.{Nearest}
@@ -26,13 +25,13 @@ Accepts s b = (settle s b).verdict ≡ accepted
 -- every row is whole
 abbrev pub AllWhole : List Row → Type 0
 AllWhole [] = Unit {0}
-AllWhole (row n broken ∷ rows) = (broken ≡ none) × AllWhole rows
+AllWhole (row n broken ∷ rows) = (broken ≡ None) × AllWhole rows
 
 -- a row of this number is broken at this place, and every row before it is whole
 pub record FirstBrokenRow (rows : List Row) (number place : ℕ) : Type 0 where
   pub before : List Row
   pub after : List Row
-  pub in_order : rows ≡ before ++ row number (some place) ∷ after
+  pub in_order : rows ≡ before ++ row number (Some place) ∷ after
   pub whole_before : AllWhole before
 
 -- a verdict given exactly as a table says
@@ -156,10 +155,10 @@ Demand3 = (s : List ℕ) (b : Buffers) → Accepts s b → FairOutcome (hour_in 
 -- ---- no second result fits
 
 -- what settling answered and left behind is what `settle` says
-pub record Fits (s : List ℕ) (b : Buffers) (answered : Settled) (after : Buffers) : Type 0 where
-  pub verdict_is : verdict_of answered.answer ≡ (settle s b).verdict
-  pub ufe_is : answered.ufe ≡ (settle s b).ufe
+pub record Fits (s : List ℕ) (b : Buffers) (answered : Result (List ℤ) Refusal) (after : Buffers) : Type 0 where
+  pub verdict_is : verdict_of answered ≡ (settle s b).verdict
+  pub ufe_is : figures_of answered ≡ (settle s b).ufe
   pub buffers_are : after ≡ (settle s b).buffers
 
 abbrev pub OneSettlement : Type 0
-OneSettlement = (s : List ℕ) (b : Buffers) (r t : Settled) (x y : Buffers) → Fits s b r x → Fits s b t y → (r ≡ t) × (x ≡ y)
+OneSettlement = (s : List ℕ) (b : Buffers) (r t : Result (List ℤ) Refusal) (x y : Buffers) → Fits s b r x → Fits s b t y → (r ≡ t) × (x ≡ y)

@@ -1,7 +1,6 @@
 -- What is asked of the finals, as statements about the definitions: they add up to nothing, and the sheet tells them.
 -- Document 02, A1.
-use Rattle.std.specs.Prelude.{ℕ, suc, ◌+◌, ◌*◌, ◌<◌, ◌≡◌, ◌↔◌, true, List, [], ◌∷◌, ◌++◌, ℤ, pos, nat_abs, ◌-ℤ◌, ◌*ℤ◌, length, take, drop, get_or}
-use Rattle.std.proofs.Math.Option.{some}
+use Rattle.std.specs.Prelude.{ℕ, suc, ◌+◌, ◌*◌, ◌<◌, ◌≡◌, ◌↔◌, true, List, [], ◌∷◌, ◌++◌, ℤ, pos, nat_abs, ◌-ℤ◌, ◌*ℤ◌, length, take, drop, get_or, Some}
 use Rattle.whole.specs.Below.{sum_below, total_below}
 use Rattle.whole.specs.Signed.{with_sign_of}
 use Rattle.rules.specs.Record.{Hour, hour_number, members, areas, entry_of, is_load}
@@ -78,9 +77,9 @@ final_column m sheet = take 14 (drop 18 (member_line_at m sheet))
 -- line 1: six words, three of them numbers
 pub record SaysCounts (line : List ℕ) (hour memberCount record_count : ℕ) : Type 0 where
   pub six_words : length (words_of line) ≡ 6
-  pub hour_said : (word_at line 0 ≡ bytes "hour") × (natural_in (word_at line 1) ≡ some hour)
-  pub members_said : (word_at line 2 ≡ bytes "members") × (natural_in (word_at line 3) ≡ some memberCount)
-  pub records_said : (word_at line 4 ≡ bytes "records") × (natural_in (word_at line 5) ≡ some record_count)
+  pub hour_said : (word_at line 0 ≡ bytes "hour") × (natural_in (word_at line 1) ≡ Some hour)
+  pub members_said : (word_at line 2 ≡ bytes "members") × (natural_in (word_at line 3) ≡ Some memberCount)
+  pub records_said : (word_at line 4 ≡ bytes "records") × (natural_in (word_at line 5) ≡ Some record_count)
 
 -- two files of which the same is to be said: refused alike, or the same hour number and counts, and the same charges and finals
 pub record SameSheet (s t : List ℕ) : Type 0 where
@@ -100,7 +99,7 @@ pub record Shows (h : Hour) (chargeAt finalAt : ℕ → ℤ) (sheet : List ℕ) 
   -- two digits, a blank, 14 columns, a blank, 14 columns
   pub in_columns : (m : ℕ) → m < members h → let line = member_line_at m sheet in
       (length line ≡ 32) × (get_or line 2 0 ≡ 32) × (get_or line 17 0 ≡ 32)
-  pub member_shown : (m : ℕ) → m < members h → natural_in (take 2 (member_line_at m sheet)) ≡ some m
+  pub member_shown : (m : ℕ) → m < members h → natural_in (take 2 (member_line_at m sheet)) ≡ Some m
   pub charge_shown : (m : ℕ) → m < members h → read (charge_column m sheet) ≡ record { verdict = accepted; amount = chargeAt m }
   pub final_shown : (m : ℕ) → m < members h → read (final_column m sheet) ≡ record { verdict = accepted; amount = finalAt m }
 

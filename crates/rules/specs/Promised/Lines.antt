@@ -1,7 +1,7 @@
 -- Printed texts read a second way: cut at line feeds and at blanks, whatever put them together. What a refusal's line says.
 -- Document 01, "The printed statement".
-use Rattle.std.specs.Prelude.{ℕ, ◌≡◌, true, false, cond, ◌&&◌, List, [], ◌∷◌, ℤ, length, get_or, leb, eqb}
-use Rattle.std.proofs.Math.Option.{Option, none, some, bind}
+use Rattle.std.specs.Prelude.{ℕ, ◌≡◌, true, false, cond, ◌&&◌, List, [], ◌∷◌, ℤ, length, get_or, leb, eqb, Option, None, Some}
+use Rattle.rules.specs.Text.{bind}
 use Rattle.rules.specs.Text.{bytes, digit_count, digits_value, with_minus}
 use Rattle.rules.specs.Refusals.{Verdict}
 
@@ -33,10 +33,10 @@ word_at line k = get_or (words_of line) k []
 -- ---- a number: digits and nothing else, one at least, and - (45) before them if it is negative
 
 unfoldable pub natural_in : List ℕ → Option ℕ
-natural_in s = cond (leb 1 (length s) && eqb (digit_count s) (length s)) (some (digits_value s (length s))) none
+natural_in s = cond (leb 1 (length s) && eqb (digit_count s) (length s)) (Some (digits_value s (length s))) None
 
 unfoldable pub number_in : List ℕ → Option ℤ
-number_in [] = none
+number_in [] = None
 number_in (c ∷ s) = cond (eqb c 45) (bind (natural_in s) (with_minus true)) (bind (natural_in (c ∷ s)) (with_minus false))
 
 -- ---- a refusal: one line and nothing else, of four words
@@ -46,6 +46,6 @@ pub record SaysRefused (text : List ℕ) (v : Verdict) : Type 0 where
   pub nothing_else : line_at text 1 ≡ []
   pub four_words : length (words_of (line_at text 0)) ≡ 4
   pub refused_is : word_at (line_at text 0) 0 ≡ bytes "refused"
-  pub number_read : natural_in (word_at (line_at text 0) 1) ≡ some v.number
+  pub number_read : natural_in (word_at (line_at text 0) 1) ≡ Some v.number
   pub at_is : word_at (line_at text 0) 2 ≡ bytes "at"
-  pub place_read : natural_in (word_at (line_at text 0) 3) ≡ some v.place
+  pub place_read : natural_in (word_at (line_at text 0) 3) ≡ Some v.place

@@ -1,7 +1,6 @@
 -- The lines that an explanation prints, read as `Lines` reads them, whatever put them together. What is read is what was answered, and it is
 -- tied to what settling wrote. Document 02, A5.
-use Rattle.std.specs.Prelude.{ℕ, ◌<◌, ◌≤◌, ◌≡◌, ◌↔◌, cond, List, [], ◌∷◌, ℤ, pos, length, get_or, ltb}
-use Rattle.std.proofs.Math.Option.{Option, none, some}
+use Rattle.std.specs.Prelude.{ℕ, ◌<◌, ◌≤◌, ◌≡◌, ◌↔◌, cond, List, [], ◌∷◌, ℤ, pos, length, get_or, ltb, Option, None, Some}
 use Rattle.rules.specs.Record.{members}
 use Rattle.rules.specs.Text.{bytes}
 use Rattle.rules.specs.HourFile.{hour_in}
@@ -20,14 +19,14 @@ abbrev pub name_at : ℕ → List ℕ
 name_at k = get_or (bytes "generation" ∷ bytes "load" ∷ bytes "import" ∷ bytes "export" ∷ bytes "share" ∷ []) k []
 
 abbrev pub name_or_none : Option ℕ → List ℕ
-name_or_none none = bytes "none"
-name_or_none (some k) = name_at k
+name_or_none None = bytes "none"
+name_or_none (Some k) = name_at k
 
 -- a line of two words: this one and a number
 pub record SaysNumber (line word : List ℕ) (number : ℤ) : Type 0 where
   pub two_words : length (words_of line) ≡ 2
   pub word_is : word_at line 0 ≡ word
-  pub number_read : number_in (word_at line 1) ≡ some number
+  pub number_read : number_in (word_at line 1) ≡ Some number
 
 -- a text that says these five heads and which of them decided
 pub record SaysHeads (text : List ℕ) (heads : List ℤ) (decided : Option ℕ) : Type 0 where
@@ -36,13 +35,13 @@ pub record SaysHeads (text : List ℕ) (heads : List ℤ) (decided : Option ℕ)
   pub nothing_else : line_at text 6 ≡ []
   pub five_heads : length heads ≡ 5
   pub head_said : (k : ℕ) → k < 5 → SaysNumber (line_at text k) (name_at k) (head_at heads k)
-  pub one_of_five : (k : ℕ) → decided ≡ some k → k < 5
+  pub one_of_five : (k : ℕ) → decided ≡ Some k → k < 5
   pub decided_said : words_of (line_at text 5) ≡ bytes "decided" ∷ name_or_none decided ∷ []
 
 -- what is answered to the program's input; without four bytes of member number it is 1
 unfoldable pub answer_to : List ℕ → Explanation
 answer_to s = cond (ltb (length s) 4)
-    (record { verdict = refused_at 1 0; heads = no_heads; decided = none })
+    (record { verdict = refused_at 1 0; heads = no_heads; decided = None })
     (explain (hour_asked s) (member_asked s))
 
 pub record SixLines : Type 0 where

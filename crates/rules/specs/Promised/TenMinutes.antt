@@ -1,7 +1,6 @@
 -- What is asked of ten-minute settlement, as statements about the definitions: refusals, charges by 000, D 2.1.1, half a cent, one fact for
 -- all six intervals, ramp parts that cancel, and a sheet that tells the charges. Document 02, A7.
-use Rattle.std.specs.Prelude.{ℕ, suc, ◌+◌, ◌≤◌, ◌<◌, ◌≡◌, true, List, [], ℤ, pos, nat_abs, ◌+ℤ◌, ◌-ℤ◌, ◌*ℤ◌, length, take, drop, get_or}
-use Rattle.std.proofs.Math.Option.{some}
+use Rattle.std.specs.Prelude.{ℕ, suc, ◌+◌, ◌≤◌, ◌<◌, ◌≡◌, true, List, [], ℤ, pos, nat_abs, ◌+ℤ◌, ◌-ℤ◌, ◌*ℤ◌, length, take, drop, get_or, Some}
 use Rattle.whole.specs.Below.{total_below}
 use Rattle.rules.specs.Record.{Hour, hour_number, members}
 use Rattle.rules.specs.Deviation.{deviation}
@@ -73,7 +72,7 @@ pub record ShowsCharges (h : Hour) (chargeAt : ℕ → ℤ) (sheet : List ℕ) :
   pub nothing_else : line_at sheet (suc (members h)) ≡ []
   -- two digits, a blank, 14 columns
   pub in_columns : (m : ℕ) → m < members h → let line = member_line_at m sheet in (length line ≡ 17) × (get_or line 2 0 ≡ 32)
-  pub member_shown : (m : ℕ) → m < members h → natural_in (take 2 (member_line_at m sheet)) ≡ some m
+  pub member_shown : (m : ℕ) → m < members h → natural_in (take 2 (member_line_at m sheet)) ≡ Some m
   pub charge_shown : (m : ℕ) → m < members h → read (charge_column m sheet) ≡ record { verdict = accepted; amount = chargeAt m }
 
 pub record TenMinutesSheet : Type 0 where

@@ -1,52 +1,37 @@
 -- `tenminutes::settle` meets its contract: refused, nothing is touched; accepted, every member has its charge.
-use mathlib.Core.Path.{◌≡◌, sym, ◌∙◌, ap}
-use mathlib.Core.List.{List}
-use Prim.Native.Nat.{ℕ}
+use mathlib.Core.Path.{sym, ◌∙◌, ap}
 use native.Mathlib.Omega.{arith}
-use Rattle.rules.specs.declared.Answer.{Answer}
-use Rattle.rules.specs.declared.Answer.TheVariants.{Accepted}
-use Rattle.rules.specs.Ranges.{ten_minutes_form}
-use Rattle.rules.specs.Refusals.{accepted, verdict_of, verdict, form_rows}
+use Rattle.std.proofs.lemmas.Result.{err_from_is_err_and}
+use Rattle.whole.specs.Below.{replacing_first}
+use Rattle.rules.specs.Record.{members}
+use Rattle.rules.specs.TenMinutes.{ten_minutes_in, ten_minutes_charge}
 use Rattle.tenminutes.proofs.Settled.{file_refused, kept, too_short, all_charged}
 use Rattle.tenminutes.proofs.settle.Goals as goal
 
--- rows 1 to 5 are passed
-passed : (s : List ℕ) {a : Answer} → a ≡ Accepted → verdict_of a ≡ verdict (form_rows ten_minutes_form s) →
-    verdict (form_rows ten_minutes_form s) ≡ accepted
-passed s a e = sym e ∙ ap verdict_of a
+-- rows 1 to 5
+pub returns-in_err-examine_ten_minutes : goal.returns-in_err-examine_ten_minutes
+returns-in_err-examine_ten_minutes c =
+    let as_told = file_refused c.args.file.now c.args.charges.now _ c.in_err-examine_ten_minutes.ensures in
+    let p = err_from_is_err_and c.from_residual.result c.from_residual.ensures.1 in
+    rw (p.1, p.2) (record { verdict = as_told.verdict_is; charges = as_told.charges_are })
 
--- return examined
-pub returns-in_default : goal.returns-in_default
-returns-in_default c =
-    let as-told = file_refused c.args.file.now c.args.charges.now c.examine_ten_minutes-examined.result c.examine_ten_minutes-examined.ensures
-    c.in_default.not-Accepted in
-    record {
-      verdict = as-told.verdict_is;
-      charges = as-told.charges_are;
-    }
+pub new-hour-requires : goal.new-hour-requires
+new-hour-requires c = kept c.args.file.now c.args.charges.now (sym c.in_ok-examine_ten_minutes.ensures)
 
-pub head_word-members-requires : goal.head_word-members-requires
-head_word-members-requires c = (kept c.args.file.now c.args.charges.now (passed _ c.in-Accepted.is c.examine_ten_minutes-examined.ensures), omega arith, omega arith)
+-- Err(Refusal::TooShort)
+pub returns-then-charges-hour : goal.returns-then-charges-hour
+returns-then-charges-hour c =
+    let members_are = c.new-hour.result.members_are ∙ ap (λ s. members (ten_minutes_in s)) c.new-hour.ensures in
+    let as_told = too_short c.args.file.now c.args.charges.now (sym c.in_ok-examine_ten_minutes.ensures)
+    (omega (arith, members_are, c.if-charges-hour.true)) in
+    record { verdict = as_told.verdict_is; charges = as_told.charges_are }
 
--- return Answer::TooShort
-pub returns-then-charges-members : goal.returns-then-charges-members
-returns-then-charges-members c =
-    let as-told = too_short c.args.file.now c.args.charges.now (passed _ c.in-Accepted.is c.examine_ten_minutes-examined.ensures) (omega (arith, c.head_word-members.ensures, c.if-charges-members.true)) in
-    record {
-      verdict = as-told.verdict_is;
-      charges = as-told.charges_are;
-    }
-
-pub put_charges-requires : goal.put_charges-requires
-put_charges-requires c =
-    (kept c.args.file.now c.args.charges.now (passed _ c.in-Accepted.is c.examine_ten_minutes-examined.ensures), c.head_word-members.ensures, omega (arith, c.head_word-members.ensures, c.if-charges-members.false))
-
--- Answer::Accepted
+-- Ok(())
 pub returns : goal.returns
 returns c =
-    let as-told = all_charged c.args.file.now c.args.charges.now (passed _ c.in-Accepted.is c.examine_ten_minutes-examined.ensures) (omega (arith, c.head_word-members.ensures, c.if-charges-members.false))
-    c.put_charges.ensures in
-    record {
-      verdict = as-told.verdict_is;
-      charges = as-told.charges_are;
-    }
+    let members_are = c.new-hour.result.members_are ∙ ap (λ s. members (ten_minutes_in s)) c.new-hour.ensures in
+    let put = c.put_charges.ensures
+    ∙ ap (λ s. replacing_first (ten_minutes_charge (ten_minutes_in s)) (members (ten_minutes_in s)) c.args.charges.now) c.new-hour.ensures in
+    let as_told = all_charged c.args.file.now c.args.charges.now (sym c.in_ok-examine_ten_minutes.ensures)
+    (omega (arith, members_are, c.if-charges-hour.false)) put in
+    record { verdict = as_told.verdict_is; charges = as_told.charges_are }

@@ -1,10 +1,10 @@
--- `amount::writing::put` meets its contract: in either case the text ends where the field does.
+-- In either case the text ends where the field does.
 use Prim.Native.Nat.{ℕ, ◌+◌, ◌-◌, ◌≤◌, ◌<◌}
-use mathlib.Core.Path.{◌≡◌, ◌∙◌}
+use mathlib.Core.Path.{◌≡◌, ◌∙◌, ap}
 use mathlib.Core.List.{List, ◌++◌}
 use native.Mathlib.Omega.{arith}
 use lib.ListN.{length, drop, replicate, length-append, length-replicate, length-drop}
-use lib.Seq.{sets, take_at}
+use lib.Seq.{sets, take_at, length-take-le}
 use Rattle.whole.proofs.Stores.{stored_to_the_end}
 use Rattle.amount.proofs.writing.put.Goals as goal
 
@@ -34,14 +34,12 @@ module _ (f t : List ℕ) (whole : length t ≡ 20) where
 
 -- return, where width < 14
 pub returns-then-width-lt14 : goal.returns-then-width-lt14
-returns-then-width-lt14 c =
-    let s = c in
-    in-narrower s.args.field.now s.args.text.now s.requires (omega arith) c.put_text.ensures
+returns-then-width-lt14 c = in-narrower c.args.field.now c.args.text.now c.told-text (omega arith) c.put_text.ensures
 
 -- text::put_text(field, width, text, 14), at the end
 pub returns : goal.returns
 returns c =
-    let s = c in
-    c.put_text-2.ensures
-    ∙ rw c.put_blanks.ensures
-    (in-wider s.args.field.now s.args.text.now s.requires (omega arith))
+    let f = c.args.field.now in
+    let blank : c.fill.new.self ≡ replicate (length f - 14) 32 = c.fill.ensures.after (λ y e. e)
+    ∙ ap (λ (n : ℕ). replicate {A = ℕ} n 32) (length-take-le (length f - 14) f (omega arith)) in
+    c.put_text-2.ensures ∙ rw blank (in-wider f c.args.text.now c.told-text (omega arith))

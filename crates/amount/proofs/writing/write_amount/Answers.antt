@@ -1,4 +1,4 @@
--- `amount::writing::write_amount` meets its contract: cents, dollars and sign are stored one before the other, from the text's end.
+-- Cents, dollars and sign are stored one before the other, from the text's end.
 use Prim.Native.Nat.{ℕ, zero, suc, ◌+◌, ◌-◌, ◌/◌, ◌%◌, ◌≤◌, ◌<◌}
 use mathlib.Core.Path.{◌≡◌, refl, sym, ◌∙◌, ap}
 use mathlib.Core.List.{List, [], ◌∷◌, ◌++◌}
@@ -12,7 +12,7 @@ use Rattle.whole.proofs.Stores.{stored_to_the_end}
 use Rattle.rules.specs.Text.{amount_field, amount_text, decimal, digit_byte, sign_byte}
 use Rattle.rules.proofs.Text.{text_length, text_fits_14}
 use Rattle.amount.proofs.writing.write_amount.Goals as goal
-use Rattle.amount.proofs.writing.write_amount.Goals.{After-size_of-size}
+use Rattle.amount.proofs.writing.write_amount.Goals.{After-unsigned_abs-size}
 
 -- ---- the stores make the text
 
@@ -72,18 +72,18 @@ module _ (z : ℤ) (short : length (amount_text z) ≤ 14) where
 -- ---- the needs
 
 -- the size that the code computes, and how many digits its dollars have
-sized : (c : goal.After-size_of-size) → c.size_of-size.result ≡ nat_abs c.args.cents
-sized c = c.size_of-size.ensures ∙ ap nat_abs (read_back c.ranges.cents)
+sized : (c : goal.After-unsigned_abs-size) → c.unsigned_abs-size.result ≡ nat_abs c.args.cents
+sized c = c.unsigned_abs-size.ensures.value ∙ ap nat_abs (read_back c.ranges.cents)
 
-few : (c : goal.After-size_of-size) → length (decimal (c.size_of-size.result / 100)) ≤ 10
+few : (c : goal.After-unsigned_abs-size) → length (decimal (c.unsigned_abs-size.result / 100)) ≤ 10
 few c = let z = c.args.cents in rw (sized c) (omega (arith, text_fits_14 z c.requires.0, text_length z))
 
 pub write_digits-at-requires : goal.write_digits-at-requires
-write_digits-at-requires c = omega (arith, few (goal.at.write_digits-at-requires c).After-size_of-size)
+write_digits-at-requires c = omega (arith, few (goal.at.write_digits-at-requires c).After-unsigned_abs-size)
 
 -- text::write_digits(text, 17, dollars) - 1
 pub overflow_sub-at : goal.overflow_sub-at
-overflow_sub-at c = omega (arith, c.write_digits-at.ensures.first, few (goal.at.overflow_sub-at c).After-size_of-size)
+overflow_sub-at c = omega (arith, c.write_digits-at.ensures.first, few (goal.at.overflow_sub-at c).After-unsigned_abs-size)
 
 pub returns : goal.returns
 returns c =
@@ -98,7 +98,7 @@ returns c =
       read_back s.ranges.cents,
       c.last_digit-2.ensures,
       c.last_digit.ensures,
-      sized (goal.at.returns c).After-size_of-size,
+      sized (goal.at.returns c).After-unsigned_abs-size,
       s.requires.1,
     )
     record {

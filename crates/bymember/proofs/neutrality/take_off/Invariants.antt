@@ -1,5 +1,4 @@
--- The places passed hold charges less shares.
-use Prim.Native.Nat.{◌-◌}
+-- `bymember::neutrality::take_off` meets its contract. The loop's invariant: the places passed hold charges less shares.
 use lib.ListN.{length}
 use Rattle.whole.proofs.Filling.{Filled}
 use Rattle.bymember.specs.Charged.{less_share}
@@ -7,6 +6,3 @@ use Rattle.bymember.proofs.neutrality.take_off.Given as goal
 
 abbrev pub invariant-loop-m : goal.invariant-loop-m
 invariant-loop-m l = Filled (less_share l.charges l.all l.sizes) (length l.sizes) l.m l.initial.finals l.finals
-
-abbrev pub decreases-loop-m : goal.decreases-loop-m
-decreases-loop-m l = length l.sizes - l.m

@@ -11,7 +11,7 @@ use Rattle.whole.proofs.Machine.{read_back}
 use Rattle.rules.specs.Ufe.{ufe}
 use Rattle.share.specs.Shareable.{shares_in}
 use Rattle.share.proofs.Shared.{shared_first}
-use Rattle.rules.specs.HourFile.{hour_in}
+use Rattle.hour.specs.Held.{held}
 use Rattle.byrecord.specs.Shared.{with_sizes}
 use Rattle.byrecord.proofs.Areas.{nothing_to_write, Asked, loads_fit, shareable, sized, area_shared}
 use Rattle.byrecord.proofs.shares.share_area.Goals as goal
@@ -19,11 +19,11 @@ use Rattle.byrecord.proofs.shares.share_area.Goals.{After-put_demands-loads, Aft
 
 -- the demands are put
 asked : (c : goal.After-put_demands-loads) →
-    Asked c.args.file.now c.args.a c.args.figure c.args.room.now c.args.out.now c.put_demands-loads.result c.put_demands-loads.new.demands
-asked c = record { up_to = c.requires; counted = c.put_demands-loads.ensures.0; holds = c.put_demands-loads.ensures.1 }
+    Asked c.args.hour.now c.args.a c.args.figure c.args.room.now c.args.out.now c.put_demands-loads.result c.put_demands-loads.new.demands
+asked c = record { up_to = c.requires; counted = c.put_demands-loads.ensures.loads; holds = c.put_demands-loads.ensures.demands }
 
 -- the size that the engine is asked to share is the UFE's
-size_is : (c : goal.After-size_of) → c.size_of.result ≡ nat_abs (ufe (hour_in c.args.file.now) c.args.a)
+size_is : (c : goal.After-size_of) → c.size_of.result ≡ nat_abs (ufe (held c.args.hour.now) c.args.a)
 size_is c = c.size_of.ensures ∙ ap nat_abs (read_back c.ranges.figure ∙ c.requires.figure_of)
 
 -- what the engine leaves in the room, asked for that size
@@ -60,7 +60,7 @@ put_area-requires c =
 pub returns : goal.returns
 returns c =
     let asked-at = asked (goal.at.returns c).After-put_demands-loads in
-    let hour = hour_in c.args.file.now in
+    let hour = held c.args.hour.now in
     let out = c.args.out.now in
     let got = c.share_in_place.new.places ++ drop c.put_demands-loads.result c.put_demands-loads.new.demands in
     area_shared asked-at (shared _ _ _ _ (loads_fit asked-at) (size_is (goal.at.returns c).After-size_of) c.share_in_place.ensures) (

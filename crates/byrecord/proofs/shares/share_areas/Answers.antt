@@ -5,23 +5,23 @@ use Rattle.byrecord.proofs.Hour.{none_shared, area_place, shared_so_far, next_ar
 use Rattle.byrecord.proofs.shares.share_areas.Goals as goal
 
 pub loop-a-init : goal.loop-a-init
-loop-a-init c = none_shared c.requires.0
+loop-a-init c = none_shared c.requires
 
 -- the offset of figures[a]
 pub offset_bounds-figures-a : goal.offset_bounds-figures-a
-offset_bounds-figures-a c = omega (arith, area_place c.requires.0 c.loop-a.a (omega arith))
+offset_bounds-figures-a c = omega (arith, area_place c.requires c.loop-a.a (omega (arith, c.args.hour.now.areas_are)))
 
 -- figures[a]
 pub bounds-figures-a : goal.bounds-figures-a
-bounds-figures-a c = area_place c.requires.0 c.loop-a.a (omega arith)
+bounds-figures-a c = area_place c.requires c.loop-a.a (omega (arith, c.args.hour.now.areas_are))
 
 pub share_area-requires : goal.share_area-requires
 share_area-requires c =
-    let up = shared_so_far c.requires.0 c.loop-a.invariant (omega arith) in rw (figure_read up) up
+    let up = shared_so_far c.requires c.loop-a.invariant (omega (arith, c.args.hour.now.areas_are)) in rw (figure_read up) up
 
 pub loop-a-preserved : goal.loop-a-preserved
 loop-a-preserved c =
-    next_area c.requires.0 c.loop-a.invariant (omega arith) c.share_area.ensures c.share_area.auto.room
+    next_area c.requires c.loop-a.invariant (omega (arith, c.args.hour.now.areas_are)) c.share_area.ensures c.share_area.auto.room
 
 pub returns : goal.returns
-returns c = all_shared c.requires.0 c.loop-a.invariant (omega arith)
+returns c = all_shared c.requires c.loop-a.invariant (omega (arith, c.args.hour.now.areas_are))

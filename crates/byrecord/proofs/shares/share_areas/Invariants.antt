@@ -1,10 +1,6 @@
 -- `byrecord::shares::share_areas` meets its contract. The loop's invariant: the areas passed are shared, and every other record has 0.
-use Prim.Native.Nat.{◌-◌}
 use Rattle.byrecord.proofs.Hour.{AreasShared}
 use Rattle.byrecord.proofs.shares.share_areas.Given as goal
 
 abbrev pub invariant-loop-a : goal.invariant-loop-a
-invariant-loop-a l = AreasShared l.file l.a l.initial.out l.room l.out
-
-abbrev pub decreases-loop-a : goal.decreases-loop-a
-decreases-loop-a l = l.areas - l.a
+invariant-loop-a l = AreasShared l.hour l.a l.initial.out l.room l.out

@@ -1,14 +1,11 @@
--- `examine::search::bad_head` meets its contract. The loop's invariant: no word passed breaks its rule. From the end of the words in use on
--- the test is for zero.
-use mathlib.Core.Path.{◌≡◌}
-use mathlib.Core.Option.{none}
-use Prim.Native.Nat.{◌-◌, ◌≤◌}
+-- `examine::search::bad_head`. The loops' invariant: no word passed breaks its rule.
+use Rattle.std.proofs.Common.{◌≡◌, None}
 use Rattle.whole.specs.Below.{first_below}
-use Rattle.examine.proofs.Sources.{head_bad}
+use Rattle.examine.proofs.Head.{head_broken}
 use Rattle.examine.proofs.search.bad_head.Given as goal
 
 abbrev pub invariant-loop-w : goal.invariant-loop-w
-invariant-loop-w l = (9 ≤ l.w) × (l.w ≤ l.end) × (first_below (head_bad l.mode l.source l.body l.head) l.w ≡ none)
+invariant-loop-w g l = first_below (head_broken g.H.Form.Form.form (g.H.HourWords.hour l.hour)) l.w ≡ None
 
-abbrev pub decreases-loop-w : goal.decreases-loop-w
-decreases-loop-w l = l.end - l.w
+abbrev pub invariant-loop-w-2 : goal.invariant-loop-w-2
+invariant-loop-w-2 g l = first_below (head_broken g.H.Form.Form.form (g.H.HourWords.hour l.hour)) l.w ≡ None

@@ -1,21 +1,12 @@
--- By the charge's sign.
-use Rattle.whole.proofs.Machine.{read_back}
-use Rattle.explain.proofs.Signs.{above_sign, below_sign, no_sign}
+-- `explain::heads::same_sign` meets its contract: a charge other than zero has a sign.
+use Rattle.whole.proofs.Machine.{read_back, zero_bits}
+use Rattle.explain.proofs.Signs.{signs_alike, zero_has_none}
 use Rattle.explain.proofs.heads.same_sign.Goals as goal
 
--- return 0 < head
-pub returns-then-charge-gt0 : goal.returns-then-charge-gt0
-returns-then-charge-gt0 c =
-    rw (read_back c.ranges.head) (above_sign c.args.charge c.args.head (rw (read_back c.ranges.charge) at c.if-charge-gt0.true))
+pub returns-then-charge-ne0 : goal.returns-then-charge-ne0
+returns-then-charge-ne0 c =
+    rw (c.signum.ensures.value, c.signum-then-charge-ne0.ensures.value, read_back c.ranges.charge, read_back c.ranges.head)
+    (signs_alike c.args.charge c.args.head (λ z. c.if-charge-ne0.true (rw z)))
 
--- return head < 0
-pub returns-then-charge-lt0 : goal.returns-then-charge-lt0
-returns-then-charge-lt0 c =
-    rw (read_back c.ranges.head) (below_sign c.args.charge c.args.head (rw (read_back c.ranges.charge) at c.if-charge-lt0.true))
-
-pub returns : goal.returns
-returns c = no_sign
-    c.args.charge
-    c.args.head
-    (rw (read_back c.ranges.charge) at c.if-charge-gt0.false)
-    (rw (read_back c.ranges.charge) at c.if-charge-lt0.false)
+pub returns-else-charge-ne0 : goal.returns-else-charge-ne0
+returns-else-charge-ne0 c = rw (zero_bits c.ranges.charge c.if-charge-ne0.false) (zero_has_none c.args.head)

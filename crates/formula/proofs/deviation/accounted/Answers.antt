@@ -1,4 +1,5 @@
 -- `formula::deviation::accounted` meets its contract: every step fits, and so what is stored is what is meant.
+use mathlib.Core.Logic.{◌⊎◌, inl, inr}
 use mathlib.Core.Path.{◌≡◌, refl, sym, ◌∙◌, ap}
 use lib.IntN.{ℤ, pos, +ℤ_idl}
 use Rattle.whole.proofs.Machine.{Num, #, ◌:-◌, ◌:*◌, fits, stored}
@@ -29,35 +30,32 @@ told : (r : Entry) (k : Kind) → r.kind ≡ k → {z : ℤ} → z ≡ accounted
 unfolding accounted
 told r k e f = f ∙ sym (ap (λ (x : Kind). accounted_as x r.A r.H) e)
 
+-- two kinds that add the same
+told_both : (r : Entry) (k l : Kind) → (r.kind ≡ k) ⊎ (r.kind ≡ l) → {z : ℤ} → z ≡ accounted_as k r.A r.H → z ≡ accounted_as l r.A r.H →
+    z ≡ accounted r
+told_both r k l (inl e) f g = told r k e f
+told_both r k l (inr e) f g = told r l e g
+
 -- Kind::Generator => metered - lost
 pub returns-in-Generator : goal.returns-in-Generator
 unfolding accounted_as
 returns-in-Generator c = told _ Generator c.in-Generator.is (stored (metered c.requires :- lost c.requires) tt)
 
--- Kind::RealTimeLoad => -metered
+-- Kind::RealTimeLoad | Kind::ProfileLoad => -metered
 pub returns-in-RealTimeLoad : goal.returns-in-RealTimeLoad
 unfolding accounted_as
-returns-in-RealTimeLoad c = told _ RealTimeLoad c.in-RealTimeLoad.is (stored (# (pos 0) :- metered c.requires) tt ∙ +ℤ_idl _)
-
--- Kind::ProfileLoad => -metered
-pub returns-in-ProfileLoad : goal.returns-in-ProfileLoad
-unfolding accounted_as
-returns-in-ProfileLoad c = told _ ProfileLoad c.in-ProfileLoad.is (stored (# (pos 0) :- metered c.requires) tt ∙ +ℤ_idl _)
+returns-in-RealTimeLoad c = let f = stored (# (pos 0) :- metered c.requires) tt ∙ +ℤ_idl _ in
+    told_both _ RealTimeLoad ProfileLoad c.in-RealTimeLoad.is f f
 
 -- Kind::Import => -lost
 pub returns-in-Import : goal.returns-in-Import
 unfolding accounted_as
 returns-in-Import c = told _ Import c.in-Import.is (stored (# (pos 0) :- lost c.requires) tt ∙ +ℤ_idl _)
 
--- Kind::Export => 0
+-- Kind::Export | Kind::Unknown => 0
 pub returns-in-Export : goal.returns-in-Export
 unfolding accounted_as
-returns-in-Export c = told _ Export c.in-Export.is refl
-
--- Kind::Unknown => 0
-pub returns-in-Unknown : goal.returns-in-Unknown
-unfolding accounted_as
-returns-in-Unknown c = told _ Unknown c.in-Unknown.is refl
+returns-in-Export c = told_both _ Export Unknown c.in-Export.is refl refl
 
 -- r.a * (10000 - r.h)
 pub overflow_mul-lost : goal.overflow_mul-lost

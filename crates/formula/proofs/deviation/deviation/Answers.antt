@@ -1,4 +1,5 @@
 -- `formula::deviation::deviation` meets its contract: each kind has its formula.
+use mathlib.Core.Logic.{◌⊎◌, inl, inr}
 use mathlib.Core.Path.{◌≡◌, refl, sym, ◌∙◌, ap}
 use lib.IntN.{ℤ, pos}
 use mir.Syntax.{w64}
@@ -16,17 +17,20 @@ told : (r : Entry) (k : Kind) → r.kind ≡ k → (d : ℤ) → SFits w64 d →
 unfolding deviation
 told r k e d ok f = read_back ok ∙ f ∙ sym (ap (deviation_as r) e)
 
+-- of two kinds that have one formula
+told_both : (r : Entry) (k l : Kind) → (r.kind ≡ k) ⊎ (r.kind ≡ l) → (d : ℤ) → SFits w64 d → d ≡ deviation_as r k → d ≡ deviation_as r l →
+    back d ≡ deviation r
+told_both r k l (inl e) d ok f g = told r k e d ok f
+told_both r k l (inr e) d ok f g = told r l e d ok g
+
 -- Kind::Generator => generator_deviation(r)
 pub returns-in-Generator : goal.returns-in-Generator
 returns-in-Generator c = told _ Generator c.in-Generator.is _ (search rules) c.generator_deviation.ensures
 
--- Kind::RealTimeLoad => load_deviation(r)
+-- Kind::RealTimeLoad | Kind::ProfileLoad => load_deviation(r)
 pub returns-in-RealTimeLoad : goal.returns-in-RealTimeLoad
-returns-in-RealTimeLoad c = told _ RealTimeLoad c.in-RealTimeLoad.is _ (search rules) c.load_deviation.ensures
-
--- Kind::ProfileLoad => load_deviation(r)
-pub returns-in-ProfileLoad : goal.returns-in-ProfileLoad
-returns-in-ProfileLoad c = told _ ProfileLoad c.in-ProfileLoad.is _ (search rules) c.load_deviation-in-ProfileLoad.ensures
+returns-in-RealTimeLoad c =
+    told_both _ RealTimeLoad ProfileLoad c.in-RealTimeLoad.is _ (search rules) c.load_deviation.ensures c.load_deviation.ensures
 
 -- Kind::Import => import_deviation(r)
 pub returns-in-Import : goal.returns-in-Import

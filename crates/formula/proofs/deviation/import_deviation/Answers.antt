@@ -8,10 +8,6 @@ pub returns : goal.returns
 unfolding import_deviation
 returns c = let k = c.requires in stored (S k :* F k :- adjusted k :+ ancillary k) tt
 
--- r.s * r.f
-pub overflow_mul-result : goal.overflow_mul-result
-overflow_mul-result c = let k = c.requires in fits (S k :* F k) tt
-
 -- (r.a - r.j) * r.h
 pub overflow_mul-result-2 : goal.overflow_mul-result-2
 overflow_mul-result-2 c = fits (adjusted c.requires) tt

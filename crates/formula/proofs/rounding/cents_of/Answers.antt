@@ -2,29 +2,25 @@
 use mathlib.Core.Path.{◌≡◌, ◌∙◌}
 use Prim.Native.Nat.{ℕ, ◌<◌}
 use native.Mathlib.Omega.{arith}
-use lib.Dec.{lit<}
 use lib.IntN.{ℤ, pos}
-use mir.Syntax.{w64}
-use mir.Val.{to_z}
 use Rattle.whole.proofs.Ranges.{u_le}
 use Rattle.whole.proofs.Division.{div_by_more, quot_under, rem_under}
-use Rattle.whole.proofs.Machine.{Num, #, local, quotient, rest, any_under, ◌:+◌, ◌:*◌, ◌:/◌, ◌:%◌, fits, stored, bound, back, read_back, i64_is}
+use Rattle.whole.proofs.Machine.{Num, #, result, quotient, rest, any_under, ◌:+◌, ◌:*◌, ◌:%◌, fits, stored, bound, back, read_back}
 use Rattle.rules.proofs.Rounding.{by_quotients}
 use Rattle.formula.proofs.rounding.cents_of.Goals as goal
-use Rattle.formula.proofs.rounding.cents_of.Goals.{Start}
 
-module _ (c : goal.Start) where
+module _ (c : goal.After-from-h) where
   abbrev half : ℕ
   half = c.args.half
 
   few : half < 4294967296
   few = omega arith
 
-  half_is : to_z w64 half ≡ pos half
-  half_is = i64_is (omega (arith, few))
-
   abbrev h : Num
-  h = local {k = 4294967295} half_is (record { under = omega (arith, few) })
+  h = result {k = 4294967295} c.from-h.ensures (record { under = omega (arith, few) })
+
+  half_is : back c.from-h.result ≡ pos half
+  half_is = stored h tt
 
   abbrev cent : Num
   cent = # (pos 2) :* h
@@ -55,29 +51,9 @@ module _ (c : goal.Start) where
   abbrev rounded : Num
   rounded = whole :+ more
 
--- 2 * h
-pub overflow_mul-cent : goal.overflow_mul-cent
-overflow_mul-cent c = fits (cent c) tt
-
--- amount / cent
-pub nonzero_div-whole : goal.nonzero_div-whole
-nonzero_div-whole c = (rw (half_is c) (omega (arith, c.requires)), fits (whole c) tt)
-
--- amount % cent
-pub nonzero_rem-result : goal.nonzero_rem-result
-nonzero_rem-result c = (rw (half_is c) (omega (arith, c.requires)), fits (whole c) tt)
-
--- whole % 2
-pub nonzero_rem-result-2 : goal.nonzero_rem-result-2
-nonzero_rem-result-2 c = (lit< tt, fits (whole c :/ 2) tt)
-
 -- amount % cent + whole % 2
 pub overflow_add-result : goal.overflow_add-result
 overflow_add-result c = fits (left c) tt
-
--- h + 1
-pub overflow_add-result-2 : goal.overflow_add-result-2
-overflow_add-result-2 c = fits (next c) tt
 
 -- (amount % cent + whole % 2) / (h + 1)
 pub nonzero_div-result : goal.nonzero_div-result

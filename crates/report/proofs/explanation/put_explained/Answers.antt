@@ -1,12 +1,16 @@
--- `report::explanation::put_explained` meets its contract: the text is that of the answer.
-use Rattle.printing.proofs.Putting.{put_as}
+-- The text is that of the answer.
+use mathlib.Core.Path.{◌∙◌, sym, ap}
+use native.Mathlib.Omega.{arith}
+use Rattle.rules.specs.Explanation.{explanation_of, worded}
+use Rattle.printing.proofs.Pages.{adds_as, adds_within}
 use Rattle.report.proofs.Worded.{worded_refused, worded_accepted}
 use Rattle.report.proofs.explanation.put_explained.Goals as goal
 
--- return printing::put_refused(out, answer)
-pub returns-in_default : goal.returns-in_default
-returns-in_default c = put_as (worded_refused c.args.explained c.in_default.not-Accepted) c.put_refused.ensures
+pub returns-in-Ok : goal.returns-in-Ok
+returns-in-Ok c =
+    adds_as (worded_accepted c.in-Ok.told ∙ sym (ap (λ r. worded (explanation_of r)) c.in-Ok.is)) c.put_six_lines.ensures
 
--- printing::explanation::put_six_lines(out, heads, decided)
-pub returns : goal.returns
-returns c = put_as (worded_accepted c.args.explained c.in-Accepted.is) c.put_six_lines.ensures
+pub returns-in-Err : goal.returns-in-Err
+returns-in-Err c =
+    let said = worded_refused c.in-Err.refusal ∙ sym (ap (λ r. worded (explanation_of r)) c.in-Err.is) in
+    adds_within _ (omega arith) (adds_as said c.put_refused.ensures)

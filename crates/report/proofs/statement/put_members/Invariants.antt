@@ -1,11 +1,8 @@
--- `report::statement::put_members` meets its contract: the lines of the members passed stand one after the other.
-use Prim.Native.Nat.{◌-◌, ◌≤◌}
-use Rattle.printing.specs.Put.{Put}
+-- The lines of the members so far.
+use Prim.Native.Nat.{◌*◌}
+use Rattle.printing.specs.Page.{Adds}
 use Rattle.report.specs.Stated.{member_lines_of}
 use Rattle.report.proofs.statement.put_members.Given as goal
 
 abbrev pub invariant-loop-m : goal.invariant-loop-m
-invariant-loop-m l = (l.m ≤ l.members) × Put l.fn.out l.at (member_lines_of l.charges l.finals l.m) l.place l.out
-
-abbrev pub decreases-loop-m : goal.decreases-loop-m
-decreases-loop-m l = l.members - l.m
+invariant-loop-m l = Adds l.fn.page l.page (33 * l.m) (member_lines_of l.charges l.finals l.m)

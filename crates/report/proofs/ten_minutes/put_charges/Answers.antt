@@ -1,56 +1,21 @@
--- `report::ten_minutes::put_charges` meets its contract: the lines of the members passed stand one after the other.
-use Prim.Native.Nat.{ℕ, ◌*◌}
-use mathlib.Core.Path.{◌≡◌}
+-- A member's line comes behind those before it.
+use Prim.Native.Nat.{ℕ}
 use mathlib.Core.List.{List}
 use native.Mathlib.Omega.{arith}
 use lib.IntN.{ℤ, pos}
-use lib.ListN.{length, get_or}
+use lib.ListN.{get_or}
 use Rattle.rules.specs.Statement.{charge_line}
-use Rattle.rules.proofs.Stated.{member_lines_length}
-use Rattle.rules.proofs.TenMinutesSheet.{charge_line_length}
-use Rattle.printing.proofs.Putting.{put_length, put_on, put_as}
-use Rattle.report.specs.TenMinutes.{charge_lines_of}
-use Rattle.report.proofs.Lines.{put_none, next_line, held}
+use Rattle.printing.proofs.Pages.{no_lines, line_on, adds_within}
+use Rattle.report.proofs.Lines.{held}
 use Rattle.report.proofs.ten_minutes.put_charges.Goals as goal
 
-module _ (charges : List ℤ) where
-  abbrev line : ℕ → List ℕ
-  line m = charge_line m (get_or charges m (pos 0))
-
-  lines_length : (m : ℕ) → length (charge_lines_of charges m) ≡ 18 * m
-  lines_length = member_lines_length line 18 (λ m. charge_line_length m (get_or charges m (pos 0)))
+abbrev line : (charges : List ℤ) → ℕ → List ℕ
+line charges m = charge_line m (get_or charges m (pos 0))
 
 pub loop-m-init : goal.loop-m-init
-loop-m-init c = (omega arith, put_none (line c.args.charges.now) c.args.out.now c.args.at)
-
--- the offset of charges[m]
-pub offset_bounds-charges-m : goal.offset_bounds-charges-m
-offset_bounds-charges-m c = omega (arith, c.requires.0.few)
-
--- charges[m]
-pub bounds-charges-m : goal.bounds-charges-m
-bounds-charges-m c = omega (arith, c.requires.0.room)
-
-pub put_charge-place-requires : goal.put_charge-place-requires
-put_charge-place-requires c =
-    let l = c.loop-m in (
-      omega (arith, l.invariant.1.next_is, put_length l.invariant.1, lines_length c.args.charges.now l.m, c.requires.1),
-      omega (arith, c.requires.0.few),
-      rw (held c.requires.0 l.m (omega arith)) (c.requires.0.small l.m (omega arith)).under,
-    )
-
--- m += 1
-pub overflow_add-m : goal.overflow_add-m
-overflow_add-m c = omega (arith, c.loop-m.invariant.0)
+loop-m-init c = no_lines (line c.args.charges.now) c.args.page.now
 
 pub loop-m-preserved : goal.loop-m-preserved
 loop-m-preserved c =
-    let l = c.loop-m in
-    let put = rw (held c.requires.0 l.m (omega arith)) at c.put_charge-place.ensures in
-    (omega arith, put_as (next_line (line c.args.charges.now) l.m) (put_on l.invariant.1 put))
-
-pub returns : goal.returns
-returns c =
-    let l = c.loop-m in
-    let all : l.m ≡ c.args.members = omega (arith, l.invariant.0) in
-    rw all at l.invariant.1
+    let put = rw (held c.requires.0 c.loop-m.m (omega arith)) at c.put_charge.ensures in
+    adds_within _ (omega arith) (line_on (line c.args.charges.now) c.loop-m.m c.loop-m.invariant put)

@@ -1,8 +1,9 @@
--- `report::ten_minutes::put_ten_minutes_statement` meets its contract: refused for want of room, or put whole.
+-- Refused for want of room, or put whole.
 use native.Mathlib.Omega.{arith}
+use Rattle.std.proofs.Common.{rules}
 use Rattle.rules.specs.Statement as Statement
 use Rattle.rules.proofs.TenMinutesSheet.{sheet_fits}
-use Rattle.printing.proofs.Showing.{no_room, put_shown}
+use Rattle.printing.proofs.Showing.{no_room, page_shown}
 use Rattle.report.proofs.ten_minutes.put_ten_minutes_statement.Goals as goal
 
 -- return 0
@@ -11,8 +12,8 @@ returns-then-out-lt-LONGEST c =
     let shown = no_room (Statement.ten_minutes_statement c.args.file.now) (omega (arith, c.if-out-lt-LONGEST.true)) in
     record { count = shown.0; out = shown.1 }
 
--- put_settled(file, &mut charges, out)
+-- page.at
 pub returns : goal.returns
 returns c =
-    let shown = put_shown c.if-out-lt-LONGEST.false (sheet_fits c.args.file.now (λ i. (c.type_inv.file i).fits)) c.put_settled.ensures in
+    let shown = page_shown c.if-out-lt-LONGEST.false (sheet_fits c.args.file.now (λ i. (c.type_inv.file i).fits)) c.new-page.ensures c.put_settled.ensures (search rules) in
     record { count = shown.0; out = shown.1 }

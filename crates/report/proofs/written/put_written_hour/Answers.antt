@@ -15,12 +15,12 @@ returns-then-out-lt-LONGEST c =
     let shown = no_room (raw_written c.args.input.now) (omega (arith, c.if-out-lt-LONGEST.true)) in
     record { count = shown.0; out = shown.1 }
 
--- return printing::put_refused(out, Answer::BadLength)
+-- return put_refusal(Answer::BadLength, out)
 pub returns-then-input_bad : goal.returns-then-input_bad
 returns-then-input_bad c =
     let s = c.args.input.now in
     let shown = put_shown c.if-out-lt-LONGEST.false (raw_fits s)
-    (put_as (sym (bad_length_lem s (sym c.input_bad.ensures ∙ c.if-input_bad.true))) c.put_refused.ensures) in
+    (put_as (sym (bad_length_lem s (sym c.input_bad.ensures ∙ c.if-input_bad.true))) c.put_refusal.ensures) in
     record { count = shown.0; out = shown.1 }
 
 -- &mut words[..n]

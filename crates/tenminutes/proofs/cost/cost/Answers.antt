@@ -2,21 +2,17 @@
 use mathlib.Core.Path.{◌≡◌, refl, ◌∙◌}
 use mathlib.Core.Bool.{cond}
 use lib.IntN.{ℤ, pos, negsuc, ◌*ℤ◌}
-use lib.Signed.{lt_z, ◌<ℤ◌, ◌≤ℤ◌}
+use lib.Signed.{lt_z, ◌≤ℤ◌}
 use Prim.Native.Nat.{zero, suc, zero-le}
 use native.Mathlib.Omega.{arith}
 use borrow.Author.Tests.{lt-ltb, le-ltb}
 use Rattle.whole.specs.Signed.{Under}
-use Rattle.whole.proofs.Linear.{zr, all1, lt↓, le↓}
-use Rattle.whole.proofs.Machine.{Num, #, at, ◌:*◌, fits, stored, lt_yes, lt_no}
+use Rattle.whole.proofs.Linear.{zr, all1, le↓}
+use Rattle.whole.proofs.Machine.{Num, #, at, ◌:*◌, stored, lt_no}
 use Rattle.tenminutes.proofs.cost.cost.Goals as goal
 
 zero-times : (z : ℤ) → pos 0 *ℤ z ≡ pos 0
 zero-times = all1 _ (λ z. simp zr (omega arith))
-
-below : (net inc dec : ℤ) → net <ℤ pos 0 → net *ℤ dec ≡ net *ℤ cond (lt_z net (pos 0)) dec (cond (lt_z (pos 0) net) inc (pos 0))
-below (pos n) inc dec l = absurd (omega (arith, lt↓ l))
-below (negsuc n) inc dec l = refl
 
 from_0 : (net inc dec : ℤ) → pos 0 ≤ℤ net → net *ℤ inc ≡ net *ℤ cond (lt_z net (pos 0)) dec (cond (lt_z (pos 0) net) inc (pos 0))
 from_0 (pos zero) inc dec l = zero-times inc
@@ -27,18 +23,8 @@ from_0 (negsuc n) inc dec l = absurd (omega (arith, le↓ l))
 abbrev priced : {n p : ℤ} → Under n 6144000000000 → Under p 100000 → Num
 priced n p = at n :* at p
 
--- net * decremental
-pub overflow_mul-result : goal.overflow_mul-result
-overflow_mul-result c = fits (priced c.requires.0 c.requires.2) tt
-
-pub returns-then-net-lt0 : goal.returns-then-net-lt0
-returns-then-net-lt0 c =
-    stored (priced c.requires.0 c.requires.2) tt ∙ below c.args.net c.args.incremental c.args.decremental (lt_yes (at c.requires.0) (# (pos 0)) tt tt c.if-net-lt0.true)
-
 -- net * incremental
-pub overflow_mul-result-2 : goal.overflow_mul-result-2
-overflow_mul-result-2 c = fits (priced c.requires.0 c.requires.1) tt
-
-pub returns : goal.returns
-returns c =
-    stored (priced c.requires.0 c.requires.1) tt ∙ from_0 c.args.net c.args.incremental c.args.decremental (lt_no (at c.requires.0) (# (pos 0)) tt tt c.if-net-lt0.false)
+pub returns-else-net-lt0 : goal.returns-else-net-lt0
+returns-else-net-lt0 c =
+    stored (priced c.requires.0 c.requires.1) tt
+    ∙ from_0 c.args.net c.args.incremental c.args.decremental (lt_no (at c.requires.0) (# (pos 0)) tt tt c.if-net-lt0.false)

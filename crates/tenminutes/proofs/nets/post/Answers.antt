@@ -24,26 +24,35 @@ module _ {s words : List ℕ} {i : ℕ} (kept : TenMinutesFileKept s) (there : i
   zone-few : {a z : ℕ} → a ≡ word words 2 → z ≡ zone_of (ten_minutes_in s) a → z < 4
   zone-few {a} e f = omega (arith, f, kept.hour_kept.zone_there a (area_there e), kept.hour_kept.zones_most)
 
-pub record-words-requires : goal.record-words-requires
-record-words-requires c = (c.requires.0, c.requires.1)
-
--- blocks::whole_word(words, 2)
-pub whole_word-requires : goal.whole_word-requires
-whole_word-requires c = omega (arith, part_length c.requires.0 c.requires.1 c.record-words.ensures)
+pub new-part-requires : goal.new-part-requires
+new-part-requires c =
+    let kept = c.args.hour.now.kept in
+    (part_length kept c.requires.0 c.record.ensures, part_kept kept c.requires.0 c.record.ensures)
 
 pub zone_of-zone-requires : goal.zone_of-zone-requires
-zone_of-zone-requires c = (c.requires.0, area_there c.requires.0 c.requires.1 c.record-words.ensures c.whole_word.ensures)
+zone_of-zone-requires c =
+    area_there c.args.hour.now.kept c.requires.0 (c.new-part.ensures ∙ c.record.ensures) c.area.ensures
+
+-- nets[zone]
+pub offset_bounds-nets-zone : goal.offset_bounds-nets-zone
+offset_bounds-nets-zone c =
+    omega (arith, zone-few c.args.hour.now.kept c.requires.0 (c.new-part.ensures ∙ c.record.ensures) c.area.ensures c.zone_of-zone.ensures)
+
+pub bounds-nets-zone : goal.bounds-nets-zone
+bounds-nets-zone c =
+    omega (arith, zone-few c.args.hour.now.kept c.requires.0 (c.new-part.ensures ∙ c.record.ensures) c.area.ensures c.zone_of-zone.ensures)
 
 pub add-requires : goal.add-requires
-add-requires c = (
-  part_length c.requires.0 c.requires.1 c.record-words.ensures,
-  part_kept c.requires.0 c.requires.1 c.record-words.ensures,
-  zone-few c.requires.0 c.requires.1 c.record-words.ensures c.whole_word.ensures c.zone_of-zone.ensures,
-  spare c.requires.2 c.requires.0.hour_kept (omega (arith, c.requires.1)),
-)
+add-requires c =
+    let kept = c.args.hour.now.kept in
+    spare c.requires.1 kept.hour_kept (omega (arith, c.requires.0)) _
+    (zone-few kept c.requires.0 (c.new-part.ensures ∙ c.record.ensures) c.area.ensures c.zone_of-zone.ensures)
 
 pub returns : goal.returns
 returns c =
-    its_own c.requires.2 refl
-    (zone-is c.requires.0 c.requires.1 c.record-words.ensures c.whole_word.ensures c.zone_of-zone.ensures)
-    (λ k l. ap entering (part_interval c.requires.0 c.requires.1 c.record-words.ensures k l)) c.add.ensures
+    let kept = c.args.hour.now.kept in
+    let part = c.new-part.ensures ∙ c.record.ensures in
+    rw c.add.ensures (
+    its_own c.requires.1 refl (zone-is kept c.requires.0 part c.area.ensures c.zone_of-zone.ensures)
+    (zone-few kept c.requires.0 part c.area.ensures c.zone_of-zone.ensures)
+    (λ k l. ap entering (part_interval kept c.requires.0 part k l)))

@@ -1,10 +1,7 @@
 -- `writer::block::put_words` meets its contract. The loop's invariant: the words stored so far.
-use Rattle.std.proofs.Common.{◌-◌, length, get_or}
-use Rattle.writer.proofs.Storing.{Storing}
+use Rattle.std.proofs.Common.{◌≡◌, get_or}
+use Rattle.writer.specs.Stored.{words_stored}
 use Rattle.writer.proofs.block.put_words.Given as goal
 
 abbrev pub invariant-loop-k : goal.invariant-loop-k
-invariant-loop-k l = Storing (λ i. get_or l.words i 0) l.from (length l.words) l.k l.initial.block l.block
-
-abbrev pub decreases-loop-k : goal.decreases-loop-k
-decreases-loop-k l = length l.words - l.k
+invariant-loop-k l = l.block ≡ words_stored (λ i. get_or l.words i 0) l.from l.k l.initial.block

@@ -1,43 +1,19 @@
--- `amount::reading::Cursor::blanks` meets its contract: past the blanks from here is past those from where it began.
-use Prim.Native.Nat.{◌+◌, ◌<◌}
-use mathlib.Core.Path.{◌≡◌, sym, ◌∙◌}
+-- Past the blanks of what is left is past those of the field.
+use mathlib.Core.Path.{refl, ◌∙◌}
+use borrow.Author.Rules.{rules}
+use borrow.Author.Tests.{ltb-true}
 use native.Mathlib.Omega.{arith}
-use lib.ListN.{length, get_or}
-use borrow.Author.Tests.{ne_eqb}
-use Rattle.rules.specs.Text.{past_blanks}
 use Rattle.rules.proofs.Digits.{stands}
-use Rattle.rules.proofs.Parts.{blanks_from}
+use Rattle.amount.proofs.Left.{rest_is, blank_on, blank_end}
 use Rattle.amount.proofs.reading.Cursor.blanks.Goals as goal
-use Rattle.amount.proofs.reading.Cursor.blanks.Goals.{In-loop-at}
+use Rattle.amount.proofs.reading.Cursor.blanks.Goals.{in_default, in_default-2}
 
--- a blank is no 0, so it stands before the end
-blank : (c : goal.In-loop-at) → let at = c.loop-at.at in
-    let s = c.args.field.now in
-    (get_or s at 0 ≡ 32) × (at < length s)
-blank c =
-    let at = c.loop-at.at in
-    let s = c.args.field.now in
-    let e : get_or s at 0 ≡ 32 = sym c.byte_at.ensures ∙ c.loop-at-test.true in
-    (e, stands s at (λ z. omega arith))
+pub loop-rest-preserved : goal.loop-rest-preserved
+loop-rest-preserved c = let s = c.loop-rest.rest.now in blank_on s (rest_is _ 1 s refl) (search rules) c.loop-rest.invariant
 
--- at += 1
-pub overflow_add-at : goal.overflow_add-at
-overflow_add-at c = omega (arith, (blank c).1)
-
-pub loop-at-smaller : goal.loop-at-smaller
-loop-at-smaller c = omega (arith, (blank c).1)
-
-pub loop-at-preserved : goal.loop-at-preserved
-loop-at-preserved c =
-    let at = c.loop-at.at in
-    let s = c.args.field.now in
-    let on : past_blanks s at ≡ past_blanks s (at + 1) = blanks_from s at ∙ rw (blank c).0 in
-    sym on ∙ c.loop-at.invariant
-
+-- nothing is left, or another byte stands there
 pub returns : goal.returns
-returns c =
-    let at = c.loop-at.at in
-    let s = c.args.field.now in
-    let here : past_blanks s at ≡ at = blanks_from s at
-    ∙ rw (ne_eqb (get_or s at 0) 32 (λ e. c.loop-at-test.false (c.byte_at.ensures ∙ e))) in
-    sym here ∙ c.loop-at.invariant
+returns c = let s = c.loop-rest.rest.now in elim c.if-rest-lt1.branch [
+  | in_default w ↦ blank_end s (λ e. absurd (omega (arith, ltb-true, stands s 0 (λ z. omega arith)))) ∙ c.loop-rest.invariant
+  | in_default-2 w ↦ blank_end s (λ e. absurd (omega arith)) ∙ c.loop-rest.invariant
+]

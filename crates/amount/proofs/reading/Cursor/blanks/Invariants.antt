@@ -1,12 +1,11 @@
--- `amount::reading::Cursor::blanks` meets its contract: past the blanks from here is past those from where it began.
-use Prim.Native.Nat.{◌-◌}
+-- Past the blanks of what is left is past those of the field.
 use mathlib.Core.Path.{◌≡◌}
-use lib.ListN.{length}
-use Rattle.rules.specs.Text.{past_blanks}
+use lib.ListN.{length, drop}
+use Rattle.rules.specs.Text.{blank_count}
 use Rattle.amount.proofs.reading.Cursor.blanks.Given as goal
 
-abbrev pub invariant-loop-at : goal.invariant-loop-at
-invariant-loop-at l = past_blanks l.field l.at ≡ past_blanks l.field l.initial.at
+abbrev pub invariant-loop-rest : goal.invariant-loop-rest
+invariant-loop-rest l = drop (blank_count l.rest) l.rest ≡ drop (blank_count l.fn.self.left.now) l.fn.self.left.now
 
-abbrev pub decreases-loop-at : goal.decreases-loop-at
-decreases-loop-at l = length l.field - l.at
+abbrev pub decreases-loop-rest : goal.decreases-loop-rest
+decreases-loop-rest l = length l.rest

@@ -1,2 +1,0 @@
--- Laws of answers, for whoever tells acceptance from refusal.
-pub mod Refusing
