@@ -2,7 +2,9 @@
 tables as rows of cells. For the tests that hold the pages to the code."""
 
 import re
+from functools import lru_cache
 from pathlib import Path
+from typing import NamedTuple
 
 ROOT = Path(__file__).resolve().parent.parent
 CRATES = ROOT / "crates"
@@ -42,21 +44,75 @@ def names(cell):
 # ---- code
 
 def source_of(path):
-    """The text of the file that `crate::module::function`, `crate::function` or `crate::module::Type::method` says."""
+    """The text of the file that `crate::module::function` or `crate::function` says."""
     crate, *between = path.split("::")[:-1] or [""]
     files = [f"{between[0]}.rt"] if between and between[0].islower() else ["lib.rt", "main.rt"]
     return next((file.read_text() for file in (CRATES / crate / "src" / name for name in files) if file.exists()), "")
 
 
+class Method(NamedTuple):
+    """A function of a type or of a trait."""
+
+    module: str  # that declares its type or trait, or that has the `impl` for another crate's type; "" for the crate's own file
+    holder: str  # the type or the trait; "" for a type without a name of its own
+    trait: str  # whose `impl` it stands in, or that declares it; "" in a type's own `impl`
+    folder: str  # where its proofs stand in those of the module
+    name: str
+    called: str  # "pub " for every crate, "pub(crate) " for its own, "" for its module alone
+    text: str
+
+    def has_body(self):
+        return not self.text.endswith(";")
+
+
+# The heads of an `impl` and of a trait's declaration.
+IMPL = r"impl(?:<[^>\n]*>)? (?:(?P<of>\w+)(?:<(?P<arguments>[^\n]*)>)? for )?(?P<type>[^\s<]+)(?:<[^>\n]*>)?"
+TRAIT = r"pub trait (?P<trait>\w+)(?:<[^>\n]*>)?(?:: [^{\n]*)?"
+
+
+@lru_cache(maxsize=None)
+def methods(crate):
+    """Every function of a crate's types and traits."""
+    texts = {"" if file.stem in ("lib", "main") else file.stem: file.read_text() for file in sorted((CRATES / crate / "src").glob("*.rt"))}
+    declared = {name: module for module, text in texts.items() for name in re.findall(r"^(?:pub )?(?:struct|enum|trait) (\w+)", text, re.M)}
+    found = []
+    for module, text in texts.items():
+        for block in re.finditer(rf"^(?:{IMPL}|{TRAIT}) \{{\n(?P<body>.*?)^\}}$", text, re.M | re.S):
+            holder = block["trait"] or (block["type"] if block["type"].isidentifier() else "")
+            arguments = [word[0].upper() + word[1:] for word in re.findall(r"\w+", block["arguments"] or "")]
+            for start in re.finditer(r"^    (pub |pub\(crate\) |)(?:final )?fn (\w+)", block["body"], re.M):
+                rest = block["body"][start.start():]
+                declaration = rest[:re.search(r"[;{]$", rest, re.M).end()]
+                whole = declaration if declaration.endswith(";") else rest[:re.search(r"^    \}$", rest, re.M).end()]
+                found.append(Method(declared.get(holder, module), holder, block["trait"] or block["of"] or "",
+                                    "".join([holder, block["of"] or "", *arguments]), start[2],
+                                    start[1] if not (block["trait"] or block["of"]) else "pub ", whole))
+    return found
+
+
+def method(path):
+    """The method that `crate::Type::name` or `crate::module::Type::name` says, the same of a trait; or None."""
+    crate, *between, name = path.split("::")
+    if not between or not between[-1][:1].isupper():
+        return None
+    return next((each for each in methods(crate) if (each.holder, each.name) == (between[-1], name)
+                 and between[:-1] in ([], [each.module])), None)
+
+
 def function(path):
     """A function's own text, or None where there is no such function."""
-    text, indent = source_of(path), ""
     *_, holder, name = ["", *path.split("::")]
     if holder[:1].isupper():
-        impl = re.search(rf"^impl {holder} \{{\n.*?^\}}$", text, re.M | re.S)
-        text, indent = (impl.group() if impl else ""), "    "
-    found = re.search(rf'^{indent}(?:pub )?(?:extern "C" )?fn {re.escape(name)}(?:<[^()]*>)?\(.*?^{indent}\}}$', text, re.M | re.S)
+        return method(path).text if method(path) else None
+    found = re.search(rf'^(?:pub )?(?:extern "C" )?fn {re.escape(name)}(?:<[^()]*>)?\(.*?^\}}$', source_of(path), re.M | re.S)
     return found.group() if found else None
+
+
+def in_proofs(path):
+    """Where a function's proofs stand, as its folders under `proofs`."""
+    crate, *between, name = path.split("::")
+    said = method(path)
+    return [part for part in (said.module, said.folder, name) if part] if said else [*between, name]
 
 
 def parameters(path):
@@ -76,8 +132,8 @@ OWN_FILES = ("Invariants.antt", "Answers.antt", "Proof.antt")
 
 def has_proof_file(path):
     """Whether a function has a proof file at its own path; a recursive function's folder begins with `+`."""
-    crate, *between, name = path.split("::")
-    folder = CRATES.joinpath(crate, "proofs", *between)
+    *between, name = in_proofs(path)
+    folder = CRATES.joinpath(path.split("::")[0], "proofs", *between)
     return any((folder / own / file).exists() for own in (name, f"+{name}") for file in OWN_FILES)
 
 

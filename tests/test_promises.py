@@ -9,34 +9,55 @@ import unittest
 from pathlib import Path
 
 sys.path.insert(0, str(Path(__file__).resolve().parent))
-from naming import CRATES, ROOT, clauses, definition, edits, edits_named, function, law, names, parameters, rows, sections  # noqa: E402
-from naming import texts_edited  # noqa: E402
+from naming import CRATES, ROOT, clauses, definition, edits, edits_named, function, in_proofs, law, method, methods, names  # noqa: E402
+from naming import parameters, rows, sections, texts_edited  # noqa: E402
 
 PROMISES = (ROOT / "docs" / "PROMISES.md").read_text()
 EXCEPTIONS, REQUIRES = sections(PROMISES)["Exceptions"].split("### Functions with a requires")
 
 # The page's own exceptions: functions without a row and a law (its first table), and functions that don't take every input.
 WITHOUT_A_LAW = {name for row in rows("| excepted" + EXCEPTIONS.split("| excepted")[1]) for name in names(row["excepted"])}
-WITH_A_REQUIRES = {name for name in re.findall(r"`(\w+::\w+)`", REQUIRES.split("\n\n- ", 1)[1])}
+WITH_A_REQUIRES = {name for name in re.findall(r"`(\w+(?:::\w+)+)`", REQUIRES.split("\n\n- ", 1)[1])}
+
+
+# Traits that are not ours, of which a type of ours has an `impl`.
+STD_TRAITS = ("From",)
 
 
 def public_modules(lib):
     return {name for name in re.findall(r"^pub mod (\w+);", lib, re.M)}
 
 
+def handed_on(lib):
+    """The types and traits of private modules that the crate hands on: `pub use form::Form;`."""
+    return set(re.findall(r"^pub use \w+::(\w+);", lib, re.M))
+
+
 def public_functions(private_modules=False):
-    """(crate, module or '', function) for every function that another crate can call, or that is `pub` in a private module."""
+    """(crate, module or '', function) for every function that another crate can call, or that is `pub` in a private module. Of a type or a
+    trait it is `Type::function`. What an `impl` gives a trait of ours is the trait's, and so here once; of another's trait it is the type's."""
     found = []
     for lib in sorted(CRATES.glob("*/src/lib.rt")):
         crate = lib.parent.parent.name
-        open_modules = public_modules(lib.read_text())
+        open_modules, open_types = {"", *public_modules(lib.read_text())}, handed_on(lib.read_text())
         for source in sorted(lib.parent.glob("*.rt")):
             module = "" if source == lib else source.stem
-            if module and module not in open_modules and not private_modules:
-                continue
-            for name in re.findall(r'^pub (?:extern "C" )?fn (\w+)', source.read_text(), re.M):
-                found.append((crate, module, name))
+            if module in open_modules or private_modules:
+                found += [(crate, module, name) for name in re.findall(r'^pub (?:extern "C" )?fn (\w+)', source.read_text(), re.M)]
+        for each in methods(crate):
+            seen = each.called == "pub " and (each.module in open_modules or each.holder in open_types)
+            if each.trait in ("", each.holder, *STD_TRAITS) and (seen or private_modules and each.called):
+                found.append((crate, each.module, f"{each.holder}::{each.name}"))
     return found
+
+
+def implementations(crate, module, name):
+    """Where what a function does is written: in the function, or, where a trait's has no body, in that of each type that has the trait."""
+    own = method(path_of(crate, module, name))
+    if own is None or own.has_body():
+        return [(crate, module, name)]
+    return [(crate, each.module, f"{each.holder}::{each.name}") for each in methods(crate)
+            if (each.trait, each.name) == (own.trait, own.name) and each.holder != own.holder]
 
 
 def promising_functions():
@@ -67,7 +88,7 @@ def laws_of(crate, module, name, laws=LAWS):
 
 def readings_of(crate, module, name, text):
     """The names under which a file of laws has a function's contract as its callers read it."""
-    path = re.escape(".".join(part for part in (crate, "proofs", module, name) if part))
+    path = re.escape(".".join([crate, "proofs", *in_proofs(path_of(crate, module, name))]))
     return re.findall(rf"^use Rattle\.{path}\.Reads as (\S+)$", text, re.M)
 
 
@@ -132,18 +153,21 @@ class Promises(unittest.TestCase):
     def test_every_public_function_is_determined(self):
         for crate, module, name in promising_functions():
             with self.subTest(crate=crate, function=name):
-                self.assertEqual(len(laws_of(crate, module, name)), 1)
+                self.assertTrue(implementations(crate, module, name))
+                for each in implementations(crate, module, name):
+                    self.assertEqual(len(laws_of(*each)), 1, each)
 
     def test_every_lent_buffer_is_determined(self):
         """A law has its own `….now` of the state at exit for each `&mut` parameter, and for no other."""
         lending = 0
         for crate, module, name in promising_functions():
             with self.subTest(crate=crate, function=name):
-                for law in laws_of(crate, module, name):
-                    places = lent_places(path_of(crate, module, name), law)
-                    self.assertEqual(at_exit(law), places)
-                    self.assertEqual("OneOutcome " in law, bool(places))
-                    lending += len(places)
+                for each in implementations(crate, module, name):
+                    for law in laws_of(*each):
+                        places = lent_places(path_of(*each), law)
+                        self.assertEqual(at_exit(law), places)
+                        self.assertEqual("OneOutcome " in law, bool(places))
+                        lending += len(places)
         self.assertGreater(lending, 30)
 
     def test_a_law_without_a_buffer_is_noticed(self):
@@ -193,7 +217,7 @@ class Promises(unittest.TestCase):
         asking = set()
         for crate, module, name in public_functions(private_modules=True):
             text = function(path_of(crate, module, name))
-            if re.search(r"^    requires ", text, re.M):
+            if re.search(r"^ +requires ", text, re.M):
                 asking.add(f"{crate}::{name}")
         self.assertEqual(WITH_A_REQUIRES, asking)
 
