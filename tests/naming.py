@@ -79,7 +79,9 @@ def methods(crate):
     for module, text in texts.items():
         for block in re.finditer(rf"^(?:{IMPL}|{TRAIT}) \{{\n(?P<body>.*?)^\}}$", text, re.M | re.S):
             holder = block["trait"] or (block["type"] if block["type"].isidentifier() else "")
-            arguments = [word[0].upper() + word[1:] for word in re.findall(r"\w+", block["arguments"] or "")]
+            # A folder's name says `()` as Unit, and an array as Array, its type and its length.
+            said = (block["arguments"] or "").replace("()", "unit").replace("[", "array ")
+            arguments = [word[0].upper() + word[1:] for word in re.findall(r"\w+", said)]
             for start in re.finditer(r"^    (pub |pub\(crate\) |)(?:final )?fn (\w+)", block["body"], re.M):
                 rest = block["body"][start.start():]
                 declaration = rest[:re.search(r"[;{]$", rest, re.M).end()]

@@ -27,6 +27,9 @@ use Rattle.writer.proofs.write_hour.Reads as write_hour
 use Rattle.report.proofs.written.put_written_hour.Reads as write_raw
 use Rattle.pool.proofs.settle.Reads as settle
 use Rattle.pool.proofs.settle_unlined.Reads as settle_unlined
+use Rattle.answer.proofs.NumberedAnswerFromResultUnitRefusal.from.Reads as numbered_answer
+use Rattle.sneupelaar.proofs.NumberedSettledFromResultArrayI648Refusal.from.Reads as numbered_settled
+use Rattle.sneupelaar.proofs.NumberedReadingFromResultI64Refusal.from.Reads as numbered_reading
 use Rattle.sneupelaar.proofs.sneupelaar_settle.Reads as sneupelaar_settle
 use Rattle.sneupelaar.proofs.sneupelaar_write.Reads as sneupelaar_write
 use Rattle.writer.proofs.boundary.sneupelaar_write_hour.Reads as sneupelaar_write_hour
@@ -105,6 +108,15 @@ one_settle_unlined κs a x y s t p q =
     (one.0, ap (λ (b : Buffers). unlined b.charges b.finals b.shares b.deviations) one.1)
 
 -- ---- the functions for C
+
+pub one_numbered_answer : (κs : Lfts 0) → OneResult (numbered_answer.Learnt κs)
+one_numbered_answer κs a x y s t = agree
+
+pub one_numbered_settled : (κs : Lfts 0) → OneResult (numbered_settled.Learnt κs)
+one_numbered_settled κs a x y s t = agree
+
+pub one_numbered_reading : (κs : Lfts 0) → OneResult (numbered_reading.Learnt κs)
+one_numbered_reading κs a x y s t = agree
 
 pub one_sneupelaar_settle : (κs : Lfts 6) →
     OneOutcome (sneupelaar_settle.Learnt κs) (λ s.
