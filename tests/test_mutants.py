@@ -3,6 +3,7 @@ prover's to say, and takes hours; docs/TESTING.md tells how often it was asked."
 
 import importlib.machinery
 import importlib.util
+import re
 import unittest
 from pathlib import Path
 
@@ -53,6 +54,12 @@ class Slips(unittest.TestCase):
                     self.assertEqual(lines[slip.line][slip.start:slip.end], slip.old)
                     self.assertNotEqual(slip.old, slip.new)
                     self.assertNotIn("--", lines[slip.line][:slip.start])
+
+    def test_copies_have_the_types_and_no_code(self):
+        """What a copy keeps of `rules` cites no definition, so that a slip in one changes nothing but what is asked."""
+        types = mutants.types_of(ROOT / "crates" / "rules" / "src" / "lib.rt")
+        self.assertEqual(re.findall(r"^pub (?:enum|struct) (\w+)", types, re.M), ["Kind", "Line", "Tally", "Rule", "Layout", "Explained", "Refusal"])
+        self.assertNotRegex(types, r"\bfn \b|\bghost\b|\bensures\b|\bimpl\b")
 
     def test_every_definition_has_slips(self):
         names = {path.stem for path in (ROOT / mutants.SPECS).glob("*.antt") if not path.with_suffix("").is_dir()} - {"Lib"}

@@ -1,5 +1,5 @@
 -- A ten-minute record, span by span: a span is words that stand side by side and have one rule. Document 02, A7.
-use Rattle.std.specs.Prelude.{ℕ, Bool, false, not, ◌&&◌, leb, ltb}
+use Rattle.std.specs.Prelude.{ℕ, Bool, false, cond, not, ◌&&◌, leb, ltb}
 use Rattle.whole.specs.Below.{first_below}
 use Rattle.rules.specs.declared.Kind.{Kind}
 use Rattle.rules.specs.declared.Kind.TheVariants.{Generator, RealTimeLoad, ProfileLoad, Import, Export, Unknown}
@@ -30,3 +30,7 @@ unfoldable pub record_keeps : (members areas : ℕ) → (word : ℕ → ℕ) →
 record_keeps members areas word =
     ltb (word 1) members && ltb (word 2) areas && span_keeps energy word 3 4 && span_keeps adjustment word 14 20 && span_keeps unused word 26 30
     && kind_keeps (kind_of (word 0)) word
+
+-- how many of its first words keep their rules, as far as spans tell: all or none
+abbrev pub passed : (members areas : ℕ) → (word : ℕ → ℕ) → ℕ
+passed members areas word = cond (record_keeps members areas word) 30 0

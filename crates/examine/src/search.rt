@@ -5,6 +5,7 @@ ghost use Rattle.std.specs.Prelude.{◌≡◌, ℕ, ◌<◌, ◌≤◌, Bool, tr
 ghost use Rattle.rules.specs.Ranges as Ranges;
 ghost use Rattle.rules.specs.Refusals as Refusals;
 ghost use Rattle.examine.specs.Fault.{above_in, comparison_by};
+ghost use Rattle.examine.specs.Span as Span;
 
 use crate::spans;
 use crate::words::{HourWords, Words};
@@ -16,9 +17,13 @@ pub trait Searched: Form {
     // Whether row 14 is one of this file's.
     ghost compares: { Bool };
 
+    // What `passed` answers, by members, areas and a record's words.
+    ghost passes: { ℕ → ℕ → (ℕ → ℕ) → ℕ };
+
     // How many of a record's first words are known to keep their rules, before each is looked at.
     fn passed<W: Words>(members: u32, areas: u32, words: &W) -> usize
         requires { W.count words.now ≡ Self.form.layout.words }
+        ensures told { result ≡ passes members areas (W.at words.now) }
         ensures within { result ≤ Self.form.layout.words }
         ensures kept { (w : ℕ) → w < result
             → Ranges.keeps (Self.form.record_rule members areas (W.at words.now 0) w) (W.at words.now w) ≡ true };
@@ -31,6 +36,8 @@ pub trait Searched: Form {
 
 impl Searched for Hourly {
     ghost compares = { true };
+
+    ghost passes = { λ _ _ _. 0 };
 
     fn passed<W: Words>(_members: u32, _areas: u32, _words: &W) -> usize {
         0
@@ -48,6 +55,8 @@ impl Searched for Hourly {
 
 impl Searched for TenMinutes {
     ghost compares = { false };
+
+    ghost passes = { Span.passed };
 
     // All or none, as far as spans tell.
     fn passed<W: Words>(members: u32, areas: u32, words: &W) -> usize {
@@ -105,11 +114,12 @@ fn first_fault<H: HourWords>(hour: &H) -> Result<Option<usize>, (usize, usize)>
     let mut fault = None;
     'rows: for i in 0..hour.count() {
         let record = hour.record(i);
-        let kind = Kind::from(record.word(0));
         if H::Form::above_maximum(&record) {
             above = above.or(Some(i));
         }
         for w in H::Form::passed(members, areas, &record)..size {
+            // The kind is taken anew for each word: the compiler then makes one test of kind and word.
+            let kind = Kind::from(record.word(0));
             if !H::Form::record_keeps(members, areas, kind, w, record.word(w)) {
                 fault = Some((i, w));
                 break 'rows;

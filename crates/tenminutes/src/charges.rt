@@ -6,7 +6,7 @@ ghost use Rattle.rules.specs.Record as Record;
 ghost use Rattle.rules.specs.TenMinutes.{ten_minutes_in, ten_minutes_charge, interval_price};
 ghost use Rattle.tenminutes.specs.Room.{NetsOfOne, NetsInZone, cost_in, zone_in};
 
-use crate::chain::Chain;
+use crate::chain::{Chain, Link};
 use crate::words::Hour;
 
 // What the net of a zone and interval costs.
@@ -64,12 +64,12 @@ pub fn put_charges(hour: Hour, charges: &mut [i64])
         ≡ replacing_first (ten_minutes_charge (ten_minutes_in hour.entry.file.now)) (Record.members (ten_minutes_in hour.entry.file.now))
         charges.old }
 {
-    let mut firsts = [None; 32];
-    let mut nexts = [None; 64];
+    let mut firsts = [Link::NONE; 32];
+    let mut nexts = [Link::NONE; 64];
     for i in (0..hour.records()).rev() {
         let member = hour.member_of(i);
         nexts[i] = firsts[member];
-        firsts[member] = Some(i as u8);
+        firsts[member] = Link::to(i);
     }
     let chain = Chain {
         hour,

@@ -40,11 +40,10 @@ impl Chain<'_> {
         requires { (member < 32) × NetsAfter (ten_minutes_in self.now.hour.file.now) member 0 nets.old }
         ensures { let h = ten_minutes_in self.now.hour.file.now in NetsAfter h member h.count nets.new }
     {
-        let mut next = self.firsts[member];
+        let mut next = self.firsts[member].named();
         while let Some(i) = next {
-            let record = usize::from(i);
-            post(&self.hour, record, nets);
-            next = self.nexts[record];
+            post(&self.hour, i, nets);
+            next = self.nexts[i].named();
         }
     }
 }

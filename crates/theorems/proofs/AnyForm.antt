@@ -12,6 +12,14 @@ use Rattle.std.specs.declared.clone.Clone.{Ghosts as CloneGhosts}
 use Rattle.theorems.specs.Determined.{OneResult}
 use Rattle.theorems.proofs.Laws.{agree, agree_answer, number_of_kind, kind_told}
 use Rattle.examine.proofs.search.examine_hour.Reads as examine_hour
+use Rattle.examine.proofs.words.RefSliceU8Words.word.Reads as word_of_bytes
+use Rattle.examine.proofs.words.RefSliceU32Words.word.Reads as word_of_list
+use Rattle.examine.proofs.words.FileHourHourWords.count.Reads as count_in_file
+use Rattle.examine.proofs.words.ListHourHourWords.count.Reads as count_in_lists
+use Rattle.examine.proofs.search.HourlySearched.passed.Reads as hourly_passed
+use Rattle.examine.proofs.search.HourlySearched.above_maximum.Reads as hourly_above_maximum
+use Rattle.examine.proofs.search.TenMinutesSearched.passed.Reads as ten_minutes_passed
+use Rattle.examine.proofs.search.TenMinutesSearched.above_maximum.Reads as ten_minutes_above_maximum
 use Rattle.wordrules.proofs.form.Form.record_keeps.Reads as record_keeps
 use Rattle.wordrules.proofs.hour_file.HourlyForm.layout.Reads as hourly_layout
 use Rattle.wordrules.proofs.hour_file.HourlyForm.head_rule.Reads as hourly_head_rule
@@ -55,3 +63,32 @@ one_ten_minutes_rule_in_use κs a x y s t = agree
 
 pub one_ten_minutes_uses : (κs : Lfts 0) → OneResult (ten_minutes_uses.Learnt κs)
 one_ten_minutes_uses κs a x y s t = agree
+
+pub one_hourly_passed : (W : RattleType) (lw : Laws W) (g : WordGhosts W.Denot) (d : Dict) (κs : Lfts 2) → OneResult (hourly_passed.Learnt W lw g d κs)
+one_hourly_passed W lw g d κs a x y s t p q = agree (p.0) (q.0)
+
+pub one_hourly_above_maximum : (W : RattleType) (lw : Laws W) (g : WordGhosts W.Denot) (d : Dict) (κs : Lfts 2) →
+    OneResult (hourly_above_maximum.Learnt W lw g d κs)
+one_hourly_above_maximum W lw g d κs a x y s t = agree
+
+pub one_ten_minutes_passed : (W : RattleType) (lw : Laws W) (g : WordGhosts W.Denot) (d : Dict) (κs : Lfts 2) →
+    OneResult (ten_minutes_passed.Learnt W lw g d κs)
+one_ten_minutes_passed W lw g d κs a x y s t p q = agree (p.0) (q.0)
+
+pub one_ten_minutes_above_maximum : (W : RattleType) (lw : Laws W) (g : WordGhosts W.Denot) (d : Dict) (κs : Lfts 2) →
+    OneResult (ten_minutes_above_maximum.Learnt W lw g d κs)
+one_ten_minutes_above_maximum W lw g d κs a x y s t = agree
+
+pub one_word_of_bytes : (κs : Lfts 2) → OneResult (word_of_bytes.Learnt κs)
+one_word_of_bytes κs a x y s t = agree
+
+pub one_word_of_list : (κs : Lfts 2) → OneResult (word_of_list.Learnt κs)
+one_word_of_list κs a x y s t = agree
+
+pub one_count_in_file : (F : RattleType) (lf : Laws F) (sf : SearchedGhosts F.Denot) (df : Dict) (ff : FormGhosts F.Denot) (dff : Dict) (κs : Lfts 3) →
+    OneResult (count_in_file.Learnt F lf sf df ff dff κs)
+one_count_in_file F lf sf df ff dff κs a x y s t = agree
+
+pub one_count_in_lists : (F : RattleType) (lf : Laws F) (sf : SearchedGhosts F.Denot) (df : Dict) (ff : FormGhosts F.Denot) (dff : Dict) (κs : Lfts 3) →
+    OneResult (count_in_lists.Learnt F lf sf df ff dff κs)
+one_count_in_lists F lf sf df ff dff κs a x y s t = agree

@@ -6,7 +6,8 @@ use native.Mathlib.Omega.{arith}
 use lib.IntN.{ℤ}
 use lib.ListN.{length, take, drop}
 use borrow.Author.Rules.{sfits_of}
-use Rattle.std.proofs.lemmas.List.{length-take-le}
+use Rattle.std.specs.Prelude.{None}
+use Rattle.std.proofs.lemmas.List.{length-take-le, get_or_default}
 use Rattle.whole.specs.Below.{replacing_first}
 use Rattle.whole.proofs.Machine.{read_back}
 use Rattle.whole.proofs.Filling.{Filled, none_filled, next_filled, all_filled}
@@ -44,7 +45,9 @@ loop-i-preserved c =
     let kept = c.args.hour.kept in
     let there : c.loop-i.i - 1 < (ten_minutes_in c.args.hour.file.now).count = omega (arith, c.records-i.ensures) in
     let before : c.loop-i.i ≡ c.loop-i.i - 1 + 1 = omega arith in
-    rw c.member_of-member.ensures (linked
+    let first_is = get_or_default c.loop-i.firsts (member_of (ten_minutes_in c.args.hour.file.now) (c.loop-i.i - 1)) c.index-firsts-member.result None
+    (omega (arith, known kept there, c.loop-i.invariant.a_place_each_member)) in
+    rw (c.member_of-member.ensures, c.to.ensures, first_is) (linked
     (subst (λ n. Chained (ten_minutes_in c.args.hour.file.now) n c.loop-i.firsts c.loop-i.nexts) before c.loop-i.invariant)
     there (known kept there) (few kept there))
 
